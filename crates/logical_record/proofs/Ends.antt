@@ -1,0 +1,100 @@
+-- A walk is between records again exactly at the end of a whole record.
+-- Assumes nothing.
+use mathlib.Core.Path.{_≡_, refl, ap, _∙_}
+use mathlib.Core.Bool.{true, false}
+use mathlib.Core.List.{List, [], _∷_}
+use Prim.Native.Nat.{ℕ, zero, suc, _-_, _≤_, _<_}
+use native.Mathlib.Omega.{arith}
+use lib.ListN.{length, take}
+use lib.Seq.{drop-length, length-take-le}
+use lib.Dec.{eqb}
+use borrow.Author.Tests.{eqb-true, eq-eqb}
+use Rattle.logical_record.specs.Length.{lengthOf, lengthGood}
+use Rattle.logical_record.specs.Positions.{start, remaining, isBetween}
+use Rattle.logical_record.specs.Walk.{thenWalk, walk}
+use Rattle.logical_record.specs.Records.{isRecord}
+use Rattle.logical_record.specs.declared.Position.{Position}
+use Rattle.logical_record.specs.declared.Position.the-variants.{Between, AfterFirst, Remaining}
+use Rattle.logical_record.specs.declared.Walked.the-variants.{At}
+use Rattle.logical_record.proofs.Facts.{both, remaining-not-between}
+use Rattle.logical_record.proofs.Walks.{walk-skip}
+
+-- the walk ends well
+pub record Reached (p : Position) (bs : List ℕ) : Type 0 where
+  pub position : Position
+  pub reached : walk p bs ≡ At position
+
+-- and within a record
+pub record Inside (p : Position) (bs : List ℕ) : Type 0 where
+  pub position : Position
+  pub reached : walk p bs ≡ At position
+  pub inside : isBetween position ≡ false
+
+pub between-is-start : (p : Position) → isBetween p ≡ true → p ≡ start
+between-is-start Between h = refl
+between-is-start (AfterFirst high) h = absurd (let z : _≡_ {A = ℕ} 0 1 = cc in omega arith)
+between-is-start (Remaining n) h = absurd (let z : _≡_ {A = ℕ} 0 1 = cc in omega arith)
+
+-- ---- some of a record's bytes, and how many are then left
+
+pub walk-data : (n : ℕ) (bs : List ℕ) → length bs ≤ n → walk (remaining n) bs ≡ At (remaining (n - length bs))
+unfolding thenWalk
+walk-data n bs h = walk-skip (length bs) n bs h (omega arith) ∙ ap (λ (cs : List ℕ). walk (remaining (n - length bs)) cs) (drop-length bs)
+
+-- from the first LL byte on
+pub walk-after-first :
+    (high low : ℕ) (bs : List ℕ)
+    → lengthGood (lengthOf high low) ≡ true
+    → length bs ≤ lengthOf high low - 2
+    → walk (AfterFirst high) (low ∷ bs) ≡ At (remaining (lengthOf high low - 2 - length bs))
+unfolding thenWalk
+walk-after-first high low bs g h = rw g (walk-data (lengthOf high low - 2) bs h)
+
+pub walk-front :
+    (high low : ℕ) (bs : List ℕ)
+    → lengthGood (lengthOf high low) ≡ true
+    → length bs ≤ lengthOf high low - 2
+    → walk start (high ∷ low ∷ bs) ≡ At (remaining (lengthOf high low - 2 - length bs))
+unfolding thenWalk
+walk-front high low bs g h = walk-after-first high low bs g h
+
+-- ---- a whole record
+
+-- a record is a good LL, and as many bytes as it says
+pub record-of-parts :
+    (high low : ℕ) (bs : List ℕ)
+    → lengthGood (lengthOf high low) ≡ true
+    → length (high ∷ low ∷ bs) ≡ lengthOf high low
+    → isRecord (high ∷ low ∷ bs) ≡ true
+record-of-parts high low bs g l = rw (g, eq-eqb (length (high ∷ low ∷ bs)) (lengthOf high low) l)
+
+pub record-parts :
+    (high low : ℕ) (bs : List ℕ)
+    → isRecord (high ∷ low ∷ bs) ≡ true
+    → (lengthGood (lengthOf high low) ≡ true) × (length (high ∷ low ∷ bs) ≡ lengthOf high low)
+record-parts high low bs h =
+    let t = both (lengthGood (lengthOf high low)) (eqb (length (high ∷ low ∷ bs)) (lengthOf high low)) h in
+    (t .0, eqb-true (length (high ∷ low ∷ bs)) (lengthOf high low) (t .1))
+
+pub record-ends : (r : List ℕ) → isRecord r ≡ true → walk start r ≡ At start
+record-ends [] h = absurd (let z : _≡_ {A = ℕ} 0 1 = cc in omega arith)
+record-ends (high ∷ []) h = absurd (let z : _≡_ {A = ℕ} 0 1 = cc in omega arith)
+record-ends (high ∷ low ∷ bs) h =
+    let t = record-parts high low bs h in
+    walk-front high low bs (t .0) (omega arith)
+    ∙ ap (λ (m : ℕ). At (remaining m)) (let e : lengthOf high low - 2 - length bs ≡ 0 = omega arith in e)
+
+pub record-inside : (r : List ℕ) (k : ℕ) → isRecord r ≡ true → 0 < k → k < length r → Inside start (take k r)
+unfolding thenWalk
+record-inside [] k h some l = absurd (let z : _≡_ {A = ℕ} 0 1 = cc in omega arith)
+record-inside (high ∷ []) k h some l = absurd (let z : _≡_ {A = ℕ} 0 1 = cc in omega arith)
+record-inside (high ∷ low ∷ bs) zero h some l = absurd (omega arith)
+record-inside (high ∷ low ∷ bs) (suc zero) h some l = record { position = AfterFirst high; reached = refl; inside = refl }
+record-inside (high ∷ low ∷ bs) (suc (suc k)) h some l =
+    let t = record-parts high low bs h in
+    let e = length-take-le k bs (omega arith) in
+    record {
+      position = remaining (lengthOf high low - 2 - length (take k bs));
+      reached = walk-front high low (take k bs) (t .0) (omega arith);
+      inside = remaining-not-between (lengthOf high low - 2 - length (take k bs)) (omega arith);
+    }

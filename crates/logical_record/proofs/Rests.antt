@@ -1,0 +1,167 @@
+-- A read of at most the rest of the current record meets no bad LL, and ends the record exactly when it takes all of that rest.
+-- Assumes nothing.
+use mathlib.Core.Path.{_≡_, refl, sym, ap, _∙_}
+use mathlib.Core.Bool.{Bool, true, false, cond, _&&_, and-true, and-false}
+use mathlib.Core.List.{List, [], _∷_}
+use Prim.Native.Nat.{ℕ, zero, suc, _-_, _≤_, _<_}
+use native.Mathlib.Omega.{arith}
+use lib.ListN.{length, take}
+use lib.Seq.{length-take-le}
+use lib.Dec.{eqb, leb}
+use borrow.Author.Tests.{eq-eqb, ne-eqb, leb-true}
+use Rattle.logical_record.specs.Length.{lengthOf, lengthGood}
+use Rattle.logical_record.specs.Positions.{start, remaining, mostRemaining, isPosition, isBetween}
+use Rattle.logical_record.specs.Walk.{thenWalk, walk}
+use Rattle.logical_record.specs.Reading.{rest, restGood, lengthMet}
+use Rattle.logical_record.specs.declared.Position.{Position}
+use Rattle.logical_record.specs.declared.Position.the-variants.{Between, AfterFirst, Remaining}
+use Rattle.logical_record.specs.declared.Walked.the-variants.{At}
+use Rattle.logical_record.specs.declared.Walked.the-variants as walked
+use Rattle.logical_record.specs.declared.Rest.{Rest}
+use Rattle.logical_record.specs.declared.Rest.the-variants.{Bytes, BadLength}
+use Rattle.logical_record.proofs.Facts.{both, length-bounds, remaining-some, between-remaining, eqb-none}
+use Rattle.logical_record.proofs.Walks.{walk-bad, at-not-bad}
+use Rattle.logical_record.proofs.Ends.{Reached, Inside, between-is-start, walk-data, walk-after-first, walk-front}
+
+-- what a rest that is a number of bytes says
+rest-good′ : (t : Bool) (length m n : ℕ) → lengthGood length ≡ t → cond t (Bytes m) BadLength ≡ Bytes n → (lengthGood length ≡ true) × (m ≡ n)
+rest-good′ true length m n g e = (g, cc)
+rest-good′ false length m n g e = absurd (let z : _≡_ {A = ℕ} 0 1 = cc in omega arith)
+
+rest-is-good : (length m n : ℕ) → restGood length m ≡ Bytes n → (lengthGood length ≡ true) × (m ≡ n)
+rest-is-good length m n e = rest-good′ (lengthGood length) length m n refl e
+
+-- where a read of k of the n bytes of the rest leads
+pub record ReadTo (p : Position) (held : List ℕ) (n k : ℕ) : Type 0 where
+  pub position : Position
+  pub reached : walk p (take k held) ≡ At position
+  pub between : isBetween position ≡ (eqb k n && lengthMet p held)
+
+-- with m left after LL, of which j are read
+read-data : (m j k n : ℕ) → n - k ≡ m - j → k ≤ n → isBetween (remaining (m - j)) ≡ (eqb k n && true)
+read-data m j k n e h =
+    between-remaining (m - j)
+    ∙ (ap (λ (i : ℕ). eqb i 0) (sym e) ∙ (eqb-none k n h ∙ sym (and-true (eqb k n))))
+
+pub read-to :
+    (p : Position) (held : List ℕ) (n k : ℕ) → rest p held ≡ Bytes n → 0 < k → k ≤ n → k ≤ length held → ReadTo p held n k
+unfolding thenWalk
+read-to Between [] n k e some h l = absurd (omega arith)
+read-to Between (high ∷ []) n zero e some h l = absurd (omega arith)
+read-to Between (high ∷ []) n (suc zero) e some h l =
+    record { position = AfterFirst high; reached = refl; between = sym (and-false (eqb 1 n)) }
+read-to Between (high ∷ []) n (suc (suc k)) e some h l = absurd (omega arith)
+read-to Between (high ∷ low ∷ bs) n zero e some h l = absurd (omega arith)
+read-to Between (high ∷ low ∷ bs) n (suc zero) e some h l =
+    let t = rest-is-good (lengthOf high low) (lengthOf high low) n e in
+    let b = length-bounds (lengthOf high low) (t .0) in
+    record { position = AfterFirst high; reached = refl; between = rw (ne-eqb 1 n (λ f. omega arith)) }
+read-to Between (high ∷ low ∷ bs) n (suc (suc k)) e some h l =
+    let t = rest-is-good (lengthOf high low) (lengthOf high low) n e in
+    let f = length-take-le k bs (omega arith) in
+    record {
+      position = remaining (lengthOf high low - 2 - length (take k bs));
+      reached = walk-front high low (take k bs) (t .0) (omega arith);
+      between = read-data (lengthOf high low - 2) (length (take k bs)) (suc (suc k)) n (omega arith) h;
+    }
+read-to (AfterFirst high) [] n k e some h l = absurd (omega arith)
+read-to (AfterFirst high) (low ∷ bs) n zero e some h l = absurd (omega arith)
+read-to (AfterFirst high) (low ∷ bs) n (suc k) e some h l =
+    let t = rest-is-good (lengthOf high low) (lengthOf high low - 1) n e in
+    let b = length-bounds (lengthOf high low) (t .0) in
+    let f = length-take-le k bs (omega arith) in
+    record {
+      position = remaining (lengthOf high low - 2 - length (take k bs));
+      reached = walk-after-first high low (take k bs) (t .0) (omega arith);
+      between = read-data (lengthOf high low - 2) (length (take k bs)) (suc k) n (omega arith) h;
+    }
+read-to (Remaining m) held n k e some h l =
+    let e′ : m ≡ n = cc in
+    let f = length-take-le k held l in
+    record {
+      position = remaining (m - length (take k held));
+      reached = rw (← remaining-some m (omega arith)) (walk-data m (take k held) (omega arith));
+      between = read-data m (length (take k held)) k n (omega arith) h;
+    }
+
+-- a read is never refused inside
+pub rest-reached :
+    (p : Position) (held : List ℕ) (n k : ℕ) → rest p held ≡ Bytes n → k ≤ n → k ≤ length held → Reached p (take k held)
+unfolding thenWalk
+rest-reached p held n zero e h l = record { position = p; reached = refl }
+rest-reached p held n (suc k) e h l =
+    let t = read-to p held n (suc k) e (omega arith) h l in
+    record { position = t .position; reached = t .reached }
+
+-- all of the rest is read, and the record's LL with it: the record ends exactly there
+pub rest-ends :
+    (p : Position) (held : List ℕ) (n : ℕ)
+    → rest p held ≡ Bytes n
+    → lengthMet p held ≡ true
+    → 0 < n
+    → n ≤ length held
+    → walk p (take n held) ≡ At start
+rest-ends p held n e m some l =
+    let t = read-to p held n n e some (omega arith) l in
+    t .reached ∙ ap At (between-is-start (t .position) (t .between ∙ rw (eq-eqb n n refl, m)))
+
+-- fewer are read: it does not
+pub rest-inside :
+    (p : Position) (held : List ℕ) (n k : ℕ)
+    → rest p held ≡ Bytes n
+    → 0 < k
+    → k < n
+    → k ≤ length held
+    → Inside p (take k held)
+rest-inside p held n k e some h l =
+    let t = read-to p held n k e some (omega arith) l in
+    record { position = t .position; reached = t .reached; inside = t .between ∙ rw (ne-eqb k n (λ f. omega arith)) }
+
+-- ---- how large a rest is
+
+-- with a byte held, there is something to read
+pub rest-some :
+    (p : Position) (held : List ℕ) (n : ℕ) → isPosition p ≡ true → 0 < length held → rest p held ≡ Bytes n → 0 < n
+rest-some Between [] n v h e = absurd (omega arith)
+rest-some Between (high ∷ []) n v h e = let f : 1 ≡ n = cc in omega arith
+rest-some Between (high ∷ low ∷ bs) n v h e =
+    let t = rest-is-good (lengthOf high low) (lengthOf high low) n e in
+    let b = length-bounds (lengthOf high low) (t .0) in
+    omega arith
+rest-some (AfterFirst high) [] n v h e = absurd (omega arith)
+rest-some (AfterFirst high) (low ∷ bs) n v h e =
+    let t = rest-is-good (lengthOf high low) (lengthOf high low - 1) n e in
+    let b = length-bounds (lengthOf high low) (t .0) in
+    omega arith
+rest-some (Remaining m) held n v h e =
+    let f : m ≡ n = cc in
+    let b = leb-true 1 m (both (leb 1 m) (leb m mostRemaining) v .0) in
+    omega arith
+
+-- ---- bytes that walk have a rest
+
+rest-bad′ : (t : Bool) (length m : ℕ) → lengthGood length ≡ t → cond t (Bytes m) BadLength ≡ BadLength → lengthGood length ≡ false
+rest-bad′ true length m g e = absurd (let z : _≡_ {A = ℕ} 0 1 = cc in omega arith)
+rest-bad′ false length m g e = g
+
+pub rest-bad : (p : Position) (held : List ℕ) → rest p held ≡ BadLength → walk p held ≡ walked.BadLength
+unfolding thenWalk
+rest-bad Between [] e = absurd (let z : _≡_ {A = ℕ} 0 1 = cc in omega arith)
+rest-bad Between (high ∷ []) e = absurd (let z : _≡_ {A = ℕ} 0 1 = cc in omega arith)
+rest-bad Between (high ∷ low ∷ bs) e =
+    rw (rest-bad′ (lengthGood (lengthOf high low)) (lengthOf high low) (lengthOf high low) refl e) (walk-bad bs)
+rest-bad (AfterFirst high) [] e = absurd (let z : _≡_ {A = ℕ} 0 1 = cc in omega arith)
+rest-bad (AfterFirst high) (low ∷ bs) e =
+    rw (rest-bad′ (lengthGood (lengthOf high low)) (lengthOf high low) (lengthOf high low - 1) refl e) (walk-bad bs)
+rest-bad (Remaining n) held e = absurd (let z : _≡_ {A = ℕ} 0 1 = cc in omega arith)
+
+pub record RestIs (p : Position) (held : List ℕ) : Type 0 where
+  pub bytes : ℕ
+  pub is : rest p held ≡ Bytes bytes
+
+rest-is : (p q : Position) (held : List ℕ) (r : Rest) → rest p held ≡ r → walk p held ≡ At q → RestIs p held
+rest-is p q held (Bytes n) e f = record { bytes = n; is = e }
+rest-is p q held BadLength e f = absurd (at-not-bad q (sym f ∙ rest-bad p held e))
+
+pub rest-walks : (p q : Position) (held : List ℕ) → walk p held ≡ At q → RestIs p held
+rest-walks p q held f = rest-is p q held (rest p held) refl f

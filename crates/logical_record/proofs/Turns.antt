@@ -1,0 +1,66 @@
+-- The turns of the code's walk, and what the code's rest reads of the bytes held.
+-- Assumes nothing.
+use mathlib.Core.Path.{_≡_, refl}
+use mathlib.Core.List.{List, [], _∷_}
+use Prim.Native.Nat.{ℕ, _+_, _-_, _≤_, _<_}
+use native.Mathlib.Numerals.{add-one}
+use native.Mathlib.Omega.{arith}
+use lib.ListN.{length, getD, drop, drop-of-length-le, length-drop}
+use lib.Seq.{drop-cons, drop-drop}
+use Rattle.logical_record.specs.Length.{lengthOf}
+use Rattle.logical_record.specs.Positions.{remaining}
+use Rattle.logical_record.specs.Walk.{step, thenWalk, walk}
+use Rattle.logical_record.specs.Reading.{rest, restGood}
+use Rattle.logical_record.specs.declared.Position.{Position}
+use Rattle.logical_record.specs.declared.Position.the-variants.{Between, AfterFirst, Remaining}
+use Rattle.logical_record.specs.declared.Walked.{Walked}
+use Rattle.logical_record.specs.declared.Walked.the-variants.{At}
+use Rattle.logical_record.specs.declared.Rest.the-variants.{Bytes}
+use Rattle.logical_record.proofs.Walks.{walk-skip-forged}
+
+-- one byte more
+pub walk-more :
+    (p : Position) (w : Walked) (s : List ℕ) (i : ℕ)
+    → i < length s
+    → step p (getD s i 0) ≡ w
+    → thenWalk w (drop (i + 1) s) ≡ walk p (drop i s)
+unfolding thenWalk
+walk-more p w s i h e = rw (← e, add-one, drop-cons s i 0 h)
+
+-- k bytes of a record's data
+pub walk-jump :
+    (n k : ℕ) (s : List ℕ) (i : ℕ)
+    → 1 ≤ k
+    → k - 1 ≤ n - 1
+    → i + k ≤ length s
+    → walk (remaining (n - k)) (drop (i + k) s) ≡ walk (Remaining n) (drop i s)
+walk-jump n k s i one h l =
+    rw (walk-skip-forged k n (drop i s) one h (omega (arith, length-drop i s)), drop-drop k i s)
+
+pub walk-end : (p : Position) (s : List ℕ) (i : ℕ) → length s ≤ i → walk p (drop i s) ≡ At p
+unfolding thenWalk
+walk-end p s i h = rw (drop-of-length-le s h)
+
+pub rest-two :
+    (s : List ℕ)
+    → 2 ≤ length s
+    → rest Between s ≡ restGood (lengthOf (getD s 0 0) (getD s 1 0)) (lengthOf (getD s 0 0) (getD s 1 0))
+rest-two [] h = absurd (omega arith)
+rest-two (high ∷ []) h = absurd (omega arith)
+rest-two (high ∷ low ∷ s) h = refl
+
+pub rest-few : (s : List ℕ) → length s < 2 → rest Between s ≡ Bytes (length s)
+rest-few [] h = refl
+rest-few (high ∷ []) h = refl
+rest-few (high ∷ low ∷ s) h = absurd (omega arith)
+
+pub rest-one :
+    (high : ℕ) (s : List ℕ)
+    → 1 ≤ length s
+    → rest (AfterFirst high) s ≡ restGood (lengthOf high (getD s 0 0)) (lengthOf high (getD s 0 0) - 1)
+rest-one high [] h = absurd (omega arith)
+rest-one high (low ∷ s) h = refl
+
+pub rest-none : (high : ℕ) (s : List ℕ) → length s < 1 → rest (AfterFirst high) s ≡ Bytes 0
+rest-none high [] h = refl
+rest-none high (low ∷ s) h = absurd (omega arith)

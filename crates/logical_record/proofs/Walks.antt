@@ -1,0 +1,127 @@
+-- Walks: over two lists one after the other, over a part of what walks, past the data of a record at once, and where they lead.
+-- Assumes nothing.
+use mathlib.Core.Path.{_≡_, refl, sym, ap, _∙_}
+use mathlib.Core.Bool.{Bool, true, false, cond}
+use mathlib.Core.List.{List, [], _∷_, _++_}
+use Prim.Native.Nat.{ℕ, zero, suc, _+_, _-_, _≤_, _<_}
+use native.Mathlib.Omega.{arith}
+use lib.ListN.{length, getD, take, drop, take-append-drop}
+use lib.Seq.{drop-length}
+use lib.Dec.{leb}
+use borrow.Author.Tests.{le-leb, leb-true}
+use Rattle.logical_record.specs.Length.{lengthOf, lengthGood}
+use Rattle.logical_record.specs.Positions.{remaining, afterLength, isPosition}
+use Rattle.logical_record.specs.Walk.{step, thenWalk, walk}
+use Rattle.logical_record.specs.declared.Position.{Position}
+use Rattle.logical_record.specs.declared.Position.the-variants.{Between, AfterFirst, Remaining}
+use Rattle.logical_record.specs.declared.Walked.{Walked}
+use Rattle.logical_record.specs.declared.Walked.the-variants.{At, BadLength}
+use Rattle.logical_record.proofs.Facts.{both, length-bounds, remaining-some, remaining-position}
+
+-- ---- two lists, one after the other
+
+pub walk-bad : (bs : List ℕ) → thenWalk BadLength bs ≡ BadLength
+unfolding thenWalk
+walk-bad [] = refl
+walk-bad (b ∷ bs) = refl
+
+pub then-walk-append : (w : Walked) (a b : List ℕ) → thenWalk w (a ++ b) ≡ thenWalk (thenWalk w a) b
+unfolding thenWalk
+then-walk-append w [] b = refl
+then-walk-append (At p) (x ∷ a) b = then-walk-append (step p x) a b
+then-walk-append BadLength (x ∷ a) b = sym (walk-bad b)
+
+pub walk-append : (p : Position) (a b : List ℕ) → walk p (a ++ b) ≡ thenWalk (walk p a) b
+walk-append p a b = then-walk-append (At p) a b
+
+-- the answer is one of the two, and not both
+pub at-not-bad : (p : Position) → At p ≡ BadLength → ⊥
+at-not-bad p e = let z : _≡_ {A = ℕ} 0 1 = cc in omega arith
+
+pub same-position : (p q : Position) → At p ≡ At q → p ≡ q
+same-position p q e = cc
+
+-- ---- a part of what walks
+
+-- a walk over a, then b, passes a record place between them
+pub record Through (p : Position) (a b : List ℕ) (q : Position) : Type 0 where
+  pub middle : Position
+  pub first : walk p a ≡ At middle
+  pub second : walk middle b ≡ At q
+
+through : (w : Walked) (p : Position) (a b : List ℕ) (q : Position) → walk p a ≡ w → thenWalk w b ≡ At q → Through p a b q
+through (At m) p a b q e f = record { middle = m; first = e; second = f }
+through BadLength p a b q e f = absurd (at-not-bad q (sym f ∙ walk-bad b))
+
+pub walk-prefix : (p q : Position) (a b : List ℕ) → walk p (a ++ b) ≡ At q → Through p a b q
+walk-prefix p q a b h = through (walk p a) p a b q refl (sym (walk-append p a b) ∙ h)
+
+pub walk-take : (p q : Position) (k : ℕ) (bs : List ℕ) → walk p bs ≡ At q → Through p (take k bs) (drop k bs) q
+walk-take p q k bs h = walk-prefix p q (take k bs) (drop k bs) (rw take-append-drop h)
+
+-- ---- the data of a record, at once
+
+-- the numbers of bytes left are equal
+left-same : (m n : ℕ) (bs : List ℕ) → m ≡ n → walk (remaining m) bs ≡ walk (remaining n) bs
+left-same m n bs e = ap (λ (k : ℕ). walk (remaining k) bs) e
+
+pub walk-skip : (k n : ℕ) (bs : List ℕ) → k ≤ n → k ≤ length bs → walk (remaining n) bs ≡ walk (remaining (n - k)) (drop k bs)
+unfolding thenWalk
+walk-skip zero n bs h l = left-same n (n - 0) bs (omega arith)
+walk-skip (suc k) n [] h l = absurd (omega arith)
+walk-skip (suc k) n (b ∷ bs) h l =
+    rw (remaining-some n (omega arith))
+    (walk-skip k (n - 1) bs (omega arith) (omega arith) ∙ left-same (n - 1 - k) (n - suc k) (drop k bs) (omega arith))
+
+-- one byte ends a forged record with none left, as `step` has it
+pub walk-skip-forged :
+    (k n : ℕ) (bs : List ℕ) → 1 ≤ k → k - 1 ≤ n - 1 → k ≤ length bs → walk (Remaining n) bs ≡ walk (remaining (n - k)) (drop k bs)
+unfolding thenWalk
+walk-skip-forged zero n bs one h l = absurd (omega arith)
+walk-skip-forged (suc k) n [] one h l = absurd (omega arith)
+walk-skip-forged (suc k) n (b ∷ bs) one h l =
+    walk-skip k (n - 1) bs (omega arith) (omega arith) ∙ left-same (n - 1 - k) (n - suc k) (drop k bs) (omega arith)
+
+-- the whole record is there
+pub walk-past : (n : ℕ) (bs : List ℕ) → 1 ≤ n → n ≤ length bs → walk (Remaining n) bs ≡ walk Between (drop n bs)
+walk-past n bs one h =
+    walk-skip-forged n n bs one (omega arith) h ∙ left-same (n - n) 0 (drop n bs) (omega arith)
+
+-- or not
+pub walk-within : (n : ℕ) (bs : List ℕ) → length bs < n → walk (Remaining n) bs ≡ At (Remaining (n - length bs))
+unfolding thenWalk
+walk-within n bs h =
+    rw (
+      ← remaining-some n (omega arith),
+      walk-skip (length bs) n bs (omega arith) (omega arith),
+      drop-length bs,
+      remaining-some (n - length bs) (omega arith),
+    )
+
+-- ---- where walks lead
+
+step-after-first : (g : Bool) (high b : ℕ) (q : Position) → lengthGood (lengthOf high b) ≡ g
+    → cond g (At (afterLength (lengthOf high b))) BadLength ≡ At q → isPosition q ≡ true
+step-after-first true high b q g e =
+    rw (← same-position (afterLength (lengthOf high b)) q e)
+    (remaining-position (lengthOf high b - 2) (let t = length-bounds (lengthOf high b) g in omega arith))
+step-after-first false high b q g e = absurd (at-not-bad q (sym e))
+
+step-position : (p q : Position) (b : ℕ) → isPosition p ≡ true → b < 256 → step p b ≡ At q → isPosition q ≡ true
+step-position Between q b v l e = rw (← same-position (AfterFirst b) q e) (le-leb b 255 (omega arith))
+step-position (AfterFirst high) q b v l e = step-after-first (lengthGood (lengthOf high b)) high b q refl e
+step-position (Remaining n) q b v l e =
+    rw (← same-position (remaining (n - 1)) q e)
+    (remaining-position (n - 1) (let t = leb-true n 32765 (both (leb 1 n) (leb n 32765) v .1) in omega arith))
+
+pub walk-position :
+    (p q : Position) (bs : List ℕ)
+    → isPosition p ≡ true
+    → ((k : ℕ) → getD bs k 0 < 256)
+    → walk p bs ≡ At q
+    → isPosition q ≡ true
+unfolding thenWalk
+walk-position p q [] v f e = rw (← same-position p q e) v
+walk-position p q (b ∷ bs) v f e =
+    let t = walk-prefix p q (b ∷ []) bs e in
+    walk-position (t .middle) q bs (step-position p (t .middle) b v (f 0) (t .first)) (λ k. f (suc k)) (t .second)

@@ -1,0 +1,93 @@
+-- `logical_record::reading::rest_of_record` meets its contract: in each arm the bytes read are the first of the list held (`Turns.antt`).
+-- Assumes nothing.
+use mathlib.Core.Path.{sym}
+use denote.Ref.{now}
+use Rattle.logical_record.proofs.Turns.{rest-two, rest-few, rest-one, rest-none}
+use borrow.Author.Needs.{needs}
+use Rattle.logical_record.proofs.reading.rest_of_record.Statement.{statement}
+use Rattle.logical_record.proofs.reading.rest_of_record.Tie as tie
+
+enum-told : tie.Need-enum-told
+enum-told c = search needs
+
+shared-slice-read-length-of : tie.Need-shared-slice-read-length-of
+shared-slice-read-length-of c = search needs
+
+shared-slice-read-length-of-2 : tie.Need-shared-slice-read-length-of-2
+shared-slice-read-length-of-2 c = search needs
+
+length-of-requires : tie.Need-length-of-requires
+length-of-requires c κs = search needs
+
+rest-good-requires : tie.Need-rest-good-requires
+rest-good-requires c κs = search needs
+
+cast-t16 : tie.Need-cast-t16
+cast-t16 c = search needs
+
+enum-known-position : tie.Need-enum-known-position
+enum-known-position c = search needs
+
+shared-slice-read-length-of-3 : tie.Need-shared-slice-read-length-of-3
+shared-slice-read-length-of-3 c = search needs
+
+length-of-requires-2 : tie.Need-length-of-requires-2
+length-of-requires-2 c κs = search needs
+
+less-requires : tie.Need-less-requires
+less-requires c κs = search needs
+
+rest-good-requires-2 : tie.Need-rest-good-requires-2
+rest-good-requires-2 c κs = search needs
+
+enum-known-position-2 : tie.Need-enum-known-position-2
+enum-known-position-2 c = search needs
+
+returns : tie.Need-returns
+returns c =
+    let s = now (c .before .before .before .before .before .before .before .before .args .held) in
+    rw (c .rest-good .ensures, c .before .length-of .ensures, c .before .before .before .before .before .enum-told .given .1)
+    (sym (rest-two s (c .before .before .before .before .if1 .taken)))
+
+returns-2 : tie.Need-returns-2
+returns-2 c =
+    let s = now (c .before .before .before .before .args .held) in
+    rw (c .before .enum-told .given .1) (sym (rest-few s (c .if1 .left)))
+
+returns-3 : tie.Need-returns-3
+returns-3 c =
+    let s = now (c .before .before .before .before .before .before .before .before .before .args .held) in
+    let first = c .before .before .before .before .before .before .position .given in
+    rw (c .rest-good2 .ensures, c .before .less .ensures, c .before .before .length-of2 .ensures, first .1)
+    (sym (rest-one (first .0 .0) s (c .before .before .before .before .if2 .taken)))
+
+returns-4 : tie.Need-returns-4
+returns-4 c =
+    let s = now (c .before .before .before .before .before .args .held) in
+    let first = c .before .before .position .given in
+    rw (first .1) (sym (rest-none (first .0 .0) s (c .if2 .left)))
+
+returns-5 : tie.Need-returns-5
+returns-5 c = rw (c .before .position2 .given .1)
+
+pub rest-of-record-spec : {M : Type 1} → statement M
+rest-of-record-spec =
+    tie.close
+    (tie.spec
+    enum-told
+    shared-slice-read-length-of
+    shared-slice-read-length-of-2
+    length-of-requires
+    rest-good-requires
+    cast-t16
+    enum-known-position
+    shared-slice-read-length-of-3
+    length-of-requires-2
+    less-requires
+    rest-good-requires-2
+    enum-known-position-2
+    returns
+    returns-2
+    returns-3
+    returns-4
+    returns-5)

@@ -1,0 +1,65 @@
+-- `logical_record::walk::step` meets its contract: in each arm the calls' promises, with the arm's variant.
+-- Assumes nothing.
+use mathlib.Core.Path.{sym, _∙_}
+use borrow.Author.Needs.{needs}
+use Rattle.logical_record.proofs.walk.step.Statement.{statement}
+use Rattle.logical_record.proofs.walk.step.Tie as tie
+
+enum-told : tie.Need-enum-told
+enum-told c = search needs
+
+enum-known-from : tie.Need-enum-known-from
+enum-known-from c = search needs
+
+length-of-requires : tie.Need-length-of-requires
+length-of-requires c κs = search needs
+
+length-good-requires : tie.Need-length-good-requires
+length-good-requires c κs = search needs
+
+after-length-requires : tie.Need-after-length-requires
+after-length-requires c κs = search needs
+
+enum-known-from-2 : tie.Need-enum-known-from-2
+enum-known-from-2 c = search needs
+
+less-requires : tie.Need-less-requires
+less-requires c κs = search needs
+
+remaining-requires : tie.Need-remaining-requires
+remaining-requires c κs = search needs
+
+returns : tie.Need-returns
+returns c = cc
+
+returns-2 : tie.Need-returns-2
+returns-2 c =
+    let second = c .before .before .before in
+    let good = sym (c .before .before .length-good .ensures) ∙ c .before .if1 .taken in
+    rw (c .after-length .ensures, second .before .before .from .given .1, ← second .length-of .ensures, good)
+
+returns-3 : tie.Need-returns-3
+returns-3 c =
+    let second = c .before .before in
+    let bad = sym (c .before .length-good .ensures) ∙ c .if1 .left in
+    rw (second .before .before .from .given .1, ← second .length-of .ensures, bad)
+
+returns-4 : tie.Need-returns-4
+returns-4 c = rw (c .remaining .ensures, c .before .less .ensures, c .before .before .before .from2 .given .1)
+
+pub step-spec : {M : Type 1} → statement M
+step-spec =
+    tie.close
+    (tie.spec
+    enum-told
+    enum-known-from
+    length-of-requires
+    length-good-requires
+    after-length-requires
+    enum-known-from-2
+    less-requires
+    remaining-requires
+    returns
+    returns-2
+    returns-3
+    returns-4)

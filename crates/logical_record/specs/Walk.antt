@@ -1,0 +1,26 @@
+-- The walk over the bytes of a stream of logical records: one byte, then any number.
+-- Assumes nothing.
+use Prim.Native.Nat.{ℕ, _-_}
+use mathlib.Core.Bool.{cond}
+use mathlib.Core.List.{List, [], _∷_}
+use Rattle.logical_record.specs.Length.{lengthOf, lengthGood}
+use Rattle.logical_record.specs.Positions.{remaining, afterLength}
+use Rattle.logical_record.specs.declared.Position.{Position}
+use Rattle.logical_record.specs.declared.Position.the-variants.{Between, AfterFirst, Remaining}
+use Rattle.logical_record.specs.declared.Walked.{Walked}
+use Rattle.logical_record.specs.declared.Walked.the-variants.{At, BadLength}
+
+-- one byte; LL is met, and checked, with its second byte, so a first byte alone is never refused
+abbrev pub step : Position → ℕ → Walked
+step Between b = At (AfterFirst b)
+step (AfterFirst high) b = cond (lengthGood (lengthOf high b)) (At (afterLength (lengthOf high b))) BadLength
+step (Remaining n) b = At (remaining (n - 1))
+
+-- a walk taken further; after a bad LL nothing more is met
+unfoldable pub thenWalk : Walked → List ℕ → Walked
+thenWalk w [] = w
+thenWalk (At p) (b ∷ bs) = thenWalk (step p b) bs
+thenWalk BadLength (b ∷ bs) = BadLength
+
+abbrev pub walk : Position → List ℕ → Walked
+walk p bs = thenWalk (At p) bs

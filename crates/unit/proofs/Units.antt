@@ -1,0 +1,116 @@
+-- Laws of units and headers, for the crates above.
+-- Assumes nothing.
+use mathlib.Core.Path.{_≡_, refl, sym, ap, _∙_}
+use mathlib.Core.Bool.{Bool, true, false, not, cond}
+use mathlib.Core.List.{List, [], _∷_}
+use Prim.Native.Nat.{ℕ, _+_, _≤_, _<_}
+use native.Mathlib.Nat.{div-add-mod'}
+use native.Mathlib.Omega.{arith}
+use borrow.Author.Tests.{le-leb, lt-leb}
+use lib.Dec.{leb}
+use lib.ListN.{length, take, drop}
+use Rattle.cells.specs.Cells.{front}
+use Rattle.cells.proofs.Fronts.{front-bytes}
+use Rattle.unit.specs.Weights.{FIRST, LAST, bit}
+use Rattle.unit.specs.Rules.{headerGood}
+use Rattle.unit.specs.Header.{isFirst, isLast, headerBytes, fieldsOf}
+use Rattle.unit.specs.Ru.{fixedRu, sameBytes, ruGood}
+use Rattle.unit.specs.Unit.{RU-START, unitBytes, unitOf, lengthMade, cellsMade, numberIn, headerIn, headingOf, unitReadAs}
+use Rattle.unit.specs.declared.Header.{Header}
+use Rattle.unit.specs.declared.Header.the-variants.{Data, Bid, PositiveBidResponse, NegativeBidResponse, Confirmation, PacingResponse}
+use Rattle.unit.specs.declared.Rule.{Rule}
+use Rattle.unit.specs.declared.UnitRead.the-variants as unitRead
+use Rattle.unit.proofs.Finite.{never}
+use Rattle.unit.proofs.RoundTrip.{built-good, built-fields}
+
+-- ---- what a unit holds
+
+pub unit-length : (n : ℕ) (f : Header) (ru : List ℕ) → length (unitOf n f ru) ≡ RU-START + length ru
+unfolding unitOf unitBytes
+unit-length n f ru = omega arith
+
+pub unit-number : (n : ℕ) (f : Header) (ru : List ℕ) → numberIn (unitOf n f ru) ≡ n
+unfolding unitOf unitBytes
+unit-number n f ru = div-add-mod' n 256
+
+pub unit-header : (n : ℕ) (f : Header) (ru : List ℕ) → headerIn (unitOf n f ru) ≡ headerBytes f
+unfolding unitOf unitBytes
+unit-header n f ru = refl
+
+pub unit-ru : (n : ℕ) (f : Header) (ru : List ℕ) → drop RU-START (unitOf n f ru) ≡ ru
+unfolding unitOf unitBytes
+unit-ru n f ru = refl
+
+-- ---- a unit is read
+
+pub unit-read : (r : Rule) (n : ℕ) (f : Header) (ru : List ℕ)
+    → unitReadAs r (unitOf n f ru) ≡ unitRead.Good (record { number = n; header = f; ru = RU-START })
+unfolding unitReadAs headingOf
+unit-read r n f ru =
+    rw (
+      unit-number n f ru,
+      unit-header n f ru,
+      built-good f,
+      built-fields f,
+      le-leb RU-START (length (unitOf n f ru)) (omega (arith, unit-length n f ru)),
+    )
+
+-- ---- a unit is made
+
+pub length-made : (ru cells : List ℕ) → RU-START + length ru ≤ length cells → lengthMade ru cells ≡ RU-START + length ru
+length-made ru cells h = rw (le-leb (RU-START + length ru) (length cells) h)
+
+pub cells-made : (n : ℕ) (f : Header) (ru cells : List ℕ) → RU-START + length ru ≤ length cells
+    → cellsMade n f ru cells ≡ front (unitOf n f ru) cells
+unfolding cellsMade
+cells-made n f ru cells h = rw (le-leb (RU-START + length ru) (length cells) h)
+
+-- the bytes that the answer counts are the unit
+pub unit-made : (n : ℕ) (f : Header) (ru cells : List ℕ) → RU-START + length ru ≤ length cells
+    → take (lengthMade ru cells) (cellsMade n f ru cells) ≡ unitOf n f ru
+unit-made n f ru cells h =
+    rw (cells-made n f ru cells h, length-made ru cells h, ← unit-length n f ru) (front-bytes (unitOf n f ru) cells)
+
+-- ---- kinds
+
+-- the RU of a fixed kind is as its header wants it
+abbrev pub holdsData : Header → Bool
+holdsData (Data d) = true
+holdsData (Bid p) = false
+holdsData PositiveBidResponse = false
+holdsData NegativeBidResponse = false
+holdsData Confirmation = false
+holdsData PacingResponse = false
+
+pub fixed-ru-good : (max : ℕ) (f : Header) → holdsData f ≡ false → ruGood max f (fixedRu f) ≡ true
+unfolding ruGood sameBytes
+fixed-ru-good max (Data d) e = absurd (never (sym e))
+fixed-ru-good max (Bid p) e = refl
+fixed-ru-good max PositiveBidResponse e = refl
+fixed-ru-good max NegativeBidResponse e = refl
+fixed-ru-good max Confirmation e = refl
+fixed-ru-good max PacingResponse e = refl
+
+-- data and bids are requests; every other kind is a response, and has the weight 80 on in byte 0
+abbrev pub isRequest : Header → Bool
+isRequest (Data d) = true
+isRequest (Bid p) = true
+isRequest PositiveBidResponse = false
+isRequest NegativeBidResponse = false
+isRequest Confirmation = false
+isRequest PacingResponse = false
+
+data-request : (first last : Bool) → leb 0x80 (bit first FIRST + bit last LAST) ≡ false
+data-request true true = refl
+data-request true false = refl
+data-request false true = refl
+data-request false false = refl
+
+pub response-bit : (f : Header) → leb 0x80 (headerBytes f .b0) ≡ not (isRequest f)
+unfolding headerBytes
+response-bit (Data d) = data-request (isFirst (d .begins)) (isLast (d .ends))
+response-bit (Bid p) = refl
+response-bit PositiveBidResponse = refl
+response-bit NegativeBidResponse = refl
+response-bit Confirmation = refl
+response-bit PacingResponse = refl

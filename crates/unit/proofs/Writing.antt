@@ -1,0 +1,55 @@
+-- What the writers leave in a buffer, put together.
+-- Assumes nothing.
+use mathlib.Core.Path.{_≡_, refl, sym, ap, _∙_}
+use mathlib.Core.Bool.{Bool, true, false}
+use mathlib.Core.List.{List, [], _∷_, _++_}
+use Prim.Native.Nat.{ℕ, _+_, _-_, _≤_, _<_}
+use native.Mathlib.Nat.{add-assoc}
+use native.Mathlib.Omega.{arith}
+use lib.Dec.{leb}
+use lib.ListN.{length, take, drop, length-append}
+use lib.Seq.{take-length, take-append-seam, drop-append-seam}
+use borrow.Author.Tests.{le-leb, lt-leb}
+use borrow.Rule.Slice.PartMut.{midOf, putMid}
+use Rattle.cells.specs.Cells.{front}
+use Rattle.cells.proofs.Fronts.{front-then}
+use Rattle.cells.proofs.Parts.{part-is, part-back}
+use Rattle.unit.specs.Header.{headerBytes}
+use Rattle.unit.specs.Unit.{RU-START, unitBytes, unitOf, lengthMade, cellsMade}
+use Rattle.unit.specs.declared.HeaderBytes.{HeaderBytes}
+use Rattle.unit.specs.declared.Header.{Header}
+
+-- two copies, one right behind the other: the second is made into the part that starts at n
+pub two-copies : (a b cells one two : List ℕ) (n : ℕ) → n ≡ length a → one ≡ take (length a) a ++ drop (length a) cells
+    → two ≡ take (length b) b ++ drop (length b) (midOf n (length one - n) one)
+    → putMid n (length one - n) one two ≡ front (a ++ b) cells
+unfolding front
+two-copies a b cells one two n en e1 e2 =
+    rw (part-back n one two, e2, part-is n one, en, e1, take-length a, take-length b, take-append-seam, drop-append-seam) (front-then a b cells)
+
+-- the five bytes before the RU, and then the RU in the part that starts at byte 5
+pub heading-ru : (n : ℕ) (h : HeaderBytes) (ru cells one two : List ℕ) → one ≡ front (unitBytes n h []) cells
+    → two ≡ front ru (midOf RU-START (length one - RU-START) one)
+    → putMid RU-START (length one - RU-START) one two ≡ front (unitBytes n h ru) cells
+unfolding unitBytes front
+heading-ru n h ru cells one two e1 e2 =
+    rw (part-back RU-START one two, e2, part-is RU-START one, e1) (front-then (unitBytes n h []) ru cells)
+
+-- a unit that does not fit is not made
+pub not-made : (n : ℕ) (f : Header) (a b cells : List ℕ) → length cells < RU-START + (length a + length b)
+    → (0 ≡ lengthMade (a ++ b) cells) × (cells ≡ cellsMade n f (a ++ b) cells)
+unfolding cellsMade
+not-made n f a b cells h =
+    let l : leb (RU-START + length (a ++ b)) (length cells) ≡ false = rw (length-append a b) (lt-leb _ _ h) in
+    (rw l, rw l)
+
+-- one that fits
+pub made : (n : ℕ) (f : Header) (h : HeaderBytes) (a b cells one two : List ℕ) → RU-START + (length a + length b) ≤ length cells
+    → h ≡ headerBytes f
+    → one ≡ front (unitBytes n h []) cells
+    → two ≡ front (a ++ b) (midOf RU-START (length one - RU-START) one)
+    → (RU-START + (length a + length b) ≡ lengthMade (a ++ b) cells) × (putMid RU-START (length one - RU-START) one two ≡ cellsMade n f (a ++ b) cells)
+unfolding cellsMade unitOf
+made n f h a b cells one two r eh e1 e2 =
+    let l : leb (RU-START + length (a ++ b)) (length cells) ≡ true = rw (length-append a b) (le-leb _ _ r) in
+    (rw (l, length-append a b), rw (l, ← eh) (heading-ru n h (a ++ b) cells one two e1 e2))

@@ -1,0 +1,48 @@
+-- `unit::ru::ru_good` meets its contract. Data goes by its length, and every other kind is compared with its fixed RU.
+-- Assumes nothing.
+use mathlib.Core.Path.{_∙_, sym, ap}
+use lib.Seq.{length-take-le}
+use denote.Ref.{now}
+use Rattle.unit.specs.Ru.{sameBytes, ruGood}
+use Rattle.unit.proofs.FixedRu.{wants-fixed}
+use borrow.Author.Needs.{needs}
+use Rattle.unit.proofs.ru.ru_good.Statement.{statement}
+use Rattle.unit.proofs.ru.ru_good.Tie as tie
+
+enum-known-h : tie.Need-enum-known-h
+enum-known-h c = search needs
+
+fixed-ru-requires : tie.Need-fixed-ru-requires
+fixed-ru-requires c κs = search needs
+
+array-share-prefix-bytes : tie.Need-array-share-prefix-bytes
+array-share-prefix-bytes c = search needs
+
+slice-aggregate-same : tie.Need-slice-aggregate-same
+slice-aggregate-same c = let f = c .before .before .fixed-ru in sym (length-take-le (f .result .len) (f .result .bytes) (f .ensures .1))
+
+same-requires : tie.Need-same-requires
+same-requires c κs = search needs
+
+returns : tie.Need-returns
+returns c = let a = c .before .before .before .before .before .before .args in c .same .ensures ∙ ap (sameBytes (now (a .ru))) (c .before .before .before .fixed-ru .ensures .0) ∙ wants-fixed (a .max) (a .h) (now (a .ru)) (c .before .before .before .before .match .keys2)
+
+data-ru-good-requires : tie.Need-data-ru-good-requires
+data-ru-good-requires c κs = search needs
+
+returns-2 : tie.Need-returns-2
+unfolding ruGood
+returns-2 c = rw (c .data-ru-good .ensures, c .before .before .h .given .1)
+
+pub ru-good-spec : {M : Type 1} → statement M
+ru-good-spec =
+    tie.close
+    (tie.spec
+    enum-known-h
+    fixed-ru-requires
+    array-share-prefix-bytes
+    slice-aggregate-same
+    same-requires
+    returns
+    data-ru-good-requires
+    returns-2)

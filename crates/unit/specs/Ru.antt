@@ -1,0 +1,56 @@
+-- The RUs: those that are fixed, and what a data RU may be.
+-- Assumes nothing.
+use Prim.Native.Nat.{ℕ}
+use mathlib.Core.Bool.{Bool, true, false, _&&_, _||_}
+use mathlib.Core.List.{List, [], _∷_}
+use lib.Dec.{eqb, leb}
+use lib.ListN.{length}
+use Rattle.unit.specs.Header.{confirms, followsOf, turns, endsBracket}
+use Rattle.unit.specs.declared.ChainEnd.{ChainEnd}
+use Rattle.unit.specs.declared.DataHeader.{DataHeader}
+use Rattle.unit.specs.declared.Header.{Header}
+use Rattle.unit.specs.declared.Header.the-variants.{Data, Bid, PositiveBidResponse, NegativeBidResponse, Confirmation, PacingResponse}
+
+-- a bid is LUSTAT 04 00 06 00 00
+abbrev pub bidRu : List ℕ
+bidRu = 0x04 ∷ 0x00 ∷ 0x06 ∷ 0x00 ∷ 0x00 ∷ []
+
+-- a grant 04
+abbrev pub positiveRu : List ℕ
+positiveRu = 0x04 ∷ []
+
+-- a bid refusal 08 13 00 00 04
+abbrev pub negativeRu : List ℕ
+negativeRu = 0x08 ∷ 0x13 ∷ 0x00 ∷ 0x00 ∷ 0x04 ∷ []
+
+-- the RU of a header that is always the same; confirmation and pacing answer have none, and neither has data of no byte
+abbrev pub fixedRu : Header → List ℕ
+fixedRu (Data d) = []
+fixedRu (Bid p) = bidRu
+fixedRu PositiveBidResponse = positiveRu
+fixedRu NegativeBidResponse = negativeRu
+fixedRu Confirmation = []
+fixedRu PacingResponse = []
+
+-- a last unit with CD, CEB or a confirmation request: the units that leave a mark
+abbrev pub marks : ChainEnd → Bool
+marks e = confirms e || (turns (followsOf e) || endsBracket (followsOf e))
+
+-- a data RU is no longer than the session's maximum; it is empty only on a unit that marks
+abbrev pub dataRuGood : ℕ → DataHeader → ℕ → Bool
+dataRuGood max d n = leb n max && (leb 1 n || marks (d .ends))
+
+unfoldable pub sameBytes : List ℕ → List ℕ → Bool
+sameBytes [] [] = true
+sameBytes [] (y ∷ ys) = false
+sameBytes (x ∷ xs) [] = false
+sameBytes (x ∷ xs) (y ∷ ys) = eqb x y && sameBytes xs ys
+
+-- the RU is as its header wants it
+unfoldable pub ruGood : ℕ → Header → List ℕ → Bool
+ruGood max (Data d) ru = dataRuGood max d (length ru)
+ruGood max (Bid p) ru = sameBytes ru bidRu
+ruGood max PositiveBidResponse ru = sameBytes ru positiveRu
+ruGood max NegativeBidResponse ru = sameBytes ru negativeRu
+ruGood max Confirmation ru = sameBytes ru []
+ruGood max PacingResponse ru = sameBytes ru []

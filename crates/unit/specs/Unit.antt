@@ -1,0 +1,72 @@
+-- The unit: number, header and RU; how it is written at the front of a buffer and how it is read.
+-- Assumes nothing.
+use Prim.Native.Nat.{ℕ, _+_, _*_, _/_, _%_}
+use mathlib.Core.Bool.{Bool, cond}
+use mathlib.Core.List.{List, [], _∷_}
+use lib.Dec.{leb, ltb}
+use lib.ListN.{length, getD}
+use Rattle.cells.specs.Cells.{front}
+use Rattle.unit.specs.Rules.{bytes, headerGood}
+use Rattle.unit.specs.Header.{headerBytes, fieldsOf}
+use Rattle.unit.specs.declared.HeaderBytes.{HeaderBytes}
+use Rattle.unit.specs.declared.Header.{Header}
+use Rattle.unit.specs.declared.Heading.{Heading}
+use Rattle.unit.specs.declared.Rule.{Rule}
+use Rattle.unit.specs.declared.UnitRead.{UnitRead}
+use Rattle.unit.specs.declared.UnitRead.the-variants as unitRead
+
+-- the RU starts at byte 5
+abbrev pub RU-START : ℕ
+RU-START = 5
+
+-- ---- writing
+
+unfoldable pub unitBytes : ℕ → HeaderBytes → List ℕ → List ℕ
+unitBytes n h ru = n / 256 ∷ n % 256 ∷ h .b0 ∷ h .b1 ∷ h .b2 ∷ ru
+
+-- the bytes of a unit
+unfoldable pub unitOf : ℕ → Header → List ℕ → List ℕ
+unitOf n h ru = unitBytes n (headerBytes h) ru
+
+-- a unit of this RU fits the buffer
+abbrev pub fits : List ℕ → List ℕ → Bool
+fits ru cells = leb (RU-START + length ru) (length cells)
+
+-- the length of the unit made; 0 for one that does not fit
+abbrev pub lengthMade : List ℕ → List ℕ → ℕ
+lengthMade ru cells = cond (fits ru cells) (RU-START + length ru) 0
+
+-- the buffer after that: the unit at its front, or as it was
+unfoldable pub cellsMade : ℕ → Header → List ℕ → List ℕ → List ℕ
+cellsMade n h ru cells = cond (fits ru cells) (front (unitOf n h ru) cells) cells
+
+-- ---- reading
+
+-- the number of two bytes, high byte first
+abbrev pub numberOf : ℕ → ℕ → ℕ
+numberOf high low = high * 256 + low
+
+abbrev pub numberIn : List ℕ → ℕ
+numberIn u = numberOf (getD u 0 0) (getD u 1 0)
+
+abbrev pub headerIn : List ℕ → HeaderBytes
+headerIn u = bytes (getD u 2 0) (getD u 3 0) (getD u 4 0)
+
+unfoldable pub headingOf : List ℕ → Heading
+headingOf u = record { number = numberIn u; header = fieldsOf (headerIn u); ru = RU-START }
+
+-- what is read of a unit, if it is this rule that is named where one is broken
+unfoldable pub unitReadAs : Rule → List ℕ → UnitRead
+unitReadAs r u = cond (leb RU-START (length u)) (cond (headerGood (headerIn u)) (unitRead.Good (headingOf u)) (unitRead.Breaks r)) unitRead.TooShort
+
+-- the rule that is named; where none is, H1 stands in
+abbrev pub ruleIn : UnitRead → Rule
+ruleIn (unitRead.Good h) = Rule.H1
+ruleIn unitRead.TooShort = Rule.H1
+ruleIn (unitRead.Breaks r) = r
+
+-- the paper's number: 20, the unit has under 5 bytes; 21, its header breaks a rule
+abbrev pub refusalOf : UnitRead → ℕ
+refusalOf (unitRead.Good h) = 0
+refusalOf unitRead.TooShort = 20
+refusalOf (unitRead.Breaks r) = 21

@@ -1,0 +1,77 @@
+// RUs: those that are fixed, compared; and the rule of a data RU.
+use crate::ChainEnd;
+use crate::DataHeader;
+use crate::Header;
+use crate::build::confirms;
+use crate::build::ends_bracket;
+use crate::build::follows_of;
+use crate::build::turns;
+ghost use mathlib.Core.Path.{_≡_};
+ghost use Prim.Native.Nat.{_≤_};
+ghost use lib.ListN.{length, take};
+ghost use Rattle.unit.specs.Ru.{marks, dataRuGood, fixedRu, sameBytes, ruGood};
+
+// The unit leaves a mark: it is the last in its chain, with CD, CEB or a confirmation request.
+pub fn marks(e: ChainEnd) -> bool
+    ensures { λ r. ⌜ r ≡ marks e ⌝ }
+{
+    let f = follows_of(e);
+    confirms(e) | (turns(f) | ends_bracket(f))
+}
+
+// A data RU of n bytes is no longer than the session's maximum, and empty only on a unit that leaves a mark.
+pub fn data_ru_good(max: usize, d: DataHeader, n: usize) -> bool
+    ensures { λ r. ⌜ r ≡ dataRuGood max d n ⌝ }
+{
+    let ends = d.ends;
+    (n <= max) & ((1 <= n) | marks(ends))
+}
+
+// The RU of a kind that has a fixed one: the first len of these bytes.
+pub(crate) struct FixedRu {
+    pub bytes: [u8; 5],
+    pub len: usize,
+}
+
+// Data has none, and of no byte is what it has here; a confirmation and a pacing response are empty.
+pub(crate) fn fixed_ru(h: Header) -> FixedRu
+    ensures { λ r. ⌜ (take (r .len) (r .bytes) ≡ fixedRu h) × (r .len ≤ length (r .bytes)) ⌝ }
+{
+    match h {
+        Header::Bid(_) => FixedRu {
+            bytes: [0x04, 0x00, 0x06, 0x00, 0x00],
+            len: 5,
+        },
+        Header::PositiveBidResponse => FixedRu {
+            bytes: [0x04, 0, 0, 0, 0],
+            len: 1,
+        },
+        Header::NegativeBidResponse => FixedRu {
+            bytes: [0x08, 0x13, 0x00, 0x00, 0x04],
+            len: 5,
+        },
+        Header::Data(_) | Header::Confirmation | Header::PacingResponse => FixedRu {
+            bytes: [0, 0, 0, 0, 0],
+            len: 0,
+        },
+    }
+}
+
+fn same(a: &[u8], b: &[u8]) -> bool
+    ensures { λ r. ⌜ r ≡ sameBytes (now (a .entry)) (now (b .entry)) ⌝ }
+{
+    check::same(a, b)
+}
+
+// The RU is as its header wants it.
+pub fn ru_good(max: usize, h: Header, ru: &[u8]) -> bool
+    ensures { λ r. ⌜ r ≡ ruGood max h (now (ru .entry)) ⌝ }
+{
+    let Header::Data(d) = h else {
+        let fixed = fixed_ru(h);
+        let bytes = fixed.bytes;
+        let n = fixed.len;
+        return same(ru, &bytes[..n]);
+    };
+    data_ru_good(max, d, ru.len())
+}
