@@ -1,12 +1,12 @@
 -- A good header is one of 198 candidates: byte 0 of H1's list with byte 1 of H3's and byte 2 of H5's, or one of H2's list.
 -- So a test that antt computes at each of them gives a law of every good header.
 -- Assumes nothing.
-use mathlib.Core.Path.{_≡_, refl, sym, ap, _∙_}
-use mathlib.Core.Bool.{Bool, true, false, not, _&&_, _||_}
+use mathlib.Core.Path.{_≡_}
+use mathlib.Core.Bool.{Bool, true, _&&_, _||_}
 use mathlib.Core.List.{List, [], _∷_}
 use Prim.Native.Nat.{ℕ}
-use lib.Dec.{T, eqb, leb}
-use Rattle.unit.specs.Rules.{bytes, oneOf, oneOfHeaders, isFixed, isData, fixedHeaders, dataH3, dataH4, dataH5, dataH6, keepsH1, keepsH2, keepsH3, keepsH4, keepsH5, keepsH6, headerGood}
+use lib.Dec.{T, leb}
+use Rattle.unit.specs.Rules.{bytes, oneOf, oneOfHeaders, isFixed, isData, fixedHeaders, dataH3, dataH5, keepsH1, keepsH2, keepsH3, keepsH4, keepsH5, keepsH6, headerGood}
 use Rattle.unit.specs.declared.HeaderBytes.{HeaderBytes}
 use Rattle.unit.proofs.Finite.{ands, holds, both, follows-from, other, split, each, at-one, eachHeader, at-header}
 

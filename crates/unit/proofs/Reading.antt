@@ -6,7 +6,7 @@ use mathlib.Core.List.{List}
 use Prim.Native.Nat.{ℕ, zero, suc, _≤_, _<_}
 use native.Mathlib.Omega.{arith}
 use borrow.Author.Tests.{le-leb, lt-leb, eqb-true, ne-eqb}
-use lib.Dec.{eqb, leb}
+use lib.Dec.{eqb}
 use lib.ListN.{length}
 use Rattle.unit.specs.Weights.{PACING, on}
 use Rattle.unit.specs.Rules.{bytes, keepsH1, keepsH2, keepsH3, keepsH4, keepsH5, keepsH6, keeps, breaks, headerGood}

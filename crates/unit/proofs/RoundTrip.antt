@@ -1,12 +1,12 @@
 -- Every header built is read back as the same fields, and every header accepted is rebuilt as the same bytes.
 -- Assumes nothing.
 use mathlib.Core.Path.{_≡_, refl, sym, ap, _∙_}
-use mathlib.Core.Bool.{Bool, true, false, not, cond, _&&_, _||_}
+use mathlib.Core.Bool.{Bool, true, false, not, cond, _||_}
 use Prim.Native.Nat.{ℕ, _+_}
 use native.Mathlib.Omega.{arith}
-use lib.Dec.{T, eqb, leb}
+use lib.Dec.{T, leb}
 use Rattle.unit.specs.Weights.{FIRST, LAST, EXCEPTION, CONFIRM, PACING, BB, CD, CEB, on, bit}
-use Rattle.unit.specs.Rules.{bytes, sameHeader, requestsConfirmation, headerGood}
+use Rattle.unit.specs.Rules.{sameHeader, requestsConfirmation, headerGood}
 use Rattle.unit.specs.Header.{isFirst, beginsBracket, isLast, confirms, followsOf, turns, endsBracket, dataBytes, headerBytes, beginOf, followOf, endOf, dataFields, fieldsOf, readAs}
 use Rattle.unit.specs.Claims.{BuiltIsRead, ReadIsBuilt}
 use Rattle.unit.specs.declared.Follows.{Follows}
@@ -19,7 +19,6 @@ use Rattle.unit.specs.declared.DataHeader.{DataHeader}
 use Rattle.unit.specs.declared.Header.{Header}
 use Rattle.unit.specs.declared.Header.the-variants.{Data, Bid, PositiveBidResponse, NegativeBidResponse, Confirmation, PacingResponse}
 use Rattle.unit.specs.declared.HeaderBytes.{HeaderBytes}
-use Rattle.unit.specs.declared.HeaderRead.{HeaderRead}
 use Rattle.unit.specs.declared.HeaderRead.the-variants.{Good, Breaks}
 use Rattle.unit.specs.declared.Rule.{Rule}
 use Rattle.unit.proofs.Finite.{holds, follows-from, same-header, allData, at-data}

@@ -1,19 +1,20 @@
--- Laws of units and headers, for the crates above.
+-- Laws of units and headers, for the crates above; the round trip of headers and `sameBytes` are passed on from their own files.
 -- Assumes nothing.
-use mathlib.Core.Path.{_≡_, refl, sym, ap, _∙_}
-use mathlib.Core.Bool.{Bool, true, false, not, cond}
-use mathlib.Core.List.{List, [], _∷_}
-use Prim.Native.Nat.{ℕ, _+_, _≤_, _<_}
+pub use Rattle.unit.proofs.RoundTrip.{built-good, built-fields, read-bytes}
+pub use Rattle.unit.proofs.Same.{same-equal, equal-same, same-self}
+use mathlib.Core.Path.{_≡_, refl, sym}
+use mathlib.Core.Bool.{Bool, true, false, not}
+use mathlib.Core.List.{List}
+use Prim.Native.Nat.{ℕ, _+_, _≤_}
 use native.Mathlib.Nat.{div-add-mod'}
 use native.Mathlib.Omega.{arith}
-use borrow.Author.Tests.{le-leb, lt-leb}
+use borrow.Author.Tests.{le-leb}
 use lib.Dec.{leb}
 use lib.ListN.{length, take, drop}
 use Rattle.cells.specs.Cells.{front}
 use Rattle.cells.proofs.Fronts.{front-bytes}
 use Rattle.unit.specs.Weights.{FIRST, LAST, bit}
-use Rattle.unit.specs.Rules.{headerGood}
-use Rattle.unit.specs.Header.{isFirst, isLast, headerBytes, fieldsOf}
+use Rattle.unit.specs.Header.{isFirst, isLast, headerBytes}
 use Rattle.unit.specs.Ru.{fixedRu, sameBytes, ruGood}
 use Rattle.unit.specs.Unit.{RU-START, unitBytes, unitOf, lengthMade, cellsMade, numberIn, headerIn, headingOf, unitReadAs}
 use Rattle.unit.specs.declared.Header.{Header}
@@ -21,7 +22,6 @@ use Rattle.unit.specs.declared.Header.the-variants.{Data, Bid, PositiveB
 use Rattle.unit.specs.declared.Rule.{Rule}
 use Rattle.unit.specs.declared.UnitRead.the-variants as unitRead
 use Rattle.unit.proofs.Finite.{never}
-use Rattle.unit.proofs.RoundTrip.{built-good, built-fields}
 
 -- ---- what a unit holds
 

@@ -1,12 +1,12 @@
 -- What is claimed of headers and units, for a reader to find. Proved in proofs/, and promised by the function `theorems::headers_and_units`.
 -- Assumes nothing.
 use mathlib.Core.Path.{_≡_}
-use mathlib.Core.Bool.{Bool, true, false, cond}
+use mathlib.Core.Bool.{true, cond}
 use mathlib.Core.List.{List}
 use Prim.Native.Nat.{ℕ, zero, suc, _+_, _<_}
 use lib.ListN.{drop}
-use Rattle.unit.specs.Rules.{bytes, keeps, breaks, headerGood}
-use Rattle.unit.specs.Header.{headerBytes, fieldsOf, readAs}
+use Rattle.unit.specs.Rules.{bytes, breaks, headerGood}
+use Rattle.unit.specs.Header.{headerBytes, readAs}
 use Rattle.unit.specs.Unit.{RU-START, unitOf, unitReadAs}
 use Rattle.unit.specs.declared.HeaderBytes.{HeaderBytes}
 use Rattle.unit.specs.declared.Header.{Header}
@@ -40,7 +40,7 @@ goodHeaders = sumBelow (λ x. sumBelow (λ y. sumBelow (λ z. cond (headerGood (
 abbrev pub FortyEight : Type 0
 FortyEight = goodHeaders ≡ 48
 
--- a unit written is read back as its number, its fields and its RU, whatever follows it in the buffer
+-- a unit written is read back as its number, its fields and its RU
 abbrev pub WrittenIsRead : Type 0
 WrittenIsRead =
     (r : Rule) (n : ℕ) (f : Header) (ru : List ℕ)

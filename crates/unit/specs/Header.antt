@@ -1,6 +1,6 @@
 -- The fields of a header, and its bytes.
 -- Assumes nothing.
-use Prim.Native.Nat.{ℕ, _+_}
+use Prim.Native.Nat.{_+_}
 use mathlib.Core.Bool.{Bool, true, false, cond}
 use lib.Dec.{eqb}
 use Rattle.unit.specs.Weights.{FIRST, LAST, EXCEPTION, CONFIRM, PACING, BB, CD, CEB, on, bit}

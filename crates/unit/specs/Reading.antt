@@ -8,7 +8,7 @@ use Rattle.unit.specs.Rules.{dataH3, dataH4, dataH5, dataH6}
 use Rattle.unit.specs.Header.{dataFields}
 use Rattle.unit.specs.declared.HeaderBytes.{HeaderBytes}
 use Rattle.unit.specs.declared.Rule.{Rule}
-use Rattle.unit.specs.declared.Rule.the-variants.{H1, H2, H3, H4, H5, H6}
+use Rattle.unit.specs.declared.Rule.the-variants.{H2, H3, H4, H5, H6}
 use Rattle.unit.specs.declared.Header.{Header}
 use Rattle.unit.specs.declared.Header.the-variants.{Data, Bid, PositiveBidResponse, NegativeBidResponse, Confirmation, PacingResponse}
 use Rattle.unit.specs.declared.HeaderRead.{HeaderRead}

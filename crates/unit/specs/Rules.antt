@@ -1,7 +1,7 @@
 -- H1 to H6, as document 01 prints them: each of the three bytes of a header.
 -- Assumes nothing.
 use Prim.Native.Nat.{ℕ}
-use mathlib.Core.Bool.{Bool, true, false, not, _&&_, _||_}
+use mathlib.Core.Bool.{Bool, false, not, _&&_, _||_}
 use mathlib.Core.List.{List, [], _∷_}
 use lib.Dec.{eqb, leb}
 use Rattle.unit.specs.Weights.{FIRST, LAST, BB, CD, CEB, on}

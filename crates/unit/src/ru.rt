@@ -27,31 +27,32 @@ pub fn data_ru_good(max: usize, d: DataHeader, n: usize) -> bool
     (n <= max) & ((1 <= n) | marks(ends))
 }
 
-// The RU of a kind that has a fixed one: the first len of these bytes.
+// The RU of a kind that has a fixed one: the first len of these bytes. The rest fill the array.
 pub(crate) struct FixedRu {
     pub bytes: [u8; 5],
     pub len: usize,
 }
 
-// Data has none, and of no byte is what it has here; a confirmation and a pacing response are empty.
+// The fixed byte strings: a bid is LUSTAT 04 00 06 00 00, a grant 04, a bid refusal 08 13 00 00 04.
+// Data has no fixed RU and gets the empty one, as a confirmation and a pacing response do.
 pub(crate) fn fixed_ru(h: Header) -> FixedRu
     ensures { λ r. ⌜ (take (r .len) (r .bytes) ≡ fixedRu h) × (r .len ≤ length (r .bytes)) ⌝ }
 {
     match h {
         Header::Bid(_) => FixedRu {
-            bytes: [0x04, 0x00, 0x06, 0x00, 0x00],
+            bytes: *b"\x04\x00\x06\x00\x00",
             len: 5,
         },
         Header::PositiveBidResponse => FixedRu {
-            bytes: [0x04, 0, 0, 0, 0],
+            bytes: *b"\x04\x00\x00\x00\x00",
             len: 1,
         },
         Header::NegativeBidResponse => FixedRu {
-            bytes: [0x08, 0x13, 0x00, 0x00, 0x04],
+            bytes: *b"\x08\x13\x00\x00\x04",
             len: 5,
         },
         Header::Data(_) | Header::Confirmation | Header::PacingResponse => FixedRu {
-            bytes: [0, 0, 0, 0, 0],
+            bytes: *b"\x00\x00\x00\x00\x00",
             len: 0,
         },
     }

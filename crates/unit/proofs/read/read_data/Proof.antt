@@ -11,21 +11,42 @@ keeps-h3-requires c κs = search needs
 
 returns : tie.Need-returns
 unfolding dataRead
-returns c = rw (← c .before .keeps-h3 .ensures, not-true (c .before .keeps-h3 .result) (c .if1 .taken))
+returns c =
+    let k3 = c .before .keeps-h3 in
+    rw (← k3 .ensures, not-true (k3 .result) (c .if1 .taken))
 
 keeps-h4-requires : tie.Need-keeps-h4-requires
 keeps-h4-requires c κs = search needs
 
 returns-2 : tie.Need-returns-2
 unfolding dataRead
-returns-2 c = rw (← c .before .before .before .keeps-h3 .ensures, not-false (c .before .before .before .keeps-h3 .result) (c .before .before .if1 .left), ← c .before .keeps-h4 .ensures, not-true (c .before .keeps-h4 .result) (c .if2 .taken))
+returns-2 c =
+    let k3 = c .before .before .before .keeps-h3 in
+    let k4 = c .before .keeps-h4 in
+    rw (
+      ← k3 .ensures,
+      not-false (k3 .result) (c .before .before .if1 .left),
+      ← k4 .ensures,
+      not-true (k4 .result) (c .if2 .taken),
+    )
 
 keeps-h5-requires : tie.Need-keeps-h5-requires
 keeps-h5-requires c κs = search needs
 
 returns-3 : tie.Need-returns-3
 unfolding dataRead
-returns-3 c = rw (← c .before .before .before .before .before .keeps-h3 .ensures, not-false (c .before .before .before .before .before .keeps-h3 .result) (c .before .before .before .before .if1 .left), ← c .before .before .before .keeps-h4 .ensures, not-false (c .before .before .before .keeps-h4 .result) (c .before .before .if2 .left), ← c .before .keeps-h5 .ensures, not-true (c .before .keeps-h5 .result) (c .if3 .taken))
+returns-3 c =
+    let k3 = c .before .before .before .before .before .keeps-h3 in
+    let k4 = c .before .before .before .keeps-h4 in
+    let k5 = c .before .keeps-h5 in
+    rw (
+      ← k3 .ensures,
+      not-false (k3 .result) (c .before .before .before .before .if1 .left),
+      ← k4 .ensures,
+      not-false (k4 .result) (c .before .before .if2 .left),
+      ← k5 .ensures,
+      not-true (k5 .result) (c .if3 .taken),
+    )
 
 data-fields-requires : tie.Need-data-fields-requires
 data-fields-requires c κs = search needs
@@ -38,7 +59,21 @@ good-or-requires c κs = search needs
 
 returns-4 : tie.Need-returns-4
 unfolding dataRead
-returns-4 c = rw (c .good-or .ensures, c .before .keeps-h6 .ensures, c .before .before .data-fields .ensures, ← c .before .before .before .before .before .before .before .before .keeps-h3 .ensures, not-false (c .before .before .before .before .before .before .before .before .keeps-h3 .result) (c .before .before .before .before .before .before .before .if1 .left), ← c .before .before .before .before .before .before .keeps-h4 .ensures, not-false (c .before .before .before .before .before .before .keeps-h4 .result) (c .before .before .before .before .before .if2 .left), ← c .before .before .before .before .keeps-h5 .ensures, not-false (c .before .before .before .before .keeps-h5 .result) (c .before .before .before .if3 .left))
+returns-4 c =
+    let k3 = c .before .before .before .before .before .before .before .before .keeps-h3 in
+    let k4 = c .before .before .before .before .before .before .keeps-h4 in
+    let k5 = c .before .before .before .before .keeps-h5 in
+    rw (
+      c .good-or .ensures,
+      c .before .keeps-h6 .ensures,
+      c .before .before .data-fields .ensures,
+      ← k3 .ensures,
+      not-false (k3 .result) (c .before .before .before .before .before .before .before .if1 .left),
+      ← k4 .ensures,
+      not-false (k4 .result) (c .before .before .before .before .before .if2 .left),
+      ← k5 .ensures,
+      not-false (k5 .result) (c .before .before .before .if3 .left),
+    )
 
 pub read-data-spec : {M : Type 1} → statement M
 read-data-spec =

@@ -1,6 +1,5 @@
 -- `unit::read::read_lowest` meets its contract. At each byte 0 of H1's list a law says what `readLowest` is; at any other it is H1 that is broken.
 -- Assumes nothing.
-use Prim.Native.Nat.{_≤_, _<_}
 use mathlib.Core.Path.{_∙_}
 use native.Mathlib.Omega.{arith}
 use Rattle.unit.proofs.Reading.{data-lowest, bid-lowest, response-lowest, positive-lowest, negative-lowest, no-kind}

@@ -38,14 +38,22 @@ enum-known-read-2 : tie.Need-enum-known-read-2
 enum-known-read-2 c = search needs
 
 returns-2 : tie.Need-returns-2
-returns-2 c = let q = c .before .before .before .read-header in
-    let n = c .before .before .before .before .before .before .before .number-of in
-    (unit-good (now (c .before .before .before .before .before .before .before .before .before .before .before .before .args .unit)) (n .result) (q .result) _ (c .before .before .before .before .before .before .before .before .before .before .if1 .left) (n .ensures) (q .ensures .0) (c .before .read .given .1), λ r e. good-names _ r e)
+returns-2 c =
+    let u = now (c .before .before .before .before .before .before .before .before .before .before .before .before .args .unit) in
+    let q = c .before .before .before .read-header in
+    let n = c .before .before .before .before .before .before .before .number-of in (
+      unit-good u (n .result) (q .result) _ (c .before .before .before .before .before .before .before .before .before .before .if1 .left) (n .ensures) (q .ensures .0) (c .before .read .given .1),
+      λ r e. good-names _ r e,
+    )
 
 returns-3 : tie.Need-returns-3
-returns-3 c = let q = c .before .before .before .read-header in
-    let d = c .before .read2 .given .1 in
-    (unit-breaks (now (c .before .before .before .before .before .before .before .before .before .before .before .before .args .unit)) (q .result) _ (c .before .before .before .before .before .before .before .before .before .before .if1 .left) (q .ensures .0) d, λ r e. q .ensures .1 r (unit-names (q .result) _ r d e))
+returns-3 c =
+    let u = now (c .before .before .before .before .before .before .before .before .before .before .before .before .args .unit) in
+    let q = c .before .before .before .read-header in
+    let d = c .before .read2 .given .1 in (
+      unit-breaks u (q .result) _ (c .before .before .before .before .before .before .before .before .before .before .if1 .left) (q .ensures .0) d,
+      λ r e. q .ensures .1 r (unit-names (q .result) _ r d e),
+    )
 
 pub read-unit-spec : {M : Type 1} → statement M
 read-unit-spec =

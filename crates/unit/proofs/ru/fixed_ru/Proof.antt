@@ -25,7 +25,7 @@ returns-3 : tie.Need-returns-3
 returns-3 c = search needs
 
 returns-4 : tie.Need-returns-4
-returns-4 c = (empty-ru (c .before .args .h) (c .match .keys4), omega arith)
+returns-4 c = (empty-ru (c .before .before .before .args .h) (c .before .before .match .keys4), omega arith)
 
 pub fixed-ru-spec : {M : Type 1} → statement M
 fixed-ru-spec =

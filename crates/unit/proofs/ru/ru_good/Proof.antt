@@ -25,7 +25,11 @@ same-requires : tie.Need-same-requires
 same-requires c κs = search needs
 
 returns : tie.Need-returns
-returns c = let a = c .before .before .before .before .before .before .args in c .same .ensures ∙ ap (sameBytes (now (a .ru))) (c .before .before .before .fixed-ru .ensures .0) ∙ wants-fixed (a .max) (a .h) (now (a .ru)) (c .before .before .before .before .match .keys2)
+returns c =
+    let a = c .before .before .before .before .before .before .args in
+    let ru = now (a .ru) in
+    c .same .ensures ∙ ap (sameBytes ru) (c .before .before .before .fixed-ru .ensures .0)
+    ∙ wants-fixed (a .max) (a .h) ru (c .before .before .before .before .match .keys2)
 
 data-ru-good-requires : tie.Need-data-ru-good-requires
 data-ru-good-requires c κs = search needs

@@ -1,11 +1,9 @@
 -- `unit::write::write_fixed` meets its contract. It is the unit whose RU is the fixed one and nothing more.
 -- Assumes nothing.
-use mathlib.Core.Path.{_∙_, sym, ap}
-use mathlib.Core.List.{List, append-nil}
-use Prim.Native.Nat.{ℕ}
+use mathlib.Core.Path.{_∙_, sym}
+use mathlib.Core.List.{append-nil}
 use lib.Seq.{length-take-le}
 use lib.ListN.{take}
-use denote.Ref.{now}
 use borrow.Author.Needs.{needs}
 use Rattle.unit.proofs.write.write_fixed.Statement.{statement}
 use Rattle.unit.proofs.write.write_fixed.Tie as tie

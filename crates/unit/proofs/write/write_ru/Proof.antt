@@ -25,8 +25,12 @@ same-length : tie.Need-same-length
 same-length c = search needs
 
 returns : tie.Need-returns
-returns c = let a = c .before .before .before .before .before .before .before .before .before .before .before .args in
-    two-copies (now (a .a)) (now (a .b)) (now (a .ru)) (c .before .before .before .before .before .before .copy .last .1 .0) (c .before .before .copy2 .last .1 .0) (c .before .before .before .before .before .before .copy .result) (c .before .before .before .before .before .before .copy .ensures .0) (c .before .before .before .before .before .before .copy .ensures .1) (c .before .before .copy2 .ensures .1)
+returns c =
+    let a = c .before .before .before .before .before .before .before .before .before .before .before .args in
+    let one = c .before .before .before .before .before .before .copy in
+    let two = c .before .before .copy2 in
+    two-copies (now (a .a)) (now (a .b)) (now (a .ru)) (one .last .1 .0) (two .last .1 .0) (one .result) (one .ensures .0) (one .ensures .1)
+    (two .ensures .1)
 
 pub write-ru-spec : {M : Type 1} → statement M
 write-ru-spec =

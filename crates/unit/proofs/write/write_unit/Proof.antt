@@ -44,9 +44,13 @@ same-length : tie.Need-same-length
 same-length c = search needs
 
 returns-3 : tie.Need-returns-3
-returns-3 c = let a = c .before .before .before .before .before .before .before .before .before .before .before .before .before .before .args in
-    made (a .number) (a .header) (c .before .before .before .before .before .before .before .before .build-header .result) (now (a .a)) (now (a .b)) (now (a .unit)) (c .before .before .before .before .before .before .write-heading .last .0) (c .before .before .write-ru .last .0) (omega arith)
-    (c .before .before .before .before .before .before .before .before .build-header .ensures) (c .before .before .before .before .before .before .write-heading .ensures) (c .before .before .write-ru .ensures)
+returns-3 c =
+    let a = c .before .before .before .before .before .before .before .before .before .before .before .before .before .before .args in
+    let h = c .before .before .before .before .before .before .before .before .build-header in
+    let one = c .before .before .before .before .before .before .write-heading in
+    let two = c .before .before .write-ru in
+    made (a .number) (a .header) (h .result) (now (a .a)) (now (a .b)) (now (a .unit)) (one .last .0) (two .last .0) (omega arith) (h .ensures)
+    (one .ensures) (two .ensures)
 
 pub write-unit-spec : {M : Type 1} → statement M
 write-unit-spec =

@@ -1,0 +1,49 @@
+-- What the calls ask of the finite part.
+-- Assumes nothing.
+use mathlib.Core.Bool.{Bool, true, false, not, _&&_, _||_}
+use Rattle.control.specs.Tests.{isFirstSpeaker, isBidder, isReset, isSend, isReceive, isConfirmOwed, isConfirmAwaited, agree}
+use Rattle.control.specs.declared.Control.{Control}
+
+-- ---- 7: does the state (and bid flag) allow it?
+
+abbrev pub mayAllocate : Control → Bool
+mayAllocate c = isReset (c .state) && not (c .bid)
+
+-- send data, flush, confirm, turn, end
+abbrev pub maySend : Control → Bool
+maySend c = isSend (c .state)
+
+abbrev pub mayConfirm : Control → Bool
+mayConfirm c = isConfirmOwed (c .state)
+
+-- the end holds send state, when two ends are compared
+abbrev pub holdsSend : Control → Bool
+holdsSend c = isSend (c .state)
+
+-- ---- take
+
+-- 24: is "first" on exactly when no chain is open? A bid counts as first
+abbrev pub chainFits : Bool → Control → Bool
+chainFits first c = agree first (not (c .inchain))
+
+-- 25: is data's BB on exactly at a bidder in Reset?
+abbrev pub bracketFits : Bool → Control → Bool
+bracketFits bb c = agree bb (isBidder (c .role) && isReset (c .state))
+
+-- 25: is a bid at role 0 only?
+abbrev pub bidFits : Control → Bool
+bidFits c = isFirstSpeaker (c .role)
+
+-- 26: is the state Receive, or Reset made Receive by BB?
+abbrev pub stateFits : Bool → Control → Bool
+stateFits bb c = isReceive (c .state) || (isReset (c .state) && bb)
+
+-- 28: does a grant, a bid refusal, a confirmation fit state or flag?
+abbrev pub grantFits : Control → Bool
+grantFits c = isReset (c .state) && c .bid
+
+abbrev pub refusalFits : Control → Bool
+refusalFits c = c .bid
+
+abbrev pub confirmationFits : Control → Bool
+confirmationFits c = isConfirmAwaited (c .state)

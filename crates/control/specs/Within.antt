@@ -1,0 +1,24 @@
+-- What the section 'The end's record' says of the finite part, a sentence a definition.
+-- Assumes nothing.
+use mathlib.Core.Bool.{Bool, true, false, not, _&&_, _||_}
+use Rattle.control.specs.Tests.{isFirstSpeaker, isBidder, isSend, isReceive, isNothing}
+use Rattle.control.specs.declared.Control.{Control}
+
+-- a mark stands only in Receive
+abbrev pub markInReceive : Control → Bool
+markInReceive c = isNothing (c .mark) || isReceive (c .state)
+
+-- BB-due: only a first speaker in Send, no sending chain open
+abbrev pub dueInSend : Control → Bool
+dueInSend c = not (c .due) || (isFirstSpeaker (c .role) && (isSend (c .state) && not (c .outchain)))
+
+-- flag bid: only a bidder
+abbrev pub bidAtBidder : Control → Bool
+bidAtBidder c = not (c .bid) || isBidder (c .role)
+
+-- outside Send the sending chain is closed
+abbrev pub chainInSend : Control → Bool
+chainInSend c = not (c .outchain) || isSend (c .state)
+
+unfoldable pub controlGood : Control → Bool
+controlGood c = markInReceive c && (dueInSend c && (bidAtBidder c && chainInSend c))

@@ -1,0 +1,44 @@
+// The finite part of an end's record: role, state, what follows a confirmation, the mark, the flags and the open chains,
+// with every transition of it. Numbers, windows and bytes are left to the end.
+
+pub mod questions;
+pub mod tests;
+pub mod transitions;
+
+// Document 01's role.
+pub enum Role {
+    FirstSpeaker,
+    Bidder,
+}
+
+// Document 01's state; ConfirmOwed is its Owes, ConfirmAwaited its Waits.
+pub enum State {
+    Reset,
+    Send,
+    Receive,
+    ConfirmOwed,
+    ConfirmAwaited,
+}
+
+// Document 01's mark: what the last unit taken says after its bytes, kept until a read answers it.
+pub enum WhatReceived {
+    Nothing,
+    Turn,
+    End,
+    Confirm,
+    ConfirmTurn,
+    ConfirmEnd,
+}
+
+// `follows` is what follows a confirmation; `due` is BB-due: the next data unit begins the bracket; `bid` is the flag bid: a
+// bid is unanswered; `outchain` and `inchain` say whether the sending and the receiving chain is open.
+pub struct Control {
+    pub role: Role,
+    pub state: State,
+    pub follows: unit::Follows,
+    pub mark: WhatReceived,
+    pub due: bool,
+    pub bid: bool,
+    pub outchain: bool,
+    pub inchain: bool,
+}

@@ -1,0 +1,123 @@
+// What question 5 and the calls ask of the finite part.
+use crate::Control;
+use crate::tests::agree;
+use crate::tests::is_bidder;
+use crate::tests::is_confirm_awaited;
+use crate::tests::is_confirm_owed;
+use crate::tests::is_first_speaker;
+use crate::tests::is_nothing;
+use crate::tests::is_receive;
+use crate::tests::is_reset;
+use crate::tests::is_send;
+ghost use mathlib.Core.Path.{_≡_};
+ghost use Rattle.control.specs.Within.{markInReceive, dueInSend, bidAtBidder, chainInSend, controlGood};
+ghost use Rattle.control.specs.Questions.{mayAllocate, maySend, mayConfirm, chainFits, bracketFits, bidFits, stateFits, grantFits, refusalFits, confirmationFits};
+
+impl Control {
+    fn mark_in_receive(self) -> bool
+        ensures { λ r. ⌜ r ≡ markInReceive self ⌝ }
+    {
+        let mark = self.mark;
+        let state = self.state;
+        is_nothing(mark) | is_receive(state)
+    }
+
+    fn due_in_send(self) -> bool
+        ensures { λ r. ⌜ r ≡ dueInSend self ⌝ }
+    {
+        let role = self.role;
+        let state = self.state;
+        !self.due | (is_first_speaker(role) & (is_send(state) & !self.outchain))
+    }
+
+    fn bid_at_bidder(self) -> bool
+        ensures { λ r. ⌜ r ≡ bidAtBidder self ⌝ }
+    {
+        let role = self.role;
+        !self.bid | is_bidder(role)
+    }
+
+    fn chain_in_send(self) -> bool
+        ensures { λ r. ⌜ r ≡ chainInSend self ⌝ }
+    {
+        let state = self.state;
+        !self.outchain | is_send(state)
+    }
+
+    // The finite part is within the section 'The end's record'.
+    pub fn control_good(self) -> bool
+        ensures { λ r. ⌜ r ≡ controlGood self ⌝ }
+    {
+        self.mark_in_receive()
+            & (self.due_in_send() & (self.bid_at_bidder() & self.chain_in_send()))
+    }
+
+    pub fn may_allocate(self) -> bool
+        ensures { λ r. ⌜ r ≡ mayAllocate self ⌝ }
+    {
+        let state = self.state;
+        is_reset(state) & !self.bid
+    }
+
+    pub fn may_send(self) -> bool
+        ensures { λ r. ⌜ r ≡ maySend self ⌝ }
+    {
+        let state = self.state;
+        is_send(state)
+    }
+
+    pub fn may_confirm(self) -> bool
+        ensures { λ r. ⌜ r ≡ mayConfirm self ⌝ }
+    {
+        let state = self.state;
+        is_confirm_owed(state)
+    }
+
+    pub fn chain_fits(self, first: bool) -> bool
+        ensures { λ r. ⌜ r ≡ chainFits first self ⌝ }
+    {
+        agree(first, !self.inchain)
+    }
+
+    pub fn bracket_fits(self, bb: bool) -> bool
+        ensures { λ r. ⌜ r ≡ bracketFits bb self ⌝ }
+    {
+        let role = self.role;
+        let state = self.state;
+        agree(bb, is_bidder(role) & is_reset(state))
+    }
+
+    pub fn bid_fits(self) -> bool
+        ensures { λ r. ⌜ r ≡ bidFits self ⌝ }
+    {
+        let role = self.role;
+        is_first_speaker(role)
+    }
+
+    pub fn state_fits(self, bb: bool) -> bool
+        ensures { λ r. ⌜ r ≡ stateFits bb self ⌝ }
+    {
+        let state = self.state;
+        is_receive(state) | (is_reset(state) & bb)
+    }
+
+    pub fn grant_fits(self) -> bool
+        ensures { λ r. ⌜ r ≡ grantFits self ⌝ }
+    {
+        let state = self.state;
+        is_reset(state) & self.bid
+    }
+
+    pub fn refusal_fits(self) -> bool
+        ensures { λ r. ⌜ r ≡ refusalFits self ⌝ }
+    {
+        self.bid
+    }
+
+    pub fn confirmation_fits(self) -> bool
+        ensures { λ r. ⌜ r ≡ confirmationFits self ⌝ }
+    {
+        let state = self.state;
+        is_confirm_awaited(state)
+    }
+}

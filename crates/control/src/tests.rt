@@ -1,0 +1,104 @@
+// Tests of roles, states and marks.
+use crate::Role;
+use crate::State;
+use crate::WhatReceived;
+ghost use mathlib.Core.Path.{_≡_};
+ghost use Rattle.control.specs.Tests.{isFirstSpeaker, isBidder, isReset, isSend, isReceive, isConfirmOwed, isConfirmAwaited, isNothing, agree};
+
+pub fn is_first_speaker(r: Role) -> bool
+    ensures { λ b. ⌜ b ≡ isFirstSpeaker r ⌝ }
+{
+    match r {
+        Role::FirstSpeaker => true,
+        Role::Bidder => false,
+    }
+}
+
+pub fn is_bidder(r: Role) -> bool
+    ensures { λ b. ⌜ b ≡ isBidder r ⌝ }
+{
+    match r {
+        Role::FirstSpeaker => false,
+        Role::Bidder => true,
+    }
+}
+
+pub fn is_reset(s: State) -> bool
+    ensures { λ b. ⌜ b ≡ isReset s ⌝ }
+{
+    match s {
+        State::Reset => true,
+        State::Send => false,
+        State::Receive => false,
+        State::ConfirmOwed => false,
+        State::ConfirmAwaited => false,
+    }
+}
+
+pub fn is_send(s: State) -> bool
+    ensures { λ b. ⌜ b ≡ isSend s ⌝ }
+{
+    match s {
+        State::Reset => false,
+        State::Send => true,
+        State::Receive => false,
+        State::ConfirmOwed => false,
+        State::ConfirmAwaited => false,
+    }
+}
+
+pub fn is_receive(s: State) -> bool
+    ensures { λ b. ⌜ b ≡ isReceive s ⌝ }
+{
+    match s {
+        State::Reset => false,
+        State::Send => false,
+        State::Receive => true,
+        State::ConfirmOwed => false,
+        State::ConfirmAwaited => false,
+    }
+}
+
+pub fn is_confirm_owed(s: State) -> bool
+    ensures { λ b. ⌜ b ≡ isConfirmOwed s ⌝ }
+{
+    match s {
+        State::Reset => false,
+        State::Send => false,
+        State::Receive => false,
+        State::ConfirmOwed => true,
+        State::ConfirmAwaited => false,
+    }
+}
+
+pub fn is_confirm_awaited(s: State) -> bool
+    ensures { λ b. ⌜ b ≡ isConfirmAwaited s ⌝ }
+{
+    match s {
+        State::Reset => false,
+        State::Send => false,
+        State::Receive => false,
+        State::ConfirmOwed => false,
+        State::ConfirmAwaited => true,
+    }
+}
+
+pub fn is_nothing(m: WhatReceived) -> bool
+    ensures { λ b. ⌜ b ≡ isNothing m ⌝ }
+{
+    match m {
+        WhatReceived::Nothing => true,
+        WhatReceived::Turn => false,
+        WhatReceived::End => false,
+        WhatReceived::Confirm => false,
+        WhatReceived::ConfirmTurn => false,
+        WhatReceived::ConfirmEnd => false,
+    }
+}
+
+// One is on exactly when the other is.
+pub fn agree(a: bool, b: bool) -> bool
+    ensures { λ r. ⌜ r ≡ agree a b ⌝ }
+{
+    if a { b } else { !b }
+}

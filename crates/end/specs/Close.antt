@@ -1,0 +1,69 @@
+-- Flush, confirm, turn and end, in Send: one last unit with the held bytes, perhaps none, CD for turn, CEB for end. Flush says nothing to follow and
+-- requests no confirmation; with no byte held it makes no unit.
+-- Assumes nothing.
+use Prim.Native.Nat.{ℕ}
+use mathlib.Core.Bool.{Bool, true, false, not, cond, _&&_, _||_}
+use mathlib.Core.List.{List, [], _∷_}
+use lib.Dec.{eqb}
+use lib.ListN.{length}
+use Rattle.logical_record.specs.Positions.{isWhole}
+use Rattle.unit.specs.Ru.{marks}
+use Rattle.unit.specs.declared.Follows.{Follows}
+use Rattle.unit.specs.declared.Follows.the-variants.{Stay, ChangeDirection, EndBracket}
+use Rattle.unit.specs.declared.ChainEnd.{ChainEnd}
+use Rattle.unit.specs.declared.ChainEnd.the-variants.{Last}
+use Rattle.pacing.specs.Pacing.{hasCredit}
+use Rattle.control.specs.Questions.{maySend}
+use Rattle.control.specs.Transitions.{closed}
+use Rattle.end.specs.Questions.{firstNo}
+use Rattle.end.specs.Answers.{BAD-BUFFER, BAD-RECORD, WRONG-STATE, UNFINISHED-RECORD, NO-CREDIT}
+use Rattle.end.specs.Record.{recordGood, sendLent, unitLent}
+use Rattle.end.specs.Requests.{nextNumber, requestMade, dataHeader}
+use Rattle.end.specs.SendData.{heldBytes}
+use Rattle.end.specs.Outcome.{Out, nothing, aUnit, Decision, accept, decided, Made, made, withControl, withSending}
+use Rattle.end.specs.declared.End.{End}
+
+-- a flush of no byte: no unit goes
+abbrev pub nothingGoes : End → Follows → Bool → Bool
+nothingGoes e f confirm = not (marks (Last f confirm)) && eqb (e .sending .held) 0
+
+abbrev pub closeQuestions : End → Follows → Bool → ℕ → ℕ → List (Bool × ℕ)
+closeQuestions e f confirm send unit =
+    (sendLent e send && unitLent e unit, BAD-BUFFER)
+    ∷ (recordGood e, BAD-RECORD)
+    ∷ (maySend (e .control), WRONG-STATE)
+    ∷ (not (marks (Last f confirm)) || isWhole (e .sending .given), UNFINISHED-RECORD)
+    ∷ (nothingGoes e f confirm || hasCredit (e .sending .window), NO-CREDIT)
+    ∷ []
+
+unfoldable pub closeRefusal : End → Follows → Bool → ℕ → ℕ → ℕ
+closeRefusal e f confirm send unit = firstNo (closeQuestions e f confirm send unit)
+
+unfoldable pub lastMade : End → Follows → Bool → List ℕ → Decision
+lastMade e f confirm send =
+    accept
+    (withSending (requestMade 0 (e .sending .given) (e .sending)) (withControl (closed f confirm (e .control)) e))
+    (aUnit (nextNumber (e .sending .number)) (dataHeader e (Last f confirm)) (heldBytes e send))
+
+unfoldable pub closeDecision : End → Follows → Bool → List ℕ → ℕ → Decision
+closeDecision e f confirm send unit =
+    decided (closeRefusal e f confirm (length send) unit) e (cond (nothingGoes e f confirm) (accept e nothing) (lastMade e f confirm send))
+
+unfoldable pub close : Follows → Bool → End → List ℕ → List ℕ → Made
+close f confirm e send unit = made (closeDecision e f confirm send (length unit)) unit
+
+-- ---- the paper's calls
+
+abbrev pub flush : End → List ℕ → List ℕ → Made
+flush e send unit = close Stay false e send unit
+
+abbrev pub confirm : End → List ℕ → List ℕ → Made
+confirm e send unit = close Stay true e send unit
+
+-- turn
+abbrev pub prepareToReceive : Bool → End → List ℕ → List ℕ → Made
+prepareToReceive confirmed e send unit = close ChangeDirection confirmed e send unit
+
+-- end
+abbrev pub deallocate : Bool → End → List ℕ → List ℕ → Made
+deallocate confirmed e send unit = close EndBracket confirmed e send unit

@@ -1,0 +1,13 @@
+pub mod Questions
+pub mod Answers
+pub mod Record
+pub mod Requests
+pub mod Outcome
+pub mod Opening
+pub mod Allocate
+pub mod SendData
+pub mod Close
+pub mod Confirmed
+pub mod ReceiveUnit
+pub mod Receive
+pub mod Pace

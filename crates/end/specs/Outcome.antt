@@ -1,0 +1,98 @@
+-- What a call leaves: a pure decision first, and then its cells by one writer.
+-- Assumes nothing.
+use Prim.Native.Nat.{ℕ, _+_}
+use mathlib.Core.Bool.{Bool, cond}
+use mathlib.Core.List.{List, [], _∷_}
+use lib.Dec.{eqb}
+use lib.ListN.{length}
+use Rattle.cells.specs.Cells.{front}
+use Rattle.unit.specs.Unit.{RU-START, unitOf}
+use Rattle.unit.specs.declared.Header.{Header}
+use Rattle.control.specs.declared.Control.{Control}
+use Rattle.end.specs.Answers.{accepted, refused}
+use Rattle.end.specs.declared.End.{End}
+use Rattle.end.specs.declared.Sending.{Sending}
+use Rattle.end.specs.declared.Receiving.{Receiving}
+use Rattle.end.specs.declared.Answer.{Answer}
+use Rattle.end.specs.declared.Done.{Done}
+use Rattle.end.specs.declared.ReadDone.{ReadDone}
+
+-- the unit that a call makes, if it makes one: number, header and RU
+pub data Out : Type 0 where
+  nothing : Out
+  aUnit : ℕ → Header → List ℕ → Out
+
+abbrev pub lengthOut : Out → ℕ
+lengthOut nothing = 0
+lengthOut (aUnit n h ru) = RU-START + length ru
+
+-- the unit stands at the front of the unit buffer
+abbrev pub cellsOut : Out → List ℕ → List ℕ
+cellsOut nothing cells = cells
+cellsOut (aUnit n h ru) cells = front (unitOf n h ru) cells
+
+-- the decision of a call: its refusal number, 0 if it is accepted; the new record; and the unit made
+pub record Decision : Type 0 where
+  pub refusal : ℕ
+  pub end : End
+  pub out : Out
+
+-- refused: nothing is changed and nothing made
+abbrev pub refuse : ℕ → End → Decision
+refuse q e = record { refusal = q; end = e; out = nothing }
+
+abbrev pub accept : End → Out → Decision
+accept e u = record { refusal = 0; end = e; out = u }
+
+-- the questions are asked, and the effect stands if none is answered no
+abbrev pub decided : ℕ → End → Decision → Decision
+decided q e d = cond (eqb q 0) d (refuse q e)
+
+abbrev pub answerOf : Decision → Answer
+answerOf d = cond (eqb (d .refusal) 0) (accepted (lengthOut (d .out))) (refused (d .refusal))
+
+abbrev pub doneOf : Decision → Done
+doneOf d = record { answer = answerOf d; end = d .end }
+
+-- what a call leaves that is lent the unit buffer
+pub record Made : Type 0 where
+  pub done : Done
+  pub unit : List ℕ
+
+-- the send buffer and the unit buffer
+pub record Sent : Type 0 where
+  pub done : Done
+  pub send : List ℕ
+  pub unit : List ℕ
+
+-- the inbox and the unit buffer
+pub record Taken : Type 0 where
+  pub done : Done
+  pub inbox : List ℕ
+  pub unit : List ℕ
+
+-- the inbox and the caller's buffer
+pub record Copied : Type 0 where
+  pub done : ReadDone
+  pub inbox : List ℕ
+  pub buffer : List ℕ
+
+abbrev pub made : Decision → List ℕ → Made
+made d cells = record { done = doneOf d; unit = cellsOut (d .out) cells }
+
+-- ---- parts of a record changed
+
+abbrev pub withControl : Control → End → End
+withControl c e = record { control = c; sending = e .sending; receiving = e .receiving; bidding = e .bidding; owed = e .owed }
+
+abbrev pub withSending : Sending → End → End
+withSending s e = record { control = e .control; sending = s; receiving = e .receiving; bidding = e .bidding; owed = e .owed }
+
+abbrev pub withReceiving : Receiving → End → End
+withReceiving r e = record { control = e .control; sending = e .sending; receiving = r; bidding = e .bidding; owed = e .owed }
+
+abbrev pub withBidding : ℕ → End → End
+withBidding n e = record { control = e .control; sending = e .sending; receiving = e .receiving; bidding = n; owed = e .owed }
+
+abbrev pub withOwed : ℕ → End → End
+withOwed n e = record { control = e .control; sending = e .sending; receiving = e .receiving; bidding = e .bidding; owed = n }

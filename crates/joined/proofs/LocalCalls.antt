@@ -1,0 +1,343 @@
+-- Every call keeps what holds at its end by itself.
+-- Assumes nothing.
+use Prim.Native.Nat.{ℕ, _+_, _-_, _*_, _≤_, _<_, min}
+use mathlib.Core.Path.{_≡_, refl, sym, ap, _∙_, subst}
+use mathlib.Core.Bool.{Bool, true, false, not, cond, _&&_, _||_}
+use mathlib.Core.List.{List, [], _∷_, _++_, append-nil, append-assoc}
+use native.Mathlib.Nat.{le-min}
+use native.Mathlib.Omega.{arith}
+use borrow.Author.Tests.{eqb-true, leb-true}
+use lib.Dec.{eqb, leb}
+use lib.ListN.{length, take, drop, getD}
+use lib.Seq.{length-take-le}
+use Rattle.cells.specs.Cells.{front, written}
+use Rattle.logical_record.specs.Positions.{start, isWhole, isBetween}
+use Rattle.logical_record.specs.Walk.{thenWalk, walk}
+use Rattle.logical_record.specs.Reading.{rest}
+use Rattle.logical_record.proofs.Walks.{walk-append, walk-prefix, Through}
+use Rattle.logical_record.proofs.Rests.{rest-some, rest-walks, RestIs}
+use Rattle.logical_record.specs.declared.Position.{Position}
+use Rattle.logical_record.specs.declared.Walked.{Walked}
+use Rattle.logical_record.specs.declared.Walked.the-variants.{At, BadLength}
+use Rattle.logical_record.specs.declared.Rest.{Rest}
+use Rattle.logical_record.specs.declared.Rest.the-variants as restIs
+use Rattle.unit.specs.Ru.{marks, fixedRu, bidRu}
+use Rattle.unit.specs.Unit.{unitOf, numberIn, RU-START}
+use Rattle.unit.specs.declared.Follows.{Follows}
+use Rattle.unit.specs.declared.Follows.the-variants.{Stay, ChangeDirection, EndBracket}
+use Rattle.unit.specs.declared.ChainEnd.{ChainEnd}
+use Rattle.unit.specs.declared.ChainEnd.the-variants.{Continues, Last}
+use Rattle.unit.specs.declared.Header.{Header}
+use Rattle.unit.specs.declared.Header.the-variants.{Data, Bid, PositiveBidResponse, NegativeBidResponse, Confirmation, PacingResponse}
+use Rattle.pacing.specs.Pacing.{hasCredit, paced, credit, advanced, answered}
+use Rattle.control.specs.Tests.{isFirstSpeaker, isReset, isSend, isReceive, isConfirmOwed, isConfirmAwaited, isNothing}
+use Rattle.control.specs.Questions.{mayAllocate, maySend, mayConfirm, stateFits, confirmationFits}
+use Rattle.control.specs.Transitions.{setState, setDue, setBid, allocated, spilled, closed, afterLast, confirmationMade, markAnswered, dataTaken, bidTaken, bidAnswer, grantTaken, refusalTaken, confirmationTaken}
+use Rattle.control.specs.Within.{markInReceive}
+use Rattle.control.specs.declared.Control.{Control}
+use Rattle.control.specs.declared.State.{State}
+use Rattle.control.specs.declared.State.the-variants.{Reset, Send, Receive, ConfirmOwed, ConfirmAwaited}
+use Rattle.control.specs.declared.WhatReceived.the-variants as mark
+use Rattle.end.specs.Questions.{firstNo}
+use Rattle.end.specs.Record.{recordGood, inboxLent}
+use Rattle.end.specs.Answers.{senses}
+use Rattle.end.specs.Requests.{nextNumber, requestMade, requestTaken, dataHeader}
+use Rattle.end.specs.Allocate.{bidMade}
+use Rattle.end.specs.SendData.{placeOr, heldBytes, bytesKept, bytesSpilled}
+use Rattle.end.specs.Close.{nothingGoes, lastMade, close}
+use Rattle.end.specs.ReceiveUnit.{kindQuestions, recordsFit, headerTaken, ruTaken, dataJoined, bidAnswered, creditRaised, takeRefusal}
+use Rattle.end.specs.Receive.{inboxBytes, restGood, restBytes, recordRest, someHeld, readRefusal, copyCount, bytesRead, markRead}
+use Rattle.end.specs.declared.End.{End}
+use Rattle.joined.specs.Joined.{Acted, Took, acted, took}
+use Rattle.joined.specs.Ends.{Station, Verb, Reply, makes, acts, takes}
+use Rattle.joined.specs.Histories.{Log, isBreach, bytesInInbox, requestsAmong, count, isPacingResponse}
+use Rattle.joined.specs.Histories as H
+use Rattle.joined.proofs.Rows.{left, right, all-yes}
+use Rattle.joined.proofs.Acts.{allocate-cases, bidNumber, send-cases, SendAsked, spilledRu, close-cases, CloseAsked, confirmed-cases, pace-cases, read-cases, ReadAsked, readCount, take-cases, TakeAsked, tookKind}
+use Rattle.joined.proofs.Good.{never, window-out, inbox-most, position-in, marked-in-receive, reset-not-send, receive-not-send}
+use Rattle.joined.proofs.Units.{asksFor, requests-unit, pacing-taken}
+use Rattle.joined.proofs.Paces.{isPacing, paces-answered}
+use Rattle.joined.proofs.Counts.{request-costs, response-raises}
+use Rattle.joined.proofs.Bytes.{held-more}
+use Rattle.joined.proofs.BytesCalls.{count-held, moved-left, read-parts, inbox-holds, read-copied}
+use Rattle.joined.proofs.Local.{Values, valuesOf, Local, local-act, local-refused, local-read, local-took, local-take-refused}
+
+-- ---- units and credit
+
+-- a request made costs 1, any other unit nothing
+request-made : (s : Station) (n : ℕ) (h : Header) (ru : List ℕ) → asksFor h ≡ true → recordGood (s .end) ≡ true → hasCredit (s .end .sending .window) ≡ true
+    → requestsAmong (unitOf n h ru ∷ []) + credit (advanced (s .end .sending .window)) ≡ credit (s .end .sending .window)
+request-made s n h ru e g k =
+    let w = s .end .sending .window in
+    let q = requests-unit n h ru ∙ ap (λ (b : Bool). count b + 0) e in
+    let c = request-costs w (window-out (s .end) g) k in
+    ap (λ (m : ℕ). m + credit (advanced w)) q ∙ (let z : 1 + 0 + credit (advanced w) ≡ credit w = omega (arith, c) in z)
+
+other-made : (n c : ℕ) (h : Header) (ru : List ℕ) → asksFor h ≡ false → requestsAmong (unitOf n h ru ∷ []) + c ≡ c
+other-made n c h ru e =
+    let q = requests-unit n h ru ∙ ap (λ (b : Bool). count b + 0) e in
+    ap (λ (m : ℕ). m + c) q ∙ (let z : 0 + 0 + c ≡ c = omega arith in z)
+
+none-made : (c : ℕ) → requestsAmong [] + c ≡ c
+unfolding requestsAmong
+none-made c = let z : 0 + c ≡ c = omega arith in z
+
+data-asks : (s : Station) (ends : ChainEnd) → asksFor (dataHeader (s .end) ends) ≡ true
+unfolding dataHeader
+data-asks s ends = refl
+
+-- ---- states
+
+owed-not-send : (s : State) → isConfirmOwed s ≡ true → isSend s ≡ false
+owed-not-send Reset e = refl
+owed-not-send Send e = absurd (never (sym e))
+owed-not-send Receive e = refl
+owed-not-send ConfirmOwed e = refl
+owed-not-send ConfirmAwaited e = refl
+
+awaited-not-send : (s : State) → isConfirmAwaited s ≡ true → isSend s ≡ false
+awaited-not-send Reset e = refl
+awaited-not-send Send e = absurd (never (sym e))
+awaited-not-send Receive e = refl
+awaited-not-send ConfirmOwed e = refl
+awaited-not-send ConfirmAwaited e = refl
+
+-- 26: data comes only outside Send
+fits-not-send : (s : State) (b : Bool) → isReceive s || (isReset s && b) ≡ true → isSend s ≡ false
+fits-not-send Reset b e = refl
+fits-not-send Send b e = absurd (never (sym e))
+fits-not-send Receive b e = refl
+fits-not-send ConfirmOwed b e = refl
+fits-not-send ConfirmAwaited b e = refl
+
+-- a mark stands only outside Send
+or-right : (a b : Bool) → a || b ≡ true → a ≡ false → b ≡ true
+or-right true b e f = absurd (never f)
+or-right false b e f = e
+
+not-true : (a : Bool) → not a ≡ true → a ≡ false
+not-true true e = absurd (never (sym e))
+not-true false e = refl
+
+marked-not-send : (e : End) → recordGood e ≡ true → not (isNothing (e .control .mark)) ≡ true → isSend (e .control .state) ≡ false
+marked-not-send e g n =
+    receive-not-send (e .control .state)
+    (or-right (isNothing (e .control .mark)) (isReceive (e .control .state)) (marked-in-receive e g) (not-true (isNothing (e .control .mark)) n))
+
+-- ---- calls that the end answers by itself
+
+module _ (s : Station) (xs : Log) (l : Local (valuesOf s) xs) where
+  abbrev After : Verb → Acted Station Reply (List ℕ) → Type 0
+  After v m = Local (valuesOf (m .end)) (acted v (m .answer) (m .sent) ∷ xs)
+
+  here : walk (s .end .sending .given) [] ≡ At (s .end .sending .given)
+  unfolding thenWalk
+  here = refl
+
+  refuses : (v : Verb) → ((q : ℕ) → H.isBadRead v q ≡ false) → (q : ℕ) → eqb q 0 ≡ false → Local (valuesOf s) (acted v (record { answer = record { answer = record { refusal = q; sense = getD senses q 0; rule = 0; unit = 0 }; copied = 0; complete = false; mark = mark.Nothing }; buffer = [] }) [] ∷ xs)
+  refuses v b q n = local-refused v q [] n (b q) l
+
+  -- the given place is whole unless the state after a last unit is Send
+  closed-whole : (f : Follows) (c : Bool) (p : Position) → not (marks (Last f c)) || isWhole p ≡ true → isSend (closed f c (s .end .control) .state) ≡ false → isWhole p ≡ true
+  unfolding closed
+  closed-whole Stay true p w n = w
+  closed-whole Stay false p w n = absurd (never n)
+  closed-whole ChangeDirection true p w n = w
+  closed-whole ChangeDirection false p w n = w
+  closed-whole EndBracket true p w n = w
+  closed-whole EndBracket false p w n = w
+
+  closes : (v : Verb) → H.given v 0 ≡ [] → ((q : ℕ) → H.isBadRead v q ≡ false) → (f : Follows) (c : Bool) → After v (makes s (close f c (s .end) (s .send) (s .unit)))
+  unfolding lastMade requestMade advanced
+  closes v z b f c =
+      let still : walk (s .end .sending .given) (H.given v 0) ≡ At (s .end .sending .given) = ap (walk (s .end .sending .given)) z ∙ here in
+      close-cases (After v) s f c (refuses v b)
+      (λ a n. local-act v 0 mark.Nothing [] [] (valuesOf s) l still (l .whole) refl refl refl refl (none-made (credit (s .end .sending .window))) (b 0))
+      (λ a n k.
+      let h = dataHeader (s .end) (Last f c) in
+      let ru = heldBytes (s .end) (s .send) in
+      let u = unitOf (nextNumber (s .end .sending .number)) h ru in
+      local-act v (RU-START + length ru) mark.Nothing [] (u ∷ []) _ l still
+      (closed-whole f c (s .end .sending .given) (a .whole)) refl refl refl refl
+      (request-made s (nextNumber (s .end .sending .number)) h ru (data-asks s (Last f c)) (a .good) k) (b 0))
+
+  speaking : isFirstSpeaker (s .end .control .role) ≡ true → isSend (allocated (s .end .control) .state) ≡ true
+  unfolding allocated
+  speaking e = by (isFirstSpeaker (s .end .control .role)) e
+    where
+      by : (b : Bool) → b ≡ true → isSend (cond b (setDue true (setState Send (s .end .control))) (setBid true (s .end .control)) .state) ≡ true
+      by true f = refl
+      by false f = absurd (never (sym f))
+
+  at-place : (g p : Position) (w : Walked) → w ≡ At p → w ≡ At (placeOr g w)
+  at-place g p (At q) e = refl
+  at-place g p BadLength e = absurd (let z : _≡_ {A = ℕ} 0 1 = cc in omega arith)
+
+  -- ---- a read
+
+  rest-is : restGood (recordRest (s .end) (s .inbox)) ≡ true
+  rest-is =
+      let i : RestIs (s .end .receiving .read) (bytesInInbox s) = rest-walks (s .end .receiving .read) (s .end .receiving .taken) (bytesInInbox s) (l .inbox) in
+      ap restGood (i .is)
+
+  -- 8 is never the number
+  not-8 : (a b c d e : Bool) → d ≡ true → eqb (firstNo ((a, 4) ∷ (b, 5) ∷ (c, 6) ∷ (d, 8) ∷ (e, 12) ∷ [])) 8 ≡ false
+  not-8 false b c d e h = refl
+  not-8 true false c d e h = refl
+  not-8 true true false d e h = refl
+  not-8 true true true true true h = refl
+  not-8 true true true true false h = refl
+  not-8 true true true false e h = absurd (never (sym h))
+
+  never-refused : (buffer : List ℕ) (q : ℕ) → q ≡ readRefusal (s .end) (s .inbox) (length buffer) → eqb q 8 ≡ false
+  unfolding readRefusal
+  never-refused buffer q e =
+      ap (λ (n : ℕ). eqb n 8) e
+      ∙ not-8 (inboxLent (s .end) (length (s .inbox))) (recordGood (s .end)) (leb 1 (length buffer)) (restGood (recordRest (s .end) (s .inbox)))
+      (someHeld (s .end) || not (isNothing (s .end .control .mark))) rest-is
+
+  bytes-of : (r : Rest) → restGood r ≡ true → r ≡ restIs.Bytes (restBytes r)
+  bytes-of (restIs.Bytes n) e = refl
+  bytes-of restIs.BadLength e = absurd (never (sym e))
+
+  -- at least one byte is copied
+  some-copied : (buffer : List ℕ) → ReadAsked s buffer → someHeld (s .end) ≡ true → 1 ≤ readCount s buffer
+  unfolding copyCount
+  some-copied buffer a h =
+      let held : 1 ≤ s .end .receiving .held = leb-true 1 (s .end .receiving .held) h in
+      let long : length (bytesInInbox s) ≡ s .end .receiving .held = length-take-le (s .end .receiving .held) (s .inbox) (inbox-holds s buffer a) in
+      let some : 0 < restBytes (recordRest (s .end) (s .inbox)) =
+      rest-some (s .end .receiving .read) (bytesInInbox s) (restBytes (recordRest (s .end) (s .inbox))) (position-in (s .end) (a .good))
+      (omega (arith, long, held)) (bytes-of (recordRest (s .end) (s .inbox)) (a .rest)) in
+      le-min (a .least) (le-min held some)
+
+  reads : (buffer : List ℕ) → After (Verb.receive buffer) (acts s (Verb.receive buffer))
+  unfolding bytesRead markRead
+  reads buffer =
+      read-cases (After (Verb.receive buffer)) s buffer (λ q w n. local-refused (Verb.receive buffer) q buffer n (never-refused buffer q w) l)
+      (λ a h.
+      let k = readCount s buffer in
+      let t : Through (s .end .receiving .read) (take k (s .inbox)) (drop k (bytesInInbox s)) (s .end .receiving .taken) =
+      walk-prefix (s .end .receiving .read) (s .end .receiving .taken) (take k (s .inbox)) (drop k (bytesInInbox s))
+      (subst (λ (bs : List ℕ). walk (s .end .receiving .read) bs ≡ At (s .end .receiving .taken)) (read-parts s buffer) (l .inbox)) in
+      local-read buffer k (take k (s .inbox)) (drop k (bytesInInbox s)) (front (take k (s .inbox)) buffer) _ l (some-copied buffer a h)
+      (read-copied s buffer a) (read-parts s buffer)
+      (at-place (s .end .receiving .read) (t .middle) (walk (s .end .receiving .read) (take k (s .inbox))) (t .first))
+      (moved-left s k (inbox-holds s buffer a)) refl refl refl refl refl)
+      (λ a h m.
+      local-act (Verb.receive buffer) 0 (s .end .control .mark) buffer [] _ l here (λ n. l .whole (marked-not-send (s .end) (a .good) m)) refl refl refl refl
+      (none-made (credit (s .end .sending .window))) refl)
+
+  pub local-acts : (v : Verb) → After v (acts s v)
+  unfolding acts bytesKept bytesSpilled bidMade requestMade advanced spilled answered
+  local-acts Verb.allocate =
+      allocate-cases (After Verb.allocate) s (refuses Verb.allocate (λ q. refl))
+      (λ g a w.
+      local-act Verb.allocate 0 mark.Nothing [] [] _ l here (λ n. absurd (never (sym (speaking w) ∙ n))) refl refl refl refl
+      (none-made (credit (s .end .sending .window))) refl)
+      (λ g a w k.
+      local-act Verb.allocate 10 mark.Nothing [] (unitOf (bidNumber (s .end)) (Bid (paced (s .end .sending .window))) bidRu ∷ []) _ l here
+      (λ n. l .whole (reset-not-send (s .end .control .state) (left (isReset (s .end .control .state)) (not (s .end .control .bid)) a))) refl refl refl refl
+      (request-made s (bidNumber (s .end)) (Bid (paced (s .end .sending .window))) bidRu refl g k) refl)
+  local-acts Verb.flush = closes Verb.flush refl (λ q. refl) Stay false
+  local-acts Verb.confirm = closes Verb.confirm refl (λ q. refl) Stay true
+  local-acts Verb.confirmed =
+      confirmed-cases (After Verb.confirmed) s (refuses Verb.confirmed (λ q. refl))
+      (λ g a.
+      local-act Verb.confirmed 5 mark.Nothing [] (unitOf (s .end .owed) Confirmation [] ∷ []) _ l here
+      (λ n. l .whole (owed-not-send (s .end .control .state) a)) refl refl refl refl
+      (other-made (s .end .owed) (credit (s .end .sending .window)) Confirmation [] refl) refl)
+  local-acts Verb.pace =
+      pace-cases (After Verb.pace) s (refuses Verb.pace (λ q. refl))
+      (λ g a.
+      local-act Verb.pace 5 mark.Nothing [] (unitOf 0 PacingResponse [] ∷ []) _ l here (l .whole) refl refl refl refl
+      (other-made 0 (credit (s .end .sending .window)) PacingResponse [] refl) refl)
+  local-acts (Verb.sendData bytes) =
+      let g = s .end .sending .given in
+      send-cases (After (Verb.sendData bytes)) s bytes (refuses (Verb.sendData bytes) (λ q. refl))
+      (λ a k.
+      local-act (Verb.sendData bytes) 0 mark.Nothing [] [] _ l (at-place g (a .place) (walk g bytes) (a .walked))
+      (λ n. absurd (never (sym (a .sending) ∙ n))) refl refl refl refl (none-made (credit (s .end .sending .window))) refl)
+      (λ a k h.
+      let hd = dataHeader (s .end) Continues in
+      local-act (Verb.sendData bytes) (RU-START + length (spilledRu s bytes)) mark.Nothing []
+      (unitOf (nextNumber (s .end .sending .number)) hd (spilledRu s bytes) ∷ []) _ l
+      (at-place g (a .place) (walk g bytes) (a .walked)) (λ n. absurd (never (sym (a .sending) ∙ n))) refl refl refl refl
+      (request-made s (nextNumber (s .end .sending .number)) hd (spilledRu s bytes) (data-asks s Continues) (a .good) h) refl)
+  local-acts (Verb.prepareToReceive b) = closes (Verb.prepareToReceive b) refl (λ q. refl) ChangeDirection b
+  local-acts (Verb.deallocate b) = closes (Verb.deallocate b) refl (λ q. refl) EndBracket b
+  local-acts (Verb.receive buffer) = reads buffer
+
+-- ---- takes
+
+fits-at : (ends : ChainEnd) (g : Position) (w : Walked) → recordsFit ends w ≡ true → w ≡ At (placeOr g w)
+fits-at ends g (At q) e = refl
+fits-at ends g BadLength e = absurd (never (sym e))
+
+bid-state : (c : Control) → isSend (bidTaken c .state) ≡ false → isSend (c .state) ≡ false
+unfolding bidTaken
+bid-state c n = by (isReset (c .state)) refl n
+  where
+    by : (b : Bool) → isReset (c .state) ≡ b → isSend (cond b (setState Receive c) c .state) ≡ false → isSend (c .state) ≡ false
+    by true e m = reset-not-send (c .state) e
+    by false e m = m
+
+answer-asks : (c : Control) → asksFor (bidAnswer c) ≡ false
+answer-asks c = by (isReset (c .state))
+  where
+    by : (b : Bool) → asksFor (cond b PositiveBidResponse NegativeBidResponse) ≡ false
+    by true = refl
+    by false = refl
+
+module _ (s : Station) (xs : Log) (u : List ℕ) (l : Local (valuesOf s) xs) where
+  abbrev Left : Took Station Reply (List ℕ) → Type 0
+  Left t = Local (valuesOf (t .end)) (took u (t .answer) (t .sent) ∷ xs)
+
+  not-paced : (h : Header) → headerTaken u ≡ h → TakeAsked s u → isPacingResponse u ≡ isPacing h
+  not-paced h e a = pacing-taken u (a .header) ∙ ap isPacing e
+
+  no-rise : (c z : ℕ) → requestsAmong [] + c ≡ c + z * count false
+  no-rise c z = none-made c ∙ (let y : c ≡ c + z * 0 = omega arith in y)
+
+  kind-local : (h : Header) (n : ℕ) → headerTaken u ≡ h → TakeAsked s u → firstNo (kindQuestions (s .end) h n (ruTaken u)) ≡ 0
+      → Left (tookKind s h n (ruTaken u))
+  unfolding dataJoined bidAnswered creditRaised requestTaken dataTaken grantTaken refusalTaken confirmationTaken answered
+  kind-local (Data d) n e a k =
+      let t = all-yes (kindQuestions (s .end) (Data d) n (ruTaken u)) tt k in
+      let ru = ruTaken u in
+      let p = s .end .receiving .taken in
+      let room : s .end .receiving .held ≤ length (s .inbox) = subst (λ (m : ℕ). s .end .receiving .held ≤ m) (sym (a .inbox)) (inbox-most (s .end) (a .good)) in
+      local-took u 0 [] false _ l (not-paced (Data d) e a) refl
+      (λ m. l .whole (fits-not-send (s .end .control .state) _ (t 5))) refl
+      (ap (walk (s .end .receiving .read)) (held-more (s .end .receiving .held) ru (s .inbox) room)
+      ∙ walk-append (s .end .receiving .read) (bytesInInbox s) ru ∙ ap (λ (w : Walked). thenWalk w ru) (l .inbox)
+      ∙ fits-at (d .ends) p (walk p ru) (t 6)) refl
+      (no-rise (credit (s .end .sending .window)) (s .end .sending .window .size))
+  kind-local (Bid p) n e a k =
+      let h = bidAnswer (s .end .control) in
+      let c = credit (s .end .sending .window) in
+      local-took u (RU-START + length (fixedRu h)) (unitOf n h (fixedRu h) ∷ []) false _ l (not-paced (Bid p) e a) refl
+      (λ m. l .whole (bid-state (s .end .control) m)) refl (l .inbox) refl
+      (other-made n c h (fixedRu h) (answer-asks (s .end .control)) ∙ (let y : c ≡ c + s .end .sending .window .size * 0 = omega arith in y))
+  kind-local PositiveBidResponse n e a k =
+      local-took u 0 [] false _ l (not-paced PositiveBidResponse e a) refl (λ m. absurd (never m)) refl (l .inbox) refl
+      (no-rise (credit (s .end .sending .window)) (s .end .sending .window .size))
+  kind-local NegativeBidResponse n e a k =
+      local-took u 0 [] false _ l (not-paced NegativeBidResponse e a) refl (l .whole) refl (l .inbox) refl
+      (no-rise (credit (s .end .sending .window)) (s .end .sending .window .size))
+  kind-local Confirmation n e a k =
+      let t = all-yes (kindQuestions (s .end) Confirmation n (ruTaken u)) tt k in
+      local-took u 0 [] false _ l (not-paced Confirmation e a) refl
+      (λ m. l .whole (awaited-not-send (s .end .control .state) (left (confirmationFits (s .end .control)) (eqb n (s .end .sending .number)) (t 1)))) refl (l .inbox) refl
+      (no-rise (credit (s .end .sending .window)) (s .end .sending .window .size))
+  kind-local PacingResponse n e a k =
+      let t = all-yes (kindQuestions (s .end) PacingResponse n (ruTaken u)) tt k in
+      let w = s .end .sending .window in
+      local-took u 0 [] true _ l (not-paced PacingResponse e a) refl (l .whole) refl (l .inbox) refl
+      (none-made (credit (answered w)) ∙ response-raises w (t 1) ∙ (let y : credit w + w .size ≡ credit w + w .size * 1 = omega arith in y))
+
+  pub local-takes : (naming : List ℕ → ℕ)
+      → ((q : ℕ) → q ≡ takeRefusal (s .end) u (length (s .inbox)) (length (s .unit)) → isBreach q ≡ false)
+      → Left (takes naming s u)
+  local-takes naming nb =
+      take-cases Left naming s u (λ q w n. local-take-refused u (naming u) q n (nb q w) l) (λ a k. kind-local (headerTaken u) (numberIn u) refl a k)

@@ -1,0 +1,276 @@
+-- The claim over every list of calls, composed from its parts.
+-- Assumes nothing.
+use Prim.Native.Nat.{ℕ, _+_, _*_}
+use mathlib.Core.Path.{_≡_, refl, sym, ap, _∙_, subst}
+use mathlib.Core.Bool.{Bool, true, false, not, cond, _&&_, _||_}
+use mathlib.Core.List.{List, [], _∷_, _++_, append-assoc}
+use native.Mathlib.Omega.{arith}
+use borrow.Author.Tests.{eqb-true, eqb-false}
+use lib.Dec.{eqb}
+use lib.ListN.{length}
+use Rattle.logical_record.specs.Positions.{start}
+use Rattle.logical_record.specs.Walk.{thenWalk, walk}
+use Rattle.logical_record.specs.Records.{wholeRecords}
+use Rattle.logical_record.proofs.Splits.{whole-records-append}
+use Rattle.logical_record.specs.declared.Walked.the-variants as walked
+use Rattle.pacing.specs.Pacing.{credit}
+use Rattle.control.specs.Tests.{isSend}
+use Rattle.control.specs.declared.Role.{Role}
+use Rattle.control.specs.declared.Role.the-variants.{FirstSpeaker, Bidder}
+use Rattle.control.specs.declared.State.{State}
+use Rattle.control.specs.declared.State.the-variants.{Reset, Send, Receive, ConfirmOwed, ConfirmAwaited}
+use Rattle.end.specs.Opening.{roleOf, openingRefusal, freshEnd, zeroEnd, opened}
+use Rattle.end.specs.Answers.{accepted, refused}
+use Rattle.end.specs.declared.Session.{Session}
+use Rattle.end.specs.declared.End.{End}
+use Rattle.end.specs.declared.Done.{Done}
+use Rattle.joined.specs.Joined.{At, Side, Both, run}
+use Rattle.joined.specs.Ends.{Station, Verb, Reply, Buffers, OpeningAccepted, JoinedOpenings, openedWith, openedBoth, acts, takes}
+use Rattle.joined.specs.Histories.{Log, bytesAccepted, bytesRead, bytesOnLine, bytesInInbox, bytesInSendBuffer, requestsMade, pacingResponsesTaken, breaches, badReads, CompleteIsRight}
+use Rattle.joined.specs.Claim.{Pair, End′, after, BytesConserved, Joint, SameOutcome, Claim, RecordsArrive, ReadsRight, Records, TheRecords}
+use Rattle.joined.proofs.Confluence.{confluent}
+use Rattle.joined.proofs.Invariant.{Fact, Keeps, AfterAct, AfterTake, Ways, run-ways}
+use Rattle.joined.proofs.Good.{never}
+use Rattle.joined.proofs.Floor.{other}
+use Rattle.joined.proofs.Order.{Order, order-flip, order-fresh, not-both}
+use Rattle.joined.proofs.OrderCalls.{order-acts, order-takes}
+use Rattle.joined.proofs.Stream.{outsideOf, insideOf, Stream, stream-fresh}
+use Rattle.joined.proofs.StreamCalls.{stream-acts, stream-takes, stream-in-acts, stream-in-takes}
+use Rattle.joined.proofs.Paces.{Paces, paces-fresh}
+use Rattle.joined.proofs.PacesCalls.{unansweredOf, owedOf, paces-acts, paces-takes, paces-in-acts, paces-in-takes}
+use Rattle.joined.proofs.Bytes.{Carried}
+use Rattle.joined.proofs.BytesCalls.{bytes-acts, bytes-takes, bytes-in-acts, bytes-in-takes}
+use Rattle.joined.proofs.Local.{Values, valuesOf, Local}
+use Rattle.joined.proofs.LocalCalls.{local-acts, local-takes}
+use Rattle.joined.proofs.NoBreach.{no-breach}
+use Rattle.joined.proofs.Sizes.{sizeOf, size-acts, size-takes}
+
+-- What every call keeps. e has the role r; v is the window from e to f, and w that from f to e; `line` waits for f, `back` for e.
+record Inv (r : Role) (v w : ℕ) (e : Station) (xs : Log) (line back : List (List ℕ)) (f : Station) (ys : Log) : Type 0 where
+  order : Order r (e .end) (f .end) line back
+  out : Stream (outsideOf e) (insideOf f) line
+  into : Stream (outsideOf f) (insideOf e) back
+  pace-out : Paces (unansweredOf e) (owedOf f) line back
+  pace-in : Paces (unansweredOf f) (owedOf e) back line
+  bytes-out : Carried (bytesAccepted xs) (bytesInSendBuffer e) line (bytesRead ys) (bytesInInbox f)
+  bytes-in : Carried (bytesAccepted ys) (bytesInSendBuffer f) back (bytesRead xs) (bytesInInbox e)
+  local-e : Local (valuesOf e) xs
+  local-f : Local (valuesOf f) ys
+  size-e : sizeOf e ≡ v
+  size-f : sizeOf f ≡ w
+
+flipped :
+    {r : Role} {v w : ℕ} {e f : Station} {xs ys : Log} {line back : List (List ℕ)}
+    → Inv r v w e xs line back f ys
+    → Inv (other r) w v f ys back line e xs
+flipped i =
+    record {
+      order = order-flip (i .order);
+      out = i .into;
+      into = i .out;
+      pace-out = i .pace-in;
+      pace-in = i .pace-out;
+      bytes-out = i .bytes-in;
+      bytes-in = i .bytes-out;
+      local-e = i .local-f;
+      local-f = i .local-e;
+      size-e = i .size-f;
+      size-f = i .size-e;
+    }
+
+both :
+    {r : Role} {v w : ℕ} {e f : Station} {xs ys : Log} {line back : List (List ℕ)}
+    → Inv r v w e xs line back f ys
+    → Inv r v w e xs line back f ys × Inv (other r) w v f ys back line e xs
+both i = (i, flipped i)
+
+module _ (naming : List ℕ → ℕ) (r : Role) (v w : ℕ) where
+  act-kept :
+      (e : Station) (xs : Log) (line back : List (List ℕ)) (f : Station) (ys : Log) (c : Verb)
+      → Inv r v w e xs line back f ys
+      → AfterAct acts (takes naming) (Inv r v w) (Inv (other r) w v) xs line back f ys c (acts e c)
+  act-kept e xs line back f ys c i =
+      both
+      (record {
+        order = order-acts r e (f .end) line back (i .order) c;
+        out = stream-acts e (insideOf f) line (i .out) c;
+        into = stream-in-acts e (outsideOf f) back (i .into) c;
+        pace-out = paces-acts e (owedOf f) line back (i .pace-out) c;
+        pace-in = paces-in-acts e (unansweredOf f) back line (i .pace-in) c;
+        bytes-out = bytes-acts e xs line (bytesRead ys) (bytesInInbox f) (i .bytes-out) c;
+        bytes-in = bytes-in-acts e xs (bytesAccepted ys) (bytesInSendBuffer f) back (i .bytes-in) c;
+        local-e = local-acts e xs (i .local-e) c;
+        local-f = i .local-f;
+        size-e = size-acts e c ∙ i .size-e;
+        size-f = i .size-f;
+      })
+
+  take-kept :
+      (e : Station) (xs : Log) (line back : List (List ℕ)) (f : Station) (ys : Log) (u : List ℕ)
+      → Inv r v w e xs line (u ∷ back) f ys
+      → AfterTake acts (takes naming) (Inv r v w) (Inv (other r) w v) xs line back f ys u (takes naming e u)
+  take-kept e xs line back f ys u i =
+      both
+      (record {
+        order = order-takes r e (f .end) u line back (i .order) naming;
+        out = stream-takes e (insideOf f) line (i .out) naming u;
+        into = stream-in-takes e (outsideOf f) back naming u (i .into);
+        pace-out = paces-takes e (owedOf f) line back u (i .pace-out) naming;
+        pace-in = paces-in-takes e (unansweredOf f) back line u (i .pace-in) naming;
+        bytes-out = bytes-takes e xs line (bytesRead ys) (bytesInInbox f) (i .bytes-out) naming u;
+        bytes-in = bytes-in-takes e xs (bytesAccepted ys) (bytesInSendBuffer f) back u (i .bytes-in) naming;
+        local-e =
+            local-takes e xs u (i .local-e) naming
+            (no-breach r e (f .end) (outsideOf f) (unansweredOf f) (owedOf f) u line back (i .order) (i .into) (i .pace-in) (i .pace-out));
+        local-f = i .local-f;
+        size-e = size-takes e naming u ∙ i .size-e;
+        size-f = i .size-f;
+      })
+
+  keeps : Keeps acts (takes naming) (Inv r v w) (Inv (other r) w v)
+  keeps =
+      record {
+        act-keeps = λ e xs line back f ys c d h. act-kept e xs line back f ys c d;
+        take-keeps = λ e xs line back f ys u d h. take-kept e xs line back f ys u d;
+      }
+
+-- ---- openings
+
+chosen : (b : Bool) (x y : Done) → (b ≡ false → y .answer .refusal ≡ 0 → ⊥) → cond b x y .answer .refusal ≡ 0 → cond b x y .end ≡ x .end
+chosen true x y n e = refl
+chosen false x y n e = absurd (n refl e)
+
+-- an accepted opening leaves a fresh end
+opened-is : (s : Session) (n m k : ℕ) → opened s n m k .answer .refusal ≡ 0
+    → opened s n m k .end ≡ freshEnd (roleOf (s .role)) (s .outwindow) (s .outmax) (s .inwindow) (s .inmax) k
+unfolding opened
+opened-is s n m k e =
+    let q : ℕ = openingRefusal s n m k in
+    chosen (eqb q 0) (record { answer = accepted 0; end = freshEnd (roleOf (s .role)) (s .outwindow) (s .outmax) (s .inwindow) (s .inmax) k })
+    (record { answer = refused q; end = zeroEnd }) (λ h z. eqb-false q 0 h z) e
+
+-- a fresh end with its buffers
+abbrev station : Role → Session → Buffers → Station
+station r s b =
+    record {
+      end = freshEnd r (s .outwindow) (s .outmax) (s .inwindow) (s .inmax) (length (b .inbox));
+      send = b .send;
+      unit = b .unit;
+      inbox = b .inbox;
+    }
+
+opened-as : (r : Role) (s : Session) (b : Buffers) → roleOf (s .role) ≡ r → OpeningAccepted s b → openedWith s b .end ≡ station r s b
+opened-as r s b e a =
+    ap (λ (x : End). record { end = x; send = b .send; unit = b .unit; inbox = b .inbox })
+    (opened-is s (length (b .send)) (length (b .unit)) (length (b .inbox)) a
+    ∙ ap (λ (x : Role). freshEnd x (s .outwindow) (s .outmax) (s .inwindow) (s .inmax) (length (b .inbox))) e)
+
+local-fresh : (r : Role) (s : Session) (b : Buffers) → Local (valuesOf (station r s b)) []
+unfolding thenWalk bytesAccepted bytesRead requestsMade pacingResponsesTaken CompleteIsRight badReads breaches credit
+local-fresh r s b =
+    record {
+      given = refl;
+      whole = λ n. refl;
+      read = refl;
+      inbox = refl;
+      counted = omega arith;
+      complete = tt;
+      never-8 = refl;
+      no-breach = refl;
+    }
+
+carried-fresh : (r q : Role) (s t : Session) (b c : Buffers)
+    → Carried (bytesAccepted []) (bytesInSendBuffer (station r s b)) [] (bytesRead []) (bytesInInbox (station q t c))
+unfolding bytesAccepted bytesRead bytesOnLine
+carried-fresh r q s t b c = record { bytes = refl }
+
+fresh-kept : (s t : Session) (b c : Buffers)
+    → s .outwindow ≡ t .inwindow → t .outwindow ≡ s .inwindow → s .outmax ≡ t .inmax → t .outmax ≡ s .inmax
+    → Inv FirstSpeaker (s .outwindow) (t .outwindow) (station FirstSpeaker s b) [] [] [] (station Bidder t c) []
+fresh-kept s t b c e f g h =
+    record {
+      order =
+          order-fresh (s .outwindow) (s .outmax) (s .inwindow) (s .inmax) (length (b .inbox)) (t .outwindow) (t .outmax) (t .inwindow) (t .inmax)
+          (length (c .inbox));
+      out = stream-fresh (outsideOf (station FirstSpeaker s b)) (insideOf (station Bidder t c)) e g refl refl;
+      into = stream-fresh (outsideOf (station Bidder t c)) (insideOf (station FirstSpeaker s b)) f h refl refl;
+      pace-out = paces-fresh;
+      pace-in = paces-fresh;
+      bytes-out = carried-fresh FirstSpeaker Bidder s t b c;
+      bytes-in = carried-fresh Bidder FirstSpeaker t s c b;
+      local-e = local-fresh FirstSpeaker s b;
+      local-f = local-fresh Bidder t c;
+      size-e = refl;
+      size-f = refl;
+    }
+
+-- ---- every list
+
+opened-kept : (naming : List ℕ → ℕ) (s t : Session) (b c : Buffers) → JoinedOpenings s t b c
+    → Ways acts (takes naming) (Inv FirstSpeaker (s .outwindow) (t .outwindow)) (Inv Bidder (t .outwindow) (s .outwindow)) (openedBoth s t b c)
+opened-kept naming s t b c j =
+    let x = opened-as FirstSpeaker s b (ap roleOf (j .speaker)) (j .one) in
+    let y = opened-as Bidder t c (ap roleOf (j .bidder)) (j .two) in
+    both
+    (subst (λ (e : Station). Inv FirstSpeaker (s .outwindow) (t .outwindow) e [] [] [] (openedWith t c .end) []) (sym x)
+    (subst (λ (e : Station). Inv FirstSpeaker (s .outwindow) (t .outwindow) (station FirstSpeaker s b) [] [] [] e []) (sym y)
+    (fresh-kept s t b c (j .window-out) (j .window-back) (j .max-out) (j .max-back))))
+
+every-list : (naming : List ℕ → ℕ) (s t : Session) (b c : Buffers) (l : List (At Verb)) → JoinedOpenings s t b c
+    → (let p = after naming s t b c l in
+    Inv FirstSpeaker (s .outwindow) (t .outwindow) (p .one .end) (p .one .log) (p .two .waiting) (p .one .waiting) (p .two .end) (p .two .log))
+every-list naming s t b c l j =
+    run-ways acts (takes naming) (Inv FirstSpeaker (s .outwindow) (t .outwindow)) (Inv Bidder (t .outwindow) (s .outwindow))
+    (keeps naming FirstSpeaker (s .outwindow) (t .outwindow)) (keeps naming Bidder (t .outwindow) (s .outwindow)) (openedBoth s t b c) l (opened-kept naming s t b c j) .0
+
+-- ---- the claim
+
+send-is : (s : State) → isSend s ≡ true → s ≡ Send
+send-is Reset e = absurd (never (sym e))
+send-is Send e = refl
+send-is Receive e = absurd (never (sym e))
+send-is ConfirmOwed e = absurd (never (sym e))
+send-is ConfirmAwaited e = absurd (never (sym e))
+
+counted-as : (requests credits size w n : ℕ) → size ≡ w → requests + credits ≡ size * (1 + n) → requests + credits ≡ w * (1 + n)
+counted-as requests credits size w n e h = h ∙ ap (λ (k : ℕ). k * (1 + n)) e
+
+joint-of : (s t : Session) (p : Pair)
+    → Inv FirstSpeaker (s .outwindow) (t .outwindow) (p .one .end) (p .one .log) (p .two .waiting) (p .one .waiting) (p .two .end) (p .two .log)
+    → Joint s t p
+joint-of s t p i =
+    record {
+      not-both = λ x y. not-both (i .order) (send-is (p .one .end .end .control .state) x) (send-is (p .two .end .end .control .state) y);
+      no-breach-one = i .local-e .no-breach;
+      no-breach-two = i .local-f .no-breach;
+      bytes-out = i .bytes-out .bytes;
+      bytes-back = i .bytes-in .bytes;
+      credit-one = counted-as _ _ _ _ _ (i .size-e) (i .local-e .counted);
+      credit-two = counted-as _ _ _ _ _ (i .size-f) (i .local-f .counted);
+    }
+
+pub proved : Claim
+proved naming s t b c l j =
+    (joint-of s t (after naming s t b c l) (every-list naming s t b c l j), λ m f g h k. confluent acts (takes naming) (openedBoth s t b c) l m f g h k)
+
+-- ---- the records
+
+arrive : (x y : End′) → BytesConserved x y → RecordsArrive x y
+arrive x y e =
+    let rest = bytesInInbox (y .end) ++ (bytesOnLine (y .waiting) ++ bytesInSendBuffer (x .end)) in
+    let q = whole-records-append (bytesRead (y .log)) rest in
+    record { still-to-come = _; first-are-read = ap wholeRecords e ∙ q }
+
+reads-of : (x : End′) → Local (valuesOf (x .end)) (x .log) → ReadsRight x
+reads-of x l = record { read = l .read; inbox = l .inbox; complete = l .complete; never-8 = l .never-8; whole = l .whole }
+
+pub the-records : TheRecords
+the-records naming s t b c l j =
+    let p = after naming s t b c l in
+    let i = every-list naming s t b c l j in
+    record {
+      out = arrive (p .one) (p .two) (i .bytes-out .bytes);
+      back = arrive (p .two) (p .one) (i .bytes-in .bytes);
+      one = reads-of (p .one) (i .local-e);
+      two = reads-of (p .two) (i .local-f);
+    }

@@ -1,0 +1,99 @@
+-- Demand 3: what is claimed of two joined ends after every list of calls.
+-- Assumes nothing.
+use Prim.Native.Nat.{ℕ, _+_, _*_}
+use mathlib.Core.Path.{_≡_}
+use mathlib.Core.Bool.{Bool, true, false}
+use mathlib.Core.List.{List, [], _∷_, _++_}
+use Rattle.logical_record.specs.Positions.{start, isWhole}
+use Rattle.logical_record.specs.Walk.{walk}
+use Rattle.logical_record.specs.Records.{wholeRecords}
+use Rattle.logical_record.specs.declared.Walked.the-variants as walked
+use Rattle.control.specs.Questions.{holdsSend}
+use Rattle.end.specs.Record.{creditOf}
+use Rattle.end.specs.declared.Session.{Session}
+use Rattle.joined.specs.Joined.{At, Side, Both, firsts, seconds, run, AllFed}
+use Rattle.joined.specs.Ends.{Station, Verb, Reply, Buffers, JoinedOpenings, openedBoth, acts, takes}
+use Rattle.joined.specs.Histories.{bytesAccepted, bytesRead, bytesOnLine, bytesInInbox, bytesInSendBuffer, requestsMade, pacingResponsesTaken, breaches, badReads, CompleteIsRight}
+
+abbrev pub Pair : Type 0
+Pair = Both Station Verb Reply (List ℕ)
+
+abbrev pub End′ : Type 0
+End′ = Side Station Verb Reply (List ℕ)
+
+-- the two ends as opened, after the list of calls; `naming` is the choice of a rule that 21 leaves free
+abbrev pub after : (List ℕ → ℕ) → Session → Session → Buffers → Buffers → List (At Verb) → Pair
+after naming s t b c l = run acts (takes naming) (openedBoth s t b c) l
+
+-- One way, from x to y: the bytes accepted for sending are exactly the bytes read at the other end, then those held in its inbox, then the data RUs
+-- on the line, then those held in the sender's buffer.
+abbrev pub BytesConserved : End′ → End′ → Type 0
+BytesConserved x y =
+    bytesAccepted (x .log) ≡ bytesRead (y .log) ++ (bytesInInbox (y .end) ++ (bytesOnLine (y .waiting) ++ bytesInSendBuffer (x .end)))
+
+-- requests made plus credit left = sending W × (1 + pacing answers taken)
+abbrev pub CreditCounted : ℕ → End′ → Type 0
+CreditCounted w x = requestsMade (x .log) + creditOf (x .end .end) ≡ w * (1 + pacingResponsesTaken (x .log))
+
+pub record Joint (s t : Session) (p : Pair) : Type 0 where
+  -- never both in Send
+  pub not-both : holdsSend (p .one .end .end .control) ≡ true → holdsSend (p .two .end .end .control) ≡ true → ⊥
+  -- no take was refused as a breach of protocol
+  pub no-breach-one : breaches (p .one .log) ≡ 0
+  pub no-breach-two : breaches (p .two .log) ≡ 0
+  -- bytes are conserved in order, each way
+  pub bytes-out : BytesConserved (p .one) (p .two)
+  pub bytes-back : BytesConserved (p .two) (p .one)
+  -- the credit count, at each end
+  pub credit-one : CreditCounted (s .outwindow) (p .one)
+  pub credit-two : CreditCounted (t .outwindow) (p .two)
+
+-- Every other list that starts alike, with the same calls in the same order at each end, where neither list takes with nothing waiting: the same
+-- records, every lent cell, lines and each end's answers in order.
+abbrev pub SameOutcome : (List ℕ → ℕ) → Pair → List (At Verb) → Type 0
+SameOutcome naming p l =
+    (m : List (At Verb))
+    → firsts l ≡ firsts m
+    → seconds l ≡ seconds m
+    → AllFed acts (takes naming) p l
+    → AllFed acts (takes naming) p m
+    → run acts (takes naming) p l ≡ run acts (takes naming) p m
+
+-- THE CLAIM: for every two accepted openings that are joined, and every list of calls
+abbrev pub Claim : Type 0
+Claim =
+    (naming : List ℕ → ℕ) (s t : Session) (b c : Buffers) (l : List (At Verb))
+    → JoinedOpenings s t b c
+    → Joint s t (after naming s t b c l) × SameOutcome naming (openedBoth s t b c) l
+
+-- ---- the records
+
+-- Cut the bytes accepted at x into logical records by LL: the whole records read at y are exactly the first of these, in order, byte for byte.
+pub record RecordsArrive (x y : End′) : Type 0 where
+  pub still-to-come : List (List ℕ)
+  pub first-are-read : wholeRecords (bytesAccepted (x .log)) ≡ wholeRecords (bytesRead (y .log)) ++ still-to-come
+
+-- What reads hand out is cut exactly at record ends.
+pub record ReadsRight (x : End′) : Type 0 where
+  -- the bytes read so far walk to the read place, and the inbox walks from there to the taken place
+  pub read : walk start (bytesRead (x .log)) ≡ walked.At (x .end .end .receiving .read)
+  pub inbox : walk (x .end .end .receiving .read) (bytesInInbox (x .end)) ≡ walked.At (x .end .end .receiving .taken)
+  -- 'complete' is said exactly when the bytes read so far are whole records
+  pub complete : CompleteIsRight (x .log)
+  -- no read is refused with 8
+  pub never-8 : badReads (x .log) ≡ 0
+  -- outside Send the given place is between records
+  pub whole : holdsSend (x .end .end .control) ≡ false → isWhole (x .end .end .sending .given) ≡ true
+
+pub record Records (p : Pair) : Type 0 where
+  pub out : RecordsArrive (p .one) (p .two)
+  pub back : RecordsArrive (p .two) (p .one)
+  pub one : ReadsRight (p .one)
+  pub two : ReadsRight (p .two)
+
+-- THE RECORDS: wherever units, sends and reads cut them and whichever end began
+abbrev pub TheRecords : Type 0
+TheRecords =
+    (naming : List ℕ → ℕ) (s t : Session) (b c : Buffers) (l : List (At Verb))
+    → JoinedOpenings s t b c
+    → Records (after naming s t b c l)

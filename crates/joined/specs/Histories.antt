@@ -1,0 +1,126 @@
+-- What has happened at an end, as functions of its log; and the bytes that are on a line or held.
+-- Assumes nothing.
+use Prim.Native.Nat.{ℕ, zero, suc, _+_}
+use mathlib.Core.Bool.{Bool, true, false, not, cond, _&&_}
+use mathlib.Core.List.{List, [], _∷_, _++_}
+use lib.Dec.{eqb, leb}
+use lib.ListN.{length, take, drop}
+use mathlib.Core.Path.{_≡_}
+use Rattle.logical_record.specs.Positions.{start}
+use Rattle.logical_record.specs.Walk.{walk}
+use Rattle.logical_record.specs.Records.{ended}
+use Rattle.unit.specs.Weights.{on}
+use Rattle.unit.specs.Rules.{isData, bytes, sameHeader}
+use Rattle.unit.specs.Unit.{RU-START, headerIn}
+use Rattle.end.specs.Answers.{BAD-LL}
+use Rattle.joined.specs.Joined.{Event, acted, took}
+use Rattle.joined.specs.Ends.{Station, Verb, allocate, flush, confirm, confirmed, pace, sendData, prepareToReceive, deallocate, receive, Reply, refusalIn}
+
+abbrev pub Log : Type 0
+Log = List (Event Verb Reply (List ℕ))
+
+-- ---- bytes
+
+-- the bytes that a call gives, if it is accepted
+abbrev pub given : Verb → ℕ → List ℕ
+given allocate q = []
+given flush q = []
+given confirm q = []
+given confirmed q = []
+given pace q = []
+given (sendData bytes) q = cond (eqb q 0) bytes []
+given (prepareToReceive b) q = []
+given (deallocate b) q = []
+given (receive buffer) q = []
+
+-- accepted are the bytes of accepted send data calls
+unfoldable pub bytesAccepted : Log → List ℕ
+bytesAccepted [] = []
+bytesAccepted (acted v r us ∷ es) = bytesAccepted es ++ given v (refusalIn r)
+bytesAccepted (took u r us ∷ es) = bytesAccepted es
+
+-- read are those that reads copied
+unfoldable pub bytesRead : Log → List ℕ
+bytesRead [] = []
+bytesRead (acted v r us ∷ es) = bytesRead es ++ take (r .answer .copied) (r .buffer)
+bytesRead (took u r us ∷ es) = bytesRead es
+
+-- on the line the data RUs, oldest first
+abbrev pub dataRu : List ℕ → List ℕ
+dataRu u = cond (isData (headerIn u)) (drop RU-START u) []
+
+unfoldable pub bytesOnLine : List (List ℕ) → List ℕ
+bytesOnLine [] = []
+bytesOnLine (u ∷ us) = dataRu u ++ bytesOnLine us
+
+-- in the inbox and the send buffer those held
+abbrev pub bytesInInbox : Station → List ℕ
+bytesInInbox s = take (s .end .receiving .held) (s .inbox)
+
+abbrev pub bytesInSendBuffer : Station → List ℕ
+bytesInSendBuffer s = take (s .end .sending .held) (s .send)
+
+-- ---- counts
+
+abbrev pub count : Bool → ℕ
+count b = cond b 1 0
+
+-- units made without weight 80 in header byte 0
+abbrev pub isRequest : List ℕ → Bool
+isRequest u = not (on 0x80 (headerIn u .b0))
+
+unfoldable pub requestsAmong : List (List ℕ) → ℕ
+requestsAmong [] = 0
+requestsAmong (u ∷ us) = count (isRequest u) + requestsAmong us
+
+unfoldable pub requestsMade : Log → ℕ
+requestsMade [] = 0
+requestsMade (acted v r us ∷ es) = requestsAmong us + requestsMade es
+requestsMade (took u r us ∷ es) = requestsAmong us + requestsMade es
+
+-- the accepted takes of pacing answers
+abbrev pub isPacingResponse : List ℕ → Bool
+isPacingResponse u = sameHeader (headerIn u) (bytes 0x83 0x01 0x00)
+
+unfoldable pub pacingResponsesTaken : Log → ℕ
+pacingResponsesTaken [] = 0
+pacingResponsesTaken (acted v r us ∷ es) = pacingResponsesTaken es
+pacingResponsesTaken (took u r us ∷ es) = count (eqb (refusalIn r) 0 && isPacingResponse u) + pacingResponsesTaken es
+
+-- ---- breaches
+
+-- a breach of protocol is 20 to 29
+abbrev pub isBreach : ℕ → Bool
+isBreach q = leb 20 q && leb q 29
+
+-- the takes that were refused as a breach
+unfoldable pub breaches : Log → ℕ
+breaches [] = 0
+breaches (acted v r us ∷ es) = breaches es
+breaches (took u r us ∷ es) = count (isBreach (refusalIn r)) + breaches es
+
+-- ---- reads
+
+-- the reads that were refused with 8
+abbrev pub isBadRead : Verb → ℕ → Bool
+isBadRead allocate q = false
+isBadRead flush q = false
+isBadRead confirm q = false
+isBadRead confirmed q = false
+isBadRead pace q = false
+isBadRead (sendData bytes) q = false
+isBadRead (prepareToReceive b) q = false
+isBadRead (deallocate b) q = false
+isBadRead (receive buffer) q = eqb q BAD-LL
+
+unfoldable pub badReads : Log → ℕ
+badReads [] = 0
+badReads (acted v r us ∷ es) = count (isBadRead v (refusalIn r)) + badReads es
+badReads (took u r us ∷ es) = badReads es
+
+-- 'complete' is said exactly by the calls that copied bytes and after which all bytes read so far are whole records
+unfoldable pub CompleteIsRight : Log → Type 0
+CompleteIsRight [] = Unit {0}
+CompleteIsRight (acted v r us ∷ es) =
+    (r .answer .complete ≡ (not (eqb (r .answer .copied) 0) && ended (walk start (bytesRead (acted v r us ∷ es))))) × CompleteIsRight es
+CompleteIsRight (took u r us ∷ es) = (r .answer .complete ≡ false) × CompleteIsRight es

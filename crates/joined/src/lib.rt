@@ -1,0 +1,14 @@
+// Two joined ends. The definitions are in specs/: the two ends, the lines between them, the list of calls, and what is claimed after
+// every list. The functions do nothing; their contracts are the claims, so that a check prints their names and fails if a proof goes.
+ghost use Rattle.joined.specs.Claim.{Claim, TheRecords};
+
+// Demand 3, after every list of calls at two joined, freshly opened ends: never both in Send, no take refused as a breach, bytes
+// conserved in order, the credit count, and the same outcome whatever the order between the ends.
+pub fn joined_ends()
+    ensures { λ _. ⌜ Claim ⌝ }
+{}
+
+// The records read at one end are the first of those given at the other, byte for byte, and reads are cut at record ends.
+pub fn the_records()
+    ensures { λ _. ⌜ TheRecords ⌝ }
+{}

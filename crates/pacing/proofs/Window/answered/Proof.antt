@@ -1,0 +1,11 @@
+use mathlib.Core.Path.{refl}
+use Rattle.pacing.specs.Pacing.{answered}
+use Rattle.pacing.proofs.Window.answered.Statement.{statement}
+use Rattle.pacing.proofs.Window.answered.Tie as tie
+
+returns : tie.Need-returns
+unfolding answered
+returns c = refl
+
+pub answered-spec : {M : Type 1} → statement M
+answered-spec = tie.close (tie.spec returns)

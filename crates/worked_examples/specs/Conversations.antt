@@ -1,0 +1,187 @@
+-- Whole conversations run on two joined ends, by computation: the definitions alive.
+-- Assumes nothing.
+use Prim.Native.Nat.{ℕ}
+use mathlib.Core.Path.{_≡_, refl}
+use mathlib.Core.Bool.{Bool, true, false}
+use mathlib.Core.List.{List, [], _∷_, _++_}
+use Rattle.cells.specs.Cells.{front, written}
+use Rattle.logical_record.specs.Walk.{thenWalk}
+use Rattle.logical_record.specs.Records.{wholeRecords, recordsFrom}
+use Rattle.unit.specs.Rules.{headerGood}
+use Rattle.unit.specs.Header.{headerBytes, fieldsOf}
+use Rattle.unit.specs.Ru.{sameBytes, ruGood}
+use Rattle.unit.specs.Unit.{unitBytes, unitOf}
+use Rattle.pacing.specs.Pacing.{credit, advanced, answered}
+use Rattle.control.specs.Within.{controlGood}
+use Rattle.control.specs.Transitions.{allocated, spilled, closed, confirmationMade, markAnswered, dataTaken, bidTaken, grantTaken, refusalTaken, confirmationTaken}
+use Rattle.control.specs.declared.State.{State}
+use Rattle.control.specs.declared.State.the-variants.{Reset, Send, Receive, ConfirmOwed, ConfirmAwaited}
+use Rattle.end.specs.Record.{sendingGood, receivingGood, recordGood, creditOf}
+use Rattle.end.specs.Requests.{requestMade, requestTaken, dataHeader}
+use Rattle.end.specs.Opening.{openingRefusal, opened}
+use Rattle.end.specs.Allocate.{allocateRefusal, bidMade, allocateDecision, allocate}
+use Rattle.end.specs.SendData.{sendRefusal, bytesKept, bytesSpilled, sendDecision, sendCells, sendData}
+use Rattle.end.specs.Close.{closeRefusal, lastMade, closeDecision, close}
+use Rattle.end.specs.Confirmed.{confirmedRefusal, confirmedDecision, confirmed}
+use Rattle.end.specs.ReceiveUnit.{takeRefusal, dataJoined, bidAnswered, creditRaised, takeDecision, inboxCells, receiveUnit}
+use Rattle.end.specs.Receive.{readRefusal, copyCount, bytesRead, markRead, readDecision, inboxMoved, receive}
+use Rattle.end.specs.Pace.{paceRefusal, paceDecision, pace}
+use Rattle.joined.specs.Joined.{At, first, second, Call, act, take, Event, acted, took, Side, Both}
+use Rattle.joined.specs.Ends.{Station, Verb, Reply, acts, takes, refusalIn, openedBoth}
+use Rattle.joined.specs.Histories as H
+use Rattle.joined.specs.Histories.{Log, bytesAccepted, pacingResponsesTaken, requestsMade, breaches}
+use Rattle.worked_examples.specs.Stations.{zeros, session, buffers, joined, runs}
+
+-- the refusal numbers of an end's calls, in order
+abbrev pub numbers : Log → List ℕ
+numbers [] = []
+numbers (acted v r us ∷ es) = numbers es ++ (refusalIn r ∷ [])
+numbers (took u r us ∷ es) = numbers es ++ (refusalIn r ∷ [])
+
+abbrev pub stateOf : Side Station Verb Reply (List ℕ) → State
+stateOf s = s .end .end .control .state
+
+-- ---- a bid crosses the first speaker's data
+
+abbrev pub aRecord : List ℕ
+aRecord = 0x00 ∷ 0x05 ∷ 0x41 ∷ 0x42 ∷ 0x43 ∷ []
+
+-- the bidder bids while the first speaker begins, sends a record and ends; the bid is granted once the bracket has ended, but the bidder reads
+-- the record and its end before it takes the grant
+abbrev pub race : List (At Verb)
+race =
+    second (act Verb.allocate)
+    ∷ first (act Verb.allocate)
+    ∷ first (act (Verb.sendData aRecord))
+    ∷ first (act (Verb.deallocate false))
+    ∷ first take
+    ∷ second take
+    ∷ second (act (Verb.receive (zeros 3)))
+    ∷ second (act (Verb.receive (zeros 64)))
+    ∷ second take
+    ∷ second (act (Verb.receive (zeros 64)))
+    ∷ second take
+    ∷ first take
+    ∷ []
+
+pub record Race : Type 0 where
+  pub speaker-answers : numbers (runs (joined 3 64) race .one .log) ≡ 0 ∷ 0 ∷ 0 ∷ 0 ∷ []
+  -- the take of the grant is refused with 13 until the mark is read
+  pub bidder-answers : numbers (runs (joined 3 64) race .two .log) ≡ 0 ∷ 0 ∷ 0 ∷ 0 ∷ 13 ∷ 0 ∷ 0 ∷ []
+  pub record-read : H.bytesRead (runs (joined 3 64) race .two .log) ≡ aRecord
+  pub speaker-receives : stateOf (runs (joined 3 64) race .one) ≡ Receive
+  pub bidder-sends : stateOf (runs (joined 3 64) race .two) ≡ Send
+
+-- ---- the bid comes too late
+
+-- the same, but the first speaker takes the bid while it still sends: the bid is refused, and the bidder has the turn by reading CD
+abbrev pub refused : List (At Verb)
+refused =
+    second (act Verb.allocate)
+    ∷ first (act Verb.allocate)
+    ∷ first (act (Verb.sendData aRecord))
+    ∷ first take
+    ∷ first (act (Verb.prepareToReceive false))
+    ∷ second take
+    ∷ second take
+    ∷ second (act (Verb.receive (zeros 64)))
+    ∷ second (act (Verb.receive (zeros 1)))
+    ∷ []
+
+pub record Refused : Type 0 where
+  pub bidder-answers : numbers (runs (joined 3 64) refused .two .log) ≡ 0 ∷ 0 ∷ 0 ∷ 0 ∷ 0 ∷ []
+  pub record-read : H.bytesRead (runs (joined 3 64) refused .two .log) ≡ aRecord
+  pub flag-off : runs (joined 3 64) refused .two .end .end .control .bid ≡ false
+  pub speaker-receives : stateOf (runs (joined 3 64) refused .one) ≡ Receive
+  pub bidder-sends : stateOf (runs (joined 3 64) refused .two) ≡ Send
+
+-- ---- a record over three units, with a pacing answer that crosses the second
+
+abbrev pub eight : List ℕ
+eight = 0x00 ∷ 0x14 ∷ 0x01 ∷ 0x02 ∷ 0x03 ∷ 0x04 ∷ 0x05 ∷ 0x06 ∷ []
+
+abbrev pub sixteen : List ℕ
+sixteen = 0x07 ∷ 0x08 ∷ 0x09 ∷ 0x0A ∷ 0x0B ∷ 0x0C ∷ 0x0D ∷ 0x0E ∷ []
+
+abbrev pub four : List ℕ
+four = 0x0F ∷ 0x10 ∷ 0x11 ∷ 0x12 ∷ []
+
+-- W 2, M 8, and an inbox of 32, so that the receiving end may answer before its inbox is empty
+abbrev pub cutEnds : Both Station Verb Reply (List ℕ)
+cutEnds =
+    openedBoth (session 0 2 8) (session 1 2 8) (record { send = zeros 8; unit = zeros 13; inbox = zeros 32 })
+    (record { send = zeros 8; unit = zeros 13; inbox = zeros 32 })
+
+abbrev pub cut : List (At Verb)
+cut =
+    first (act Verb.allocate)
+    ∷ first (act (Verb.sendData eight))
+    ∷ first (act (Verb.sendData sixteen))
+    ∷ second take
+    ∷ second (act Verb.pace)
+    ∷ first (act (Verb.sendData four))
+    ∷ first (act (Verb.deallocate false))
+    ∷ first take
+    ∷ first (act (Verb.deallocate false))
+    ∷ second (act (Verb.receive (zeros 5)))
+    ∷ second take
+    ∷ second take
+    ∷ second (act (Verb.receive (zeros 32)))
+    ∷ second (act (Verb.receive (zeros 32)))
+    ∷ []
+
+pub record Cut : Type 0 where
+  -- the end waits for credit: 10 until the pacing answer is taken
+  pub speaker-answers : numbers (runs cutEnds cut .one .log) ≡ 0 ∷ 0 ∷ 0 ∷ 0 ∷ 10 ∷ 0 ∷ 0 ∷ []
+  pub bidder-answers : numbers (runs cutEnds cut .two .log) ≡ 0 ∷ 0 ∷ 0 ∷ 0 ∷ 0 ∷ 0 ∷ 0 ∷ []
+  pub one-record : wholeRecords (H.bytesRead (runs cutEnds cut .two .log)) ≡ (eight ++ (sixteen ++ four)) ∷ []
+  pub three-requests : requestsMade (runs cutEnds cut .one .log) ≡ 3
+  pub one-answer : pacingResponsesTaken (runs cutEnds cut .one .log) ≡ 1
+  pub credit-left : creditOf (runs cutEnds cut .one .end .end) ≡ 1
+  pub both-reset : (stateOf (runs cutEnds cut .one) ≡ Reset) × (stateOf (runs cutEnds cut .two) ≡ Reset)
+
+-- ---- confirm-turn
+
+abbrev pub confirmTurn : List (At Verb)
+confirmTurn =
+    first (act Verb.allocate)
+    ∷ first (act (Verb.sendData aRecord))
+    ∷ first (act (Verb.prepareToReceive true))
+    ∷ second take
+    ∷ second (act (Verb.receive (zeros 8)))
+    ∷ second (act (Verb.receive (zeros 8)))
+    ∷ second (act Verb.confirmed)
+    ∷ first take
+    ∷ []
+
+pub record ConfirmTurn : Type 0 where
+  pub speaker-answers : numbers (runs (joined 3 64) confirmTurn .one .log) ≡ 0 ∷ 0 ∷ 0 ∷ 0 ∷ []
+  pub bidder-answers : numbers (runs (joined 3 64) confirmTurn .two .log) ≡ 0 ∷ 0 ∷ 0 ∷ 0 ∷ []
+  pub speaker-receives : stateOf (runs (joined 3 64) confirmTurn .one) ≡ Receive
+  pub bidder-sends : stateOf (runs (joined 3 64) confirmTurn .two) ≡ Send
+
+pub record Conversations : Type 0 where
+  pub race : Race
+  pub refused : Refused
+  pub cut : Cut
+  pub confirm-turn : ConfirmTurn
+
+pub held : Conversations
+unfolding front written thenWalk recordsFrom headerGood headerBytes fieldsOf sameBytes ruGood unitBytes unitOf credit advanced answered controlGood allocated spilled closed confirmationMade markAnswered dataTaken bidTaken grantTaken refusalTaken confirmationTaken sendingGood receivingGood recordGood requestMade requestTaken dataHeader openingRefusal opened allocateRefusal bidMade allocateDecision allocate sendRefusal bytesKept bytesSpilled sendDecision sendCells sendData closeRefusal lastMade closeDecision close confirmedRefusal confirmedDecision confirmed takeRefusal dataJoined bidAnswered creditRaised takeDecision inboxCells receiveUnit readRefusal copyCount bytesRead markRead readDecision inboxMoved receive paceRefusal paceDecision pace acts takes H.bytesRead bytesAccepted pacingResponsesTaken requestsMade H.requestsAmong breaches
+held =
+    record {
+      race =
+          record { speaker-answers = refl; bidder-answers = refl; record-read = refl; speaker-receives = refl; bidder-sends = refl };
+      refused = record { bidder-answers = refl; record-read = refl; flag-off = refl; speaker-receives = refl; bidder-sends = refl };
+      cut =
+          record {
+            speaker-answers = refl;
+            bidder-answers = refl;
+            one-record = refl;
+            three-requests = refl;
+            one-answer = refl;
+            credit-left = refl;
+            both-reset = (refl, refl);
+          };
+      confirm-turn = record { speaker-answers = refl; bidder-answers = refl; speaker-receives = refl; bidder-sends = refl };
+    }

@@ -1,0 +1,3 @@
+pub mod Stations
+pub mod Table
+pub mod Conversations

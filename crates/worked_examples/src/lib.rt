@@ -1,0 +1,14 @@
+// Document 01's table 'Proved examples' as one statement about the definitions, and whole conversations run on them. The functions do
+// nothing; their contracts are the statements, so that a check prints their names and fails if one does not hold.
+ghost use Rattle.worked_examples.specs.Table.{Table};
+ghost use Rattle.worked_examples.specs.Conversations.{Conversations};
+
+// Every row of the table.
+pub fn proved_examples()
+    ensures { λ _. ⌜ Table ⌝ }
+{}
+
+// A bid that crosses the first speaker's data, won and lost; a record over three units; a turn with confirmation.
+pub fn whole_conversations()
+    ensures { λ _. ⌜ Conversations ⌝ }
+{}
