@@ -21,17 +21,21 @@ use Rattle.joined.proofs.Rows.{left, right}
 pub never : true ≡ false → ⊥
 never e = let z : _≡_ {A = ℕ} 0 1 = cc in omega arith
 
+pub both : (a b : Bool) → a ≡ true → b ≡ true → a && b ≡ true
+both true b x y = y
+both false b x y = x
+
 pub control-good : (e : End) → recordGood e ≡ true → controlGood (e .control) ≡ true
 unfolding recordGood
 control-good e g = left (controlGood (e .control)) (sendingGood (e .control) (e .sending) && receivingGood (e .receiving)) g
 
-sending-good : (e : End) → recordGood e ≡ true → sendingGood (e .control) (e .sending) ≡ true
+pub sending-good : (e : End) → recordGood e ≡ true → sendingGood (e .control) (e .sending) ≡ true
 unfolding recordGood
 sending-good e g =
     left (sendingGood (e .control) (e .sending)) (receivingGood (e .receiving))
     (right (controlGood (e .control)) (sendingGood (e .control) (e .sending) && receivingGood (e .receiving)) g)
 
-receiving-good : (e : End) → recordGood e ≡ true → receivingGood (e .receiving) ≡ true
+pub receiving-good : (e : End) → recordGood e ≡ true → receivingGood (e .receiving) ≡ true
 unfolding recordGood
 receiving-good e g =
     right (sendingGood (e .control) (e .sending)) (receivingGood (e .receiving))

@@ -23,3 +23,9 @@ pub mod NoBreach
 pub mod LocalCalls
 pub mod Sizes
 pub mod Proved
+pub mod ByteLists
+pub mod Controls
+pub mod Kept
+pub mod KeptCalls
+pub mod AlwaysGood
+pub mod Refusals
