@@ -11,3 +11,6 @@ pub mod Confirmed
 pub mod ReceiveUnit
 pub mod Receive
 pub mod Pace
+pub mod Results
+pub mod RuleNamed
+pub mod Kinds

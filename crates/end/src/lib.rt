@@ -1,4 +1,19 @@
 // One end of a basic conversation on one session: its record, and the calls that a program makes on it.
+mod allocate;
+pub mod answers;
+mod close;
+mod confirmed;
+pub mod opening;
+mod pace;
+mod receive;
+mod receive_unit;
+pub mod record;
+mod requests;
+mod send_data;
+mod unit_effects;
+mod unit_questions;
+mod walked;
+
 use control::Control;
 use logical_record::Position;
 use pacing::Window;

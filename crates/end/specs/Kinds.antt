@@ -1,0 +1,60 @@
+-- Take, cut where its code is cut: what is asked of the end alone; and, of a unit whose header is read, the rest by its kind.
+-- Assumes nothing.
+use Prim.Native.Nat.{ℕ}
+use mathlib.Core.Bool.{Bool, cond, _&&_}
+use mathlib.Core.List.{List, [], _∷_}
+use lib.Dec.{eqb}
+use Rattle.logical_record.specs.Walk.{walk}
+use Rattle.logical_record.specs.declared.Position.{Position}
+use Rattle.logical_record.specs.declared.Walked.{Walked}
+use Rattle.logical_record.specs.declared.Walked.the-variants.{At}
+use Rattle.unit.specs.declared.Header.{Header}
+use Rattle.unit.specs.declared.Header.the-variants.{Data, Bid, PositiveBidResponse, NegativeBidResponse, Confirmation, PacingResponse}
+use Rattle.pacing.specs.Pacing.{answered}
+use Rattle.control.specs.Tests.{isNothing}
+use Rattle.end.specs.Questions.{firstNo}
+use Rattle.end.specs.Answers.{BAD-BUFFER, BAD-RECORD, UNREAD-MARK, refusedNaming}
+use Rattle.end.specs.Record.{recordGood, inboxLent, unitLent}
+use Rattle.end.specs.Outcome.{cellsOut, doneOf, Taken}
+use Rattle.end.specs.ReceiveUnit.{kindQuestions, kindTaken, kindJoined}
+use Rattle.end.specs.Results.{takenBy}
+use Rattle.end.specs.declared.End.{End}
+use Rattle.end.specs.declared.Sending.{Sending}
+
+-- the first three of the row, before a byte of the unit is read
+abbrev pub endQuestions : End → ℕ → ℕ → List (Bool × ℕ)
+endQuestions e inbox unit =
+    (inboxLent e inbox && unitLent e unit, BAD-BUFFER) ∷ (recordGood e, BAD-RECORD) ∷ (isNothing (e .control .mark), UNREAD-MARK) ∷ []
+
+unfoldable pub endRefusal : End → ℕ → ℕ → ℕ
+endRefusal e inbox unit = firstNo (endQuestions e inbox unit)
+
+-- the part of the row that the kind decides
+unfoldable pub kindRefusal : End → Header → ℕ → List ℕ → ℕ
+kindRefusal e h n ru = firstNo (kindQuestions e h n ru)
+
+-- data alone is walked over
+abbrev pub walkedFor : Header → Position → List ℕ → Walked
+walkedFor (Data d) p ru = walk p ru
+walkedFor (Bid b) p ru = At p
+walkedFor PositiveBidResponse p ru = At p
+walkedFor NegativeBidResponse p ru = At p
+walkedFor Confirmation p ru = At p
+walkedFor PacingResponse p ru = At p
+
+-- the sending side once its pacing request is answered
+abbrev pub creditAnswered : Sending → Sending
+creditAnswered s = record { window = answered (s .window); max = s .max; held = s .held; number = s .number; given = s .given }
+
+-- what an accepted unit leaves
+unfoldable pub kindLeft : End → Header → ℕ → List ℕ → List ℕ → List ℕ → Taken
+kindLeft e h n ru inbox unit =
+    takenBy (doneOf (kindTaken e h n ru)) (kindJoined e h ru inbox) (cellsOut (kindTaken e h n ru .out) unit)
+
+-- what a refused one leaves: all as it was
+abbrev pub unitRefused : ℕ → ℕ → End → List ℕ → List ℕ → Taken
+unitRefused rule q e inbox unit = takenBy (record { answer = refusedNaming rule q; end = e }) inbox unit
+
+unfoldable pub kindReceived : ℕ → End → Header → ℕ → List ℕ → List ℕ → List ℕ → Taken
+kindReceived rule e h n ru inbox unit =
+    cond (eqb (kindRefusal e h n ru) 0) (kindLeft e h n ru inbox unit) (unitRefused rule (kindRefusal e h n ru) e inbox unit)
