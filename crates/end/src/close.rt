@@ -44,11 +44,19 @@ impl End {
         let sending = self.sending;
         let window = sending.window;
         let given = sending.given;
-        let credit = ask(nothing_goes(sending, ends) | window.has_credit(), NO_CREDIT, 0);
+        let credit = ask(
+            nothing_goes(sending, ends) | window.has_credit(),
+            NO_CREDIT,
+            0,
+        );
         let whole = ask(!marks(ends) | is_whole(given), UNFINISHED_RECORD, credit);
         let state = ask(control.may_send(), WRONG_STATE, whole);
         let record = ask(self.record_good(), BAD_RECORD, state);
-        ask(self.send_lent(send) & self.unit_lent(unit), BAD_BUFFER, record)
+        ask(
+            self.send_lent(send) & self.unit_lent(unit),
+            BAD_BUFFER,
+            record,
+        )
     }
 
     // The last unit, with the bytes held.

@@ -57,7 +57,8 @@ fn buffers_good(s: Session, send: usize, unit: usize, inbox: usize) -> bool
 {
     let max = s.outmax as usize;
     (max <= send)
-        & ((max + RU_START <= unit) & ((window_room(s.inwindow, s.inmax) <= inbox) & (inbox <= GREATEST_INBOX)))
+        & ((max + RU_START <= unit)
+            & ((window_room(s.inwindow, s.inmax) <= inbox) & (inbox <= GREATEST_INBOX)))
 }
 
 fn opening_refusal(s: Session, send: usize, unit: usize, inbox: usize) -> u8
@@ -65,7 +66,11 @@ fn opening_refusal(s: Session, send: usize, unit: usize, inbox: usize) -> u8
 {
     let buffers = ask(buffers_good(s, send, unit, inbox), BAD_BUFFER, 0);
     let maxima = ask(max_good(s.outmax) & max_good(s.inmax), BAD_MAXIMUM, buffers);
-    let windows = ask(size_good(s.outwindow) & size_good(s.inwindow), BAD_WINDOW, maxima);
+    let windows = ask(
+        size_good(s.outwindow) & size_good(s.inwindow),
+        BAD_WINDOW,
+        maxima,
+    );
     ask((s.role == 0) | (s.role == 1), BAD_ROLE, windows)
 }
 
@@ -125,7 +130,14 @@ pub fn open_session(session: Session, send: usize, unit: usize, inbox: usize) ->
         let inmax = session.inmax as u16;
         Done {
             answer: accept(0),
-            end: fresh_end(role, session.outwindow, outmax, session.inwindow, inmax, inbox as u16),
+            end: fresh_end(
+                role,
+                session.outwindow,
+                outmax,
+                session.inwindow,
+                inmax,
+                inbox as u16,
+            ),
         }
     } else {
         Done {

@@ -12,6 +12,7 @@ ghost use Rattle.end.specs.Record.{maxGood, heldGood, sendingGood, inbox
 
 // Bounds of the maximum RU.
 pub const LEAST_MAXIMUM: u32 = 8;
+
 pub const GREATEST_MAXIMUM: u32 = 1024;
 
 pub(crate) fn max_good(max: u32) -> bool
@@ -57,7 +58,8 @@ fn receiving_good(r: Receiving) -> bool
     let window = r.window;
     let taken = r.taken;
     let read = r.read;
-    window.window_good() & (max_good(r.max as u32) & (inbox_good(r) & (is_position(taken) & is_position(read))))
+    window.window_good()
+        & (max_good(r.max as u32) & (inbox_good(r) & (is_position(taken) & is_position(read))))
 }
 
 impl End {

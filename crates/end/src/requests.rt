@@ -47,7 +47,14 @@ pub(crate) fn make_fixed(end: End, number: u16, header: Header, unit: &mut [u8])
 }
 
 // Makes a data unit, whose RU is the bytes of a and then those of b.
-pub(crate) fn make_data(end: End, number: u16, header: Header, a: &[u8], b: &[u8], unit: &mut [u8]) -> Done
+pub(crate) fn make_data(
+    end: End,
+    number: u16,
+    header: Header,
+    a: &[u8],
+    b: &[u8],
+    unit: &mut [u8],
+) -> Done
     requires { ⌜ 5 + (length (now a) + length (now b)) ≤ length (now unit) ⌝ }
     ensures { λ r. ⌜ madeBy r (now (unit .exit)) ≡ made (accept end (aUnit number header (now (a .entry) ++ now (b .entry)))) (now (unit .entry)) ⌝ }
 {

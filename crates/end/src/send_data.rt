@@ -79,7 +79,11 @@ impl End {
         let state = ask(control.may_send(), WRONG_STATE, records);
         let length = ask(length_fits(sending, n), BAD_LENGTH, state);
         let record = ask(self.record_good(), BAD_RECORD, length);
-        ask(self.send_lent(send) & self.unit_lent(unit), BAD_BUFFER, record)
+        ask(
+            self.send_lent(send) & self.unit_lent(unit),
+            BAD_BUFFER,
+            record,
+        )
     }
 
     // One unit goes, of the bytes held and the first of the new ones; the rest is kept, at the front of the send buffer. The
@@ -100,7 +104,14 @@ impl End {
         let mut end = self;
         end.control = spilled;
         end.sending = next;
-        let done = make_data(end, next.number, header, &send[..held], &bytes[..gone], unit);
+        let done = make_data(
+            end,
+            next.number,
+            header,
+            &send[..held],
+            &bytes[..gone],
+            unit,
+        );
         bytes::copy(&bytes[gone..], send);
         done
     }

@@ -32,10 +32,17 @@ ask-requires-4 c κs = search needs
 
 returns : tie.Need-returns
 unfolding allocateRefusal
-returns c = rw (c .ask4 .ensures, c .before .unit-lent .ensures, c .before .before .ask3 .ensures, c .before .before .before .record-good .ensures,
-    c .before .before .before .before .ask2 .ensures, c .before .before .before .before .before .may-allocate .ensures,
-    c .before .before .before .before .before .before .ask .ensures, c .before .before .before .before .before .before .before .has-credit .ensures,
-    c .before .before .before .before .before .before .before .before .is-first-speaker .ensures)
+returns c = rw (
+  c .ask4 .ensures,
+  c .before .unit-lent .ensures,
+  c .before .before .ask3 .ensures,
+  c .before .before .before .record-good .ensures,
+  c .before .before .before .before .ask2 .ensures,
+  c .before .before .before .before .before .may-allocate .ensures,
+  c .before .before .before .before .before .before .ask .ensures,
+  c .before .before .before .before .before .before .before .has-credit .ensures,
+  c .before .before .before .before .before .before .before .before .is-first-speaker .ensures,
+)
 
 pub allocate-refusal-spec : {M : Type 1} → statement M
 allocate-refusal-spec =

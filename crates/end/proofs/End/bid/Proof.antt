@@ -21,8 +21,12 @@ same-length c = search needs
 
 returns : tie.Need-returns
 unfolding bidMade requestMade
-returns c = rw (c .before .before .make-fixed .ensures, c .before .before .before .before .paced .ensures,
-    c .before .before .before .before .before .request-made .ensures, c .before .before .before .before .before .before .allocated .ensures)
+returns c = rw (
+  c .before .before .make-fixed .ensures,
+  c .before .before .before .before .paced .ensures,
+  c .before .before .before .before .before .request-made .ensures,
+  c .before .before .before .before .before .before .allocated .ensures,
+)
 
 pub bid-spec : {M : Type 1} → statement M
 bid-spec =

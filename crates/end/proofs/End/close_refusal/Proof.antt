@@ -44,14 +44,21 @@ ask-requires-5 c κs = search needs
 
 returns : tie.Need-returns
 unfolding closeRefusal
-returns c = rw (c .ask5 .ensures, c .before .unit-lent .ensures, c .before .before .send-lent .ensures, c .before .before .before .ask4 .ensures,
-    c .before .before .before .before .record-good .ensures, c .before .before .before .before .before .ask3 .ensures,
-    c .before .before .before .before .before .before .may-send .ensures, c .before .before .before .before .before .before .before .ask2 .ensures,
-    c .before .before .before .before .before .before .before .before .is-whole .ensures,
-    c .before .before .before .before .before .before .before .before .before .marks .ensures,
-    c .before .before .before .before .before .before .before .before .before .before .ask .ensures,
-    c .before .before .before .before .before .before .before .before .before .before .before .has-credit .ensures,
-    c .before .before .before .before .before .before .before .before .before .before .before .before .nothing-goes .ensures)
+returns c = rw (
+  c .ask5 .ensures,
+  c .before .unit-lent .ensures,
+  c .before .before .send-lent .ensures,
+  c .before .before .before .ask4 .ensures,
+  c .before .before .before .before .record-good .ensures,
+  c .before .before .before .before .before .ask3 .ensures,
+  c .before .before .before .before .before .before .may-send .ensures,
+  c .before .before .before .before .before .before .before .ask2 .ensures,
+  c .before .before .before .before .before .before .before .before .is-whole .ensures,
+  c .before .before .before .before .before .before .before .before .before .marks .ensures,
+  c .before .before .before .before .before .before .before .before .before .before .ask .ensures,
+  c .before .before .before .before .before .before .before .before .before .before .before .has-credit .ensures,
+  c .before .before .before .before .before .before .before .before .before .before .before .before .nothing-goes .ensures,
+)
 
 pub close-refusal-spec : {M : Type 1} → statement M
 close-refusal-spec =

@@ -23,8 +23,14 @@ ask-requires-3 c κs = search needs
 
 returns : tie.Need-returns
 unfolding confirmedRefusal
-returns c = rw (c .ask3 .ensures, c .before .unit-lent .ensures, c .before .before .ask2 .ensures, c .before .before .before .record-good .ensures,
-    c .before .before .before .before .ask .ensures, c .before .before .before .before .before .may-confirm .ensures)
+returns c = rw (
+  c .ask3 .ensures,
+  c .before .unit-lent .ensures,
+  c .before .before .ask2 .ensures,
+  c .before .before .before .record-good .ensures,
+  c .before .before .before .before .ask .ensures,
+  c .before .before .before .before .before .may-confirm .ensures,
+)
 
 pub confirmed-refusal-spec : {M : Type 1} → statement M
 confirmed-refusal-spec =

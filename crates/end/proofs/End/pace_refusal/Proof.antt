@@ -23,8 +23,14 @@ ask-requires-3 c κs = search needs
 
 returns : tie.Need-returns
 unfolding paceRefusal
-returns c = rw (c .ask3 .ensures, c .before .unit-lent .ensures, c .before .before .ask2 .ensures, c .before .before .before .record-good .ensures,
-    c .before .before .before .before .ask .ensures, c .before .before .before .before .before .may-pace .ensures)
+returns c = rw (
+  c .ask3 .ensures,
+  c .before .unit-lent .ensures,
+  c .before .before .ask2 .ensures,
+  c .before .before .before .record-good .ensures,
+  c .before .before .before .before .ask .ensures,
+  c .before .before .before .before .before .may-pace .ensures,
+)
 
 pub pace-refusal-spec : {M : Type 1} → statement M
 pace-refusal-spec =

@@ -35,12 +35,19 @@ ask-requires-5 c κs = search needs
 
 returns : tie.Need-returns
 unfolding readRefusal
-returns c = rw (c .ask5 .ensures, c .before .inbox-lent .ensures, c .before .before .ask4 .ensures, c .before .before .before .record-good .ensures,
-    c .before .before .before .before .ask3 .ensures, c .before .before .before .before .before .ask2 .ensures,
-    c .before .before .before .before .before .before .rest-good .ensures, c .before .before .before .before .before .before .before .ask .ensures,
-    c .before .before .before .before .before .before .before .before .is-nothing .ensures,
-    c .before .before .before .before .before .before .before .before .before .some-held .ensures,
-    c .before .before .before .before .before .before .before .before .before .before .before .before .before .pre)
+returns c = rw (
+  c .ask5 .ensures,
+  c .before .inbox-lent .ensures,
+  c .before .before .ask4 .ensures,
+  c .before .before .before .record-good .ensures,
+  c .before .before .before .before .ask3 .ensures,
+  c .before .before .before .before .before .ask2 .ensures,
+  c .before .before .before .before .before .before .rest-good .ensures,
+  c .before .before .before .before .before .before .before .ask .ensures,
+  c .before .before .before .before .before .before .before .before .is-nothing .ensures,
+  c .before .before .before .before .before .before .before .before .before .some-held .ensures,
+  c .before .before .before .before .before .before .before .before .before .before .before .before .before .pre,
+)
 
 pub read-refusal-spec : {M : Type 1} → statement M
 read-refusal-spec =

@@ -47,16 +47,23 @@ ask-requires-6 c κs = search needs
 
 returns : tie.Need-returns
 unfolding sendRefusal
-returns c = rw (c .ask6 .ensures, c .before .unit-lent .ensures, c .before .before .send-lent .ensures, c .before .before .before .ask5 .ensures,
-    c .before .before .before .before .record-good .ensures, c .before .before .before .before .before .ask4 .ensures,
-    c .before .before .before .before .before .before .length-fits .ensures,
-    c .before .before .before .before .before .before .before .ask3 .ensures,
-    c .before .before .before .before .before .before .before .before .may-send .ensures,
-    c .before .before .before .before .before .before .before .before .before .ask2 .ensures,
-    c .before .before .before .before .before .before .before .before .before .before .is-good .ensures,
-    c .before .before .before .before .before .before .before .before .before .before .before .ask .ensures,
-    c .before .before .before .before .before .before .before .before .before .before .before .before .has-credit .ensures,
-    c .before .before .before .before .before .before .before .before .before .before .before .before .before .keeps .ensures, c .before .before .before .before .before .before .before .before .before .before .before .before .before .before .before .before .before .before .pre)
+returns c = rw (
+  c .ask6 .ensures,
+  c .before .unit-lent .ensures,
+  c .before .before .send-lent .ensures,
+  c .before .before .before .ask5 .ensures,
+  c .before .before .before .before .record-good .ensures,
+  c .before .before .before .before .before .ask4 .ensures,
+  c .before .before .before .before .before .before .length-fits .ensures,
+  c .before .before .before .before .before .before .before .ask3 .ensures,
+  c .before .before .before .before .before .before .before .before .may-send .ensures,
+  c .before .before .before .before .before .before .before .before .before .ask2 .ensures,
+  c .before .before .before .before .before .before .before .before .before .before .is-good .ensures,
+  c .before .before .before .before .before .before .before .before .before .before .before .ask .ensures,
+  c .before .before .before .before .before .before .before .before .before .before .before .before .has-credit .ensures,
+  c .before .before .before .before .before .before .before .before .before .before .before .before .before .keeps .ensures,
+  c .before .before .before .before .before .before .before .before .before .before .before .before .before .before .before .before .before .before .pre,
+)
 
 pub send-refusal-spec : {M : Type 1} → statement M
 send-refusal-spec =

@@ -21,8 +21,14 @@ fresh-requires : tie.Need-fresh-requires
 fresh-requires c κs = search needs
 
 returns : tie.Need-returns
-returns c = rw (c .fresh .ensures, c .before .start3 .ensures, c .before .before .start2 .ensures, c .before .before .before .fresh-window2 .ensures,
-    c .before .before .before .before .start .ensures, c .before .before .before .before .before .fresh-window .ensures)
+returns c = rw (
+  c .fresh .ensures,
+  c .before .start3 .ensures,
+  c .before .before .start2 .ensures,
+  c .before .before .before .fresh-window2 .ensures,
+  c .before .before .before .before .start .ensures,
+  c .before .before .before .before .before .fresh-window .ensures,
+)
 
 pub fresh-end-spec : {M : Type 1} → statement M
 fresh-end-spec =

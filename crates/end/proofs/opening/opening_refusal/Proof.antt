@@ -32,12 +32,17 @@ ask-requires-4 c κs = search needs
 
 returns : tie.Need-returns
 unfolding openingRefusal
-returns c = rw (c .ask4 .ensures, c .before .before .before .ask3 .ensures, c .before .before .before .before .size-good2 .ensures,
-    c .before .before .before .before .before .size-good .ensures, c .before .before .before .before .before .before .ask2 .ensures,
-    c .before .before .before .before .before .before .before .max-good2 .ensures,
-    c .before .before .before .before .before .before .before .before .max-good .ensures,
-    c .before .before .before .before .before .before .before .before .before .ask .ensures,
-    c .before .before .before .before .before .before .before .before .before .before .buffers-good .ensures)
+returns c = rw (
+  c .ask4 .ensures,
+  c .before .before .before .ask3 .ensures,
+  c .before .before .before .before .size-good2 .ensures,
+  c .before .before .before .before .before .size-good .ensures,
+  c .before .before .before .before .before .before .ask2 .ensures,
+  c .before .before .before .before .before .before .before .max-good2 .ensures,
+  c .before .before .before .before .before .before .before .before .max-good .ensures,
+  c .before .before .before .before .before .before .before .before .before .ask .ensures,
+  c .before .before .before .before .before .before .before .before .before .before .buffers-good .ensures,
+)
 
 pub opening-refusal-spec : {M : Type 1} → statement M
 opening-refusal-spec =

@@ -23,8 +23,13 @@ is-position-requires-2 c κs = search needs
 
 returns : tie.Need-returns
 unfolding receivingGood
-returns c = rw (c .is-position2 .ensures, c .before .is-position .ensures, c .before .before .inbox-good .ensures, c .before .before .before .max-good .ensures,
-    c .before .before .before .before .before .window-good .ensures)
+returns c = rw (
+  c .is-position2 .ensures,
+  c .before .is-position .ensures,
+  c .before .before .inbox-good .ensures,
+  c .before .before .before .max-good .ensures,
+  c .before .before .before .before .before .window-good .ensures,
+)
 
 pub receiving-good-spec : {M : Type 1} → statement M
 receiving-good-spec =

@@ -20,8 +20,12 @@ is-position-requires c κs = search needs
 
 returns : tie.Need-returns
 unfolding sendingGood
-returns c = rw (c .is-position .ensures, c .before .held-good .ensures, c .before .before .max-good .ensures,
-    c .before .before .before .before .window-good .ensures)
+returns c = rw (
+  c .is-position .ensures,
+  c .before .held-good .ensures,
+  c .before .before .max-good .ensures,
+  c .before .before .before .before .window-good .ensures,
+)
 
 pub sending-good-spec : {M : Type 1} → statement M
 sending-good-spec =
