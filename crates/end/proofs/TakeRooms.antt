@@ -19,8 +19,8 @@ use Rattle.control.specs.Transitions.{bidAnswer}
 use Rattle.control.specs.declared.Control.{Control}
 use Rattle.end.specs.Questions.{firstNo}
 use Rattle.end.specs.Record.{recordGood, inboxLent, unitLent}
-use Rattle.end.specs.ReceiveUnit.{kindQuestions}
-use Rattle.end.specs.Kinds.{endQuestions, endRefusal, kindRefusal}
+use Rattle.end.specs.ReceiveUnit.{endQuestions, kindQuestions}
+use Rattle.end.specs.Kinds.{endRefusal, kindRefusal}
 use Rattle.end.specs.declared.End.{End}
 use Rattle.end.proofs.Rows.{both, yes}
 use Rattle.end.proofs.Within.{sending-in}

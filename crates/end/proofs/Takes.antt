@@ -16,8 +16,8 @@ use Rattle.end.specs.Questions.{firstNo}
 use Rattle.end.specs.Answers.{SHORT-UNIT, BAD-HEADER, refused}
 use Rattle.end.specs.Outcome.{Decision, refuse, cellsOut, doneOf, Taken}
 use Rattle.end.specs.Results.{takenBy}
-use Rattle.end.specs.ReceiveUnit.{kindQuestions, headerTaken, ruTaken, takeRefusal, dataJoined, bidAnswered, creditRaised, kindTaken, kindJoined, takeDecision, inboxCells, answerNaming, receiveUnit}
-use Rattle.end.specs.Kinds.{endQuestions, endRefusal, kindRefusal, kindLeft, unitRefused, kindReceived}
+use Rattle.end.specs.ReceiveUnit.{endQuestions, kindQuestions, headerTaken, ruTaken, takeRefusal, dataJoined, bidAnswered, creditRaised, kindTaken, kindJoined, takeDecision, inboxCells, answerNaming, receiveUnit}
+use Rattle.end.specs.Kinds.{endRefusal, kindRefusal, kindLeft, unitRefused, kindReceived}
 use Rattle.end.specs.declared.Done.{Done}
 use Rattle.end.specs.declared.End.{End}
 use Rattle.end.proofs.Rows.{yes}

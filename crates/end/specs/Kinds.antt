@@ -1,8 +1,8 @@
 -- Take, cut where its code is cut: what is asked of the end alone; and, of a unit whose header is read, the rest by its kind.
 -- Assumes nothing.
 use Prim.Native.Nat.{ℕ}
-use mathlib.Core.Bool.{Bool, cond, _&&_}
-use mathlib.Core.List.{List, [], _∷_}
+use mathlib.Core.Bool.{cond}
+use mathlib.Core.List.{List}
 use lib.Dec.{eqb}
 use Rattle.logical_record.specs.Walk.{walk}
 use Rattle.logical_record.specs.declared.Position.{Position}
@@ -11,21 +11,15 @@ use Rattle.logical_record.specs.declared.Walked.the-variants.{At}
 use Rattle.unit.specs.declared.Header.{Header}
 use Rattle.unit.specs.declared.Header.the-variants.{Data, Bid, PositiveBidResponse, NegativeBidResponse, Confirmation, PacingResponse}
 use Rattle.pacing.specs.Pacing.{answered}
-use Rattle.control.specs.Tests.{isNothing}
 use Rattle.end.specs.Questions.{firstNo}
-use Rattle.end.specs.Answers.{BAD-BUFFER, BAD-RECORD, UNREAD-MARK, refusedNaming}
-use Rattle.end.specs.Record.{recordGood, inboxLent, unitLent}
+use Rattle.end.specs.Answers.{refusedNaming}
 use Rattle.end.specs.Outcome.{cellsOut, doneOf, Taken}
-use Rattle.end.specs.ReceiveUnit.{kindQuestions, kindTaken, kindJoined}
+use Rattle.end.specs.ReceiveUnit.{endQuestions, kindQuestions, kindTaken, kindJoined}
 use Rattle.end.specs.Results.{takenBy}
 use Rattle.end.specs.declared.End.{End}
 use Rattle.end.specs.declared.Sending.{Sending}
 
 -- the first three of the row, before a byte of the unit is read
-abbrev pub endQuestions : End → ℕ → ℕ → List (Bool × ℕ)
-endQuestions e inbox unit =
-    (inboxLent e inbox && unitLent e unit, BAD-BUFFER) ∷ (recordGood e, BAD-RECORD) ∷ (isNothing (e .control .mark), UNREAD-MARK) ∷ []
-
 unfoldable pub endRefusal : End → ℕ → ℕ → ℕ
 endRefusal e inbox unit = firstNo (endQuestions e inbox unit)
 

@@ -75,15 +75,15 @@ kindQuestions e Confirmation n ru =
 kindQuestions e PacingResponse n ru =
     (ruGood (e .receiving .max) PacingResponse ru, BAD-RU) ∷ (e .sending .window .pending, BAD-PACING) ∷ (eqb n 0, BAD-NUMBER) ∷ []
 
+-- what is asked of the end alone, before a byte of the unit is read
+abbrev pub endQuestions : End → ℕ → ℕ → List (Bool × ℕ)
+endQuestions e inbox unit =
+    (inboxLent e inbox && unitLent e unit, BAD-BUFFER) ∷ (recordGood e, BAD-RECORD) ∷ (isNothing (e .control .mark), UNREAD-MARK) ∷ []
+
 -- what is asked before the kind is known
 abbrev pub headQuestions : End → List ℕ → ℕ → ℕ → List (Bool × ℕ)
 headQuestions e taken inbox unit =
-    (inboxLent e inbox && unitLent e unit, BAD-BUFFER)
-    ∷ (recordGood e, BAD-RECORD)
-    ∷ (isNothing (e .control .mark), UNREAD-MARK)
-    ∷ (leb RU-START (length taken), SHORT-UNIT)
-    ∷ (headerGood (headerIn taken), BAD-HEADER)
-    ∷ []
+    endQuestions e inbox unit ++ ((leb RU-START (length taken), SHORT-UNIT) ∷ (headerGood (headerIn taken), BAD-HEADER) ∷ [])
 
 abbrev pub headerTaken : List ℕ → Header
 headerTaken taken = fieldsOf (headerIn taken)

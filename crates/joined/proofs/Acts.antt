@@ -49,15 +49,15 @@ use Rattle.joined.proofs.Cases.{cases, split}
 use Rattle.joined.proofs.Rows.{all-yes, pass, left, right}
 use Rattle.end.specs.Questions.{firstNo}
 
-abbrev pub Unit′ : Type 0
-Unit′ = List ℕ
+abbrev pub UnitBytes : Type 0
+UnitBytes = List ℕ
 
 -- ---- a refused call
 
-abbrev pub refusedAct : Station → ℕ → Acted Station Reply Unit′
+abbrev pub refusedAct : Station → ℕ → Acted Station Reply UnitBytes
 refusedAct s q = record { end = s; answer = plain (refused q); sent = [] }
 
-made-refused : (P : Acted Station Reply Unit′ → Type 0) (s : Station) (q : ℕ) → eqb q 0 ≡ false → P (refusedAct s q) → P (makes s (made (refuse q (s .end)) (s .unit)))
+made-refused : (P : Acted Station Reply UnitBytes → Type 0) (s : Station) (q : ℕ) → eqb q 0 ≡ false → P (refusedAct s q) → P (makes s (made (refuse q (s .end)) (s .unit)))
 made-refused P s q e h = rw e h
 
 -- ---- a unit made is what the caller finds at the front of the unit buffer
@@ -73,10 +73,10 @@ unit-out n h ru cells =
 abbrev pub withEnd : Station → End → Station
 withEnd s e = record { end = e; send = s .send; unit = s .unit; inbox = s .inbox }
 
-abbrev pub quietAct : Station → End → Acted Station Reply Unit′
+abbrev pub quietAct : Station → End → Acted Station Reply UnitBytes
 quietAct s e = record { end = withEnd s e; answer = plain (accepted 0); sent = [] }
 
-abbrev pub unitAct : Station → End → ℕ → Header → List ℕ → Acted Station Reply Unit′
+abbrev pub unitAct : Station → End → ℕ → Header → List ℕ → Acted Station Reply UnitBytes
 unitAct s e n h ru =
     record {
       end = record { end = e; send = s .send; unit = front (unitOf n h ru) (s .unit); inbox = s .inbox };
@@ -84,11 +84,11 @@ unitAct s e n h ru =
       sent = unitOf n h ru ∷ [];
     }
 
-made-unit : (P : Acted Station Reply Unit′ → Type 0) (s : Station) (e : End) (n : ℕ) (h : Header) (ru : List ℕ)
+made-unit : (P : Acted Station Reply UnitBytes → Type 0) (s : Station) (e : End) (n : ℕ) (h : Header) (ru : List ℕ)
     → P (unitAct s e n h ru) → P (makes s (made (record { refusal = 0; end = e; out = aUnit n h ru }) (s .unit)))
 made-unit P s e n h ru p =
     subst
-    (λ (us : List Unit′).
+    (λ (us : List UnitBytes).
     P (record {
       end = record { end = e; send = s .send; unit = front (unitOf n h ru) (s .unit); inbox = s .inbox };
       answer = plain (accepted (RU-START + length ru));
@@ -102,7 +102,7 @@ abbrev pub bidNumber : End → ℕ
 bidNumber e = nextNumber (e .sending .number)
 
 pub allocate-cases :
-    (P : Acted Station Reply Unit′ → Type 0) (s : Station)
+    (P : Acted Station Reply UnitBytes → Type 0) (s : Station)
     → ((q : ℕ) → eqb q 0 ≡ false → P (refusedAct s q))
     → (recordGood (s .end) ≡ true
     → mayAllocate (s .end .control) ≡ true
@@ -135,7 +135,7 @@ good-at (At p) e = (p, refl)
 good-at BadLength e = absurd (let z : _≡_ {A = ℕ} 0 1 = cc in omega arith)
 
 -- the bytes are kept
-abbrev pub keptAct : Station → List ℕ → Acted Station Reply Unit′
+abbrev pub keptAct : Station → List ℕ → Acted Station Reply UnitBytes
 keptAct s bytes =
     record {
       end = record { end = bytesKept (s .end) bytes .end; send = written (s .end .sending .held) bytes (s .send); unit = s .unit; inbox = s .inbox };
@@ -147,10 +147,10 @@ keptAct s bytes =
 abbrev pub spilledRu : Station → List ℕ → List ℕ
 spilledRu s bytes = heldBytes (s .end) (s .send) ++ take (gone (s .end)) bytes
 
-abbrev pub spilledUnit : Station → List ℕ → Unit′
+abbrev pub spilledUnit : Station → List ℕ → UnitBytes
 spilledUnit s bytes = unitOf (nextNumber (s .end .sending .number)) (dataHeader (s .end) Continues) (spilledRu s bytes)
 
-abbrev pub spilledAct : Station → List ℕ → Acted Station Reply Unit′
+abbrev pub spilledAct : Station → List ℕ → Acted Station Reply UnitBytes
 spilledAct s bytes =
     record {
       end =
@@ -175,7 +175,7 @@ pub record SendAsked (s : Station) (bytes : List ℕ) : Type 0 where
   pub walked : walk (s .end .sending .given) bytes ≡ At place
 
 pub send-cases :
-    (P : Acted Station Reply Unit′ → Type 0) (s : Station) (bytes : List ℕ)
+    (P : Acted Station Reply UnitBytes → Type 0) (s : Station) (bytes : List ℕ)
     → ((q : ℕ) → eqb q 0 ≡ false → P (refusedAct s q))
     → (SendAsked s bytes → keeps (s .end .sending) (length bytes) ≡ true → P (keptAct s bytes))
     → (SendAsked s bytes → keeps (s .end .sending) (length bytes) ≡ false → hasCredit (s .end .sending .window) ≡ true → P (spilledAct s bytes))
@@ -204,7 +204,7 @@ send-cases P s bytes refuses keep spill =
     (λ k.
     rw k
     (subst
-    (λ (us : List Unit′).
+    (λ (us : List UnitBytes).
     P (record {
       end =
           record {
@@ -228,12 +228,12 @@ pub record CloseAsked (s : Station) (f : Follows) (c : Bool) : Type 0 where
   pub sending : maySend (s .end .control) ≡ true
   pub whole : not (marks (Last f c)) || isWhole (s .end .sending .given) ≡ true
 
-abbrev pub lastAct : Station → Follows → Bool → Acted Station Reply Unit′
+abbrev pub lastAct : Station → Follows → Bool → Acted Station Reply UnitBytes
 lastAct s f c =
     unitAct s (lastMade (s .end) f c (s .send) .end) (nextNumber (s .end .sending .number)) (dataHeader (s .end) (Last f c)) (heldBytes (s .end) (s .send))
 
 pub close-cases :
-    (P : Acted Station Reply Unit′ → Type 0) (s : Station) (f : Follows) (c : Bool)
+    (P : Acted Station Reply UnitBytes → Type 0) (s : Station) (f : Follows) (c : Bool)
     → ((q : ℕ) → eqb q 0 ≡ false → P (refusedAct s q))
     → (CloseAsked s f c → nothingGoes (s .end) f c ≡ true → P (quietAct s (s .end)))
     → (CloseAsked s f c → nothingGoes (s .end) f c ≡ false → hasCredit (s .end .sending .window) ≡ true → P (lastAct s f c))
@@ -261,7 +261,7 @@ close-cases P s f c refuses none goes =
 -- ---- confirmed
 
 pub confirmed-cases :
-    (P : Acted Station Reply Unit′ → Type 0) (s : Station)
+    (P : Acted Station Reply UnitBytes → Type 0) (s : Station)
     → ((q : ℕ) → eqb q 0 ≡ false → P (refusedAct s q))
     → (recordGood (s .end) ≡ true
     → mayConfirm (s .end .control) ≡ true
@@ -280,7 +280,7 @@ confirmed-cases P s refuses goes =
 -- ---- pace
 
 pub pace-cases :
-    (P : Acted Station Reply Unit′ → Type 0) (s : Station)
+    (P : Acted Station Reply UnitBytes → Type 0) (s : Station)
     → ((q : ℕ) → eqb q 0 ≡ false → P (refusedAct s q))
     → (recordGood (s .end) ≡ true
     → mayPace (s .end .receiving) ≡ true
@@ -307,10 +307,10 @@ pub record ReadAsked (s : Station) (buffer : List ℕ) : Type 0 where
 abbrev pub readCount : Station → List ℕ → ℕ
 readCount s buffer = copyCount (s .end) (s .inbox) (length buffer)
 
-abbrev pub refusedRead : Station → ℕ → List ℕ → Acted Station Reply Unit′
+abbrev pub refusedRead : Station → ℕ → List ℕ → Acted Station Reply UnitBytes
 refusedRead s q buffer = record { end = s; answer = record { answer = readRefused q; buffer = buffer }; sent = [] }
 
-abbrev pub bytesAct : Station → List ℕ → Acted Station Reply Unit′
+abbrev pub bytesAct : Station → List ℕ → Acted Station Reply UnitBytes
 bytesAct s buffer =
     record {
       end =
@@ -325,7 +325,7 @@ bytesAct s buffer =
       sent = [];
     }
 
-abbrev pub markAct : Station → List ℕ → Acted Station Reply Unit′
+abbrev pub markAct : Station → List ℕ → Acted Station Reply UnitBytes
 markAct s buffer =
     record {
       end = withEnd s (withControl (markAnswered (s .end .control)) (s .end));
@@ -334,7 +334,7 @@ markAct s buffer =
     }
 
 pub read-cases :
-    (P : Acted Station Reply Unit′ → Type 0) (s : Station) (buffer : List ℕ)
+    (P : Acted Station Reply UnitBytes → Type 0) (s : Station) (buffer : List ℕ)
     → ((q : ℕ) → q ≡ readRefusal (s .end) (s .inbox) (length buffer) → eqb q 0 ≡ false → P (refusedRead s q buffer))
     → (ReadAsked s buffer → someHeld (s .end) ≡ true → P (bytesAct s buffer))
     → (ReadAsked s buffer → someHeld (s .end) ≡ false → not (isNothing (s .end .control .mark)) ≡ true → P (markAct s buffer))
@@ -362,7 +362,7 @@ read-cases P s buffer refuses copied marked =
 -- ---- take
 
 -- an accepted take, by the kind of the unit
-abbrev pub tookKind : Station → Header → ℕ → List ℕ → Took Station Reply Unit′
+abbrev pub tookKind : Station → Header → ℕ → List ℕ → Took Station Reply UnitBytes
 tookKind s (Data d) n ru =
     record {
       end = record { end = dataJoined (s .end) d n ru .end; send = s .send; unit = s .unit; inbox = written (s .end .receiving .held) ru (s .inbox) };
@@ -388,7 +388,7 @@ tookKind s PacingResponse n ru =
     record { end = withEnd s (creditRaised (s .end) .end); answer = plain (accepted 0); sent = []; removed = true }
 
 -- what a take leaves by its decision
-abbrev tookOf : (List ℕ → ℕ) → Station → List ℕ → Decision → List ℕ → Took Station Reply Unit′
+abbrev tookOf : (List ℕ → ℕ) → Station → List ℕ → Decision → List ℕ → Took Station Reply UnitBytes
 tookOf naming s u d inbox =
     record {
       end = record { end = d .end; send = s .send; unit = cellsOut (d .out) (s .unit); inbox = inbox };
@@ -398,7 +398,7 @@ tookOf naming s u d inbox =
     }
 
 took-kind :
-    (P : Took Station Reply Unit′ → Type 0) (naming : List ℕ → ℕ) (s : Station) (u : List ℕ) (h : Header) (n : ℕ) (ru : List ℕ)
+    (P : Took Station Reply UnitBytes → Type 0) (naming : List ℕ → ℕ) (s : Station) (u : List ℕ) (h : Header) (n : ℕ) (ru : List ℕ)
     → P (tookKind s h n ru)
     → P (tookOf naming s u (kindTaken (s .end) h n ru) (cond (eqb (kindTaken (s .end) h n ru .refusal) 0) (kindJoined (s .end) h ru (s .inbox)) (s .inbox)))
 unfolding dataJoined bidAnswered creditRaised
@@ -406,7 +406,7 @@ took-kind P naming s u (Data d) n ru p = p
 took-kind P naming s u (Bid b) n ru p =
     let h = bidAnswer (s .end .control) in
     subst
-    (λ (us : List Unit′).
+    (λ (us : List UnitBytes).
     P (record {
       end = record { end = bidAnswered (s .end) n .end; send = s .send; unit = front (unitOf n h (fixedRu h)) (s .unit); inbox = s .inbox };
       answer = plain (accepted (RU-START + length (fixedRu h)));
@@ -427,11 +427,11 @@ pub record TakeAsked (s : Station) (u : List ℕ) : Type 0 where
   pub long : RU-START ≤ length u
   pub header : headerGood (headerIn u) ≡ true
 
-abbrev pub refusedTake : (List ℕ → ℕ) → Station → List ℕ → ℕ → Took Station Reply Unit′
+abbrev pub refusedTake : (List ℕ → ℕ) → Station → List ℕ → ℕ → Took Station Reply UnitBytes
 refusedTake naming s u q = record { end = s; answer = plain (refusedNaming (naming u) q); sent = []; removed = false }
 
 pub take-cases :
-    (P : Took Station Reply Unit′ → Type 0) (naming : List ℕ → ℕ) (s : Station) (u : List ℕ)
+    (P : Took Station Reply UnitBytes → Type 0) (naming : List ℕ → ℕ) (s : Station) (u : List ℕ)
     → ((q : ℕ) → q ≡ takeRefusal (s .end) u (length (s .inbox)) (length (s .unit)) → eqb q 0 ≡ false → P (refusedTake naming s u q))
     → (TakeAsked s u → firstNo (kindQuestions (s .end) (headerTaken u) (numberIn u) (ruTaken u)) ≡ 0 → P (tookKind s (headerTaken u) (numberIn u) (ruTaken u)))
     → P (takes naming s u)

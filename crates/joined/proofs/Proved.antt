@@ -27,7 +27,7 @@ use Rattle.end.specs.declared.Done.{Done}
 use Rattle.joined.specs.Joined.{At, Side, Both, run}
 use Rattle.joined.specs.Ends.{Station, Verb, Reply, Buffers, OpeningAccepted, JoinedOpenings, openedWith, openedBoth, acts, takes}
 use Rattle.joined.specs.Histories.{Log, bytesAccepted, bytesRead, bytesOnLine, bytesInInbox, bytesInSendBuffer, requestsMade, pacingResponsesTaken, breaches, badReads, CompleteIsRight}
-use Rattle.joined.specs.Claim.{Pair, End′, after, BytesConserved, Joint, SameOutcome, Claim, RecordsArrive, ReadsRight, Records, TheRecords}
+use Rattle.joined.specs.Claim.{Pair, JoinedEnd, after, BytesConserved, Joint, SameOutcome, Claim, RecordsArrive, ReadsRight, Records, TheRecords}
 use Rattle.joined.proofs.Confluence.{confluent}
 use Rattle.joined.proofs.Invariant.{Fact, Keeps, AfterAct, AfterTake, Ways, run-ways}
 use Rattle.joined.proofs.Good.{never}
@@ -255,13 +255,13 @@ proved naming s t b c l j =
 
 -- ---- the records
 
-arrive : (x y : End′) → BytesConserved x y → RecordsArrive x y
+arrive : (x y : JoinedEnd) → BytesConserved x y → RecordsArrive x y
 arrive x y e =
     let rest = bytesInInbox (y .end) ++ (bytesOnLine (y .waiting) ++ bytesInSendBuffer (x .end)) in
     let q = whole-records-append (bytesRead (y .log)) rest in
     record { still-to-come = _; first-are-read = ap wholeRecords e ∙ q }
 
-reads-of : (x : End′) → Local (valuesOf (x .end)) (x .log) → ReadsRight x
+reads-of : (x : JoinedEnd) → Local (valuesOf (x .end)) (x .log) → ReadsRight x
 reads-of x l = record { read = l .read; inbox = l .inbox; complete = l .complete; never-8 = l .never-8; whole = l .whole }
 
 pub the-records : TheRecords

@@ -18,8 +18,8 @@ use Rattle.joined.specs.Histories.{bytesAccepted, bytesRead, bytesOnLine
 abbrev pub Pair : Type 0
 Pair = Both Station Verb Reply (List ℕ)
 
-abbrev pub End′ : Type 0
-End′ = Side Station Verb Reply (List ℕ)
+abbrev pub JoinedEnd : Type 0
+JoinedEnd = Side Station Verb Reply (List ℕ)
 
 -- the two ends as opened, after the list of calls; `naming` is the choice of a rule that 21 leaves free
 abbrev pub after : (List ℕ → ℕ) → Session → Session → Buffers → Buffers → List (At Verb) → Pair
@@ -27,12 +27,12 @@ after naming s t b c l = run acts (takes naming) (openedBoth s t b c) l
 
 -- One way, from x to y: the bytes accepted for sending are exactly the bytes read at the other end, then those held in its inbox, then the data RUs
 -- on the line, then those held in the sender's buffer.
-abbrev pub BytesConserved : End′ → End′ → Type 0
+abbrev pub BytesConserved : JoinedEnd → JoinedEnd → Type 0
 BytesConserved x y =
     bytesAccepted (x .log) ≡ bytesRead (y .log) ++ (bytesInInbox (y .end) ++ (bytesOnLine (y .waiting) ++ bytesInSendBuffer (x .end)))
 
 -- requests made plus credit left = sending W × (1 + pacing answers taken)
-abbrev pub CreditCounted : ℕ → End′ → Type 0
+abbrev pub CreditCounted : ℕ → JoinedEnd → Type 0
 CreditCounted w x = requestsMade (x .log) + creditOf (x .end .end) ≡ w * (1 + pacingResponsesTaken (x .log))
 
 pub record Joint (s t : Session) (p : Pair) : Type 0 where
@@ -69,12 +69,12 @@ Claim =
 -- ---- the records
 
 -- Cut the bytes accepted at x into logical records by LL: the whole records read at y are exactly the first of these, in order, byte for byte.
-pub record RecordsArrive (x y : End′) : Type 0 where
+pub record RecordsArrive (x y : JoinedEnd) : Type 0 where
   pub still-to-come : List (List ℕ)
   pub first-are-read : wholeRecords (bytesAccepted (x .log)) ≡ wholeRecords (bytesRead (y .log)) ++ still-to-come
 
 -- What reads hand out is cut exactly at record ends.
-pub record ReadsRight (x : End′) : Type 0 where
+pub record ReadsRight (x : JoinedEnd) : Type 0 where
   -- the bytes read so far walk to the read place, and the inbox walks from there to the taken place
   pub read : walk start (bytesRead (x .log)) ≡ walked.At (x .end .end .receiving .read)
   pub inbox : walk (x .end .end .receiving .read) (bytesInInbox (x .end)) ≡ walked.At (x .end .end .receiving .taken)
