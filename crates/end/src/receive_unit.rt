@@ -81,8 +81,7 @@ impl End {
 
     // Takes one unit from the partner, or refuses it and changes nothing. A bid is answered: its answer is the unit made.
     pub fn receive_unit(self, taken: &[u8], inbox: &mut [u8], unit: &mut [u8]) -> Done
-        ensures outcome { λ r. ⌜ takenBy r (now (inbox .exit)) (now (unit .exit)) ≡ receiveUnit (r .answer .rule) self (now (taken .entry)) (now (inbox .entry)) (now (unit .entry)) ⌝ }
-        ensures named { λ r. ⌜ (r .answer .refusal ≡ 21 → NamesBroken (r .answer .rule) (headerIn (now (taken .entry)))) ⌝ }
+        ensures { λ r. ⌜ (takenBy r (now (inbox .exit)) (now (unit .exit)) ≡ receiveUnit (r .answer .rule) self (now (taken .entry)) (now (inbox .entry)) (now (unit .entry))) × (r .answer .refusal ≡ 21 → NamesBroken (r .answer .rule) (headerIn (now (taken .entry)))) ⌝ }
     {
         let q = self.end_refusal(inbox.len(), unit.len());
         if q == 0 {
