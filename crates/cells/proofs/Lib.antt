@@ -1,3 +1,4 @@
 mod Moves
 pub mod Fronts
 pub mod Parts
+pub mod Copies

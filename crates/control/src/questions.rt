@@ -10,6 +10,7 @@ use crate::tests::is_receive;
 use crate::tests::is_reset;
 use crate::tests::is_send;
 ghost use mathlib.Core.Path.{_≡_};
+ghost use Rattle.control.specs.Tests.{isFirstSpeaker, isNothing};
 ghost use Rattle.control.specs.Within.{markInReceive, dueInSend, bidAtBidder, chainInSend, controlGood};
 ghost use Rattle.control.specs.Questions.{mayAllocate, maySend, mayConfirm, chainFits, bracketFits, bidFits, stateFits, grantFits, refusalFits, confirmationFits};
 
@@ -50,6 +51,21 @@ impl Control {
     {
         self.mark_in_receive()
             & (self.due_in_send() & (self.bid_at_bidder() & self.chain_in_send()))
+    }
+
+    pub fn speaks_first(self) -> bool
+        ensures { λ r. ⌜ r ≡ isFirstSpeaker (self .role) ⌝ }
+    {
+        let role = self.role;
+        is_first_speaker(role)
+    }
+
+    // No mark waits to be read.
+    pub fn has_no_mark(self) -> bool
+        ensures { λ r. ⌜ r ≡ isNothing (self .mark) ⌝ }
+    {
+        let mark = self.mark;
+        is_nothing(mark)
     }
 
     pub fn may_allocate(self) -> bool

@@ -1,11 +1,8 @@
-mod Rows
 mod Openings
 mod Within
 mod Rooms
-mod Copies
 mod Spills
 mod Reading
-mod TwoRows
 mod ReceivingIn
 mod TakeRooms
 mod UnitReads

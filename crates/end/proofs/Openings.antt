@@ -1,14 +1,14 @@
 -- An accepted opening: what its record keeps in 16 bits fits there.
 -- Assumes nothing.
-use mathlib.Core.Path.{_≡_}
 use Prim.Native.Nat.{ℕ, _+_, _*_, _≤_}
+use mathlib.Core.Path.{_≡_}
 use mathlib.Core.Bool.{true, _&&_}
 use lib.Dec.{leb}
 use borrow.Author.Tests.{leb-true}
-use Rattle.end.specs.Record.{maxGood}
-use Rattle.end.specs.Opening.{openingQuestions, openingRefusal}
-use Rattle.end.specs.declared.Session.{Session}
-use Rattle.end.proofs.Rows.{both, yes}
+use Rattle.answers.proofs.Rows.{both, yes}
+use Rattle.sides.specs.Shared.{maxGood}
+use Rattle.sides.specs.Opening.{openingQuestions, openingRefusal}
+use Rattle.sides.specs.declared.Session.{Session}
 
 pub record Fits (s : Session) (inbox : ℕ) : Type 0 where
   pub outmax : s .outmax ≤ 1024

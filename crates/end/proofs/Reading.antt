@@ -1,31 +1,19 @@
 -- A read, from its parts.
 -- Assumes nothing.
-use mathlib.Core.Path.{_≡_, refl, sym, _∙_}
+use Prim.Native.Nat.{ℕ, _≤_}
+use mathlib.Core.Path.{_≡_, refl}
 use mathlib.Core.Bool.{Bool, true, false, cond}
 use mathlib.Core.List.{List}
-use Prim.Native.Nat.{ℕ, _≤_, _<_, min}
-use native.Mathlib.Nat.{min-eq-left, min-eq-right, le-of-lt}
 use native.Mathlib.Omega.{arith}
-use lib.Dec.{eqb, leb}
-use lib.ListN.{length, take, drop}
-use lib.Seq.{take-all, take-length}
-use borrow.Author.Tests.{eqb-true, leb-true, leb-false}
+use lib.Dec.{eqb}
+use lib.ListN.{length, drop}
+use borrow.Author.Tests.{eqb-true}
 use Rattle.cells.specs.Cells.{front}
+use Rattle.cells.proofs.Copies.{front-same}
+use Rattle.answers.proofs.Rows.{yes}
 use Rattle.end.specs.Receive.{inboxBytes, readQuestions, readRefusal, inboxMoved}
-use Rattle.end.specs.declared.End.{End}
-use Rattle.end.proofs.Rows.{yes}
 use Rattle.end.proofs.Within.{held-in-inbox}
-use Rattle.end.proofs.Copies.{front-same}
-
--- no more can be taken than there is
-take-least′ : (t : Bool) (h : ℕ) (xs : List ℕ) → leb h (length xs) ≡ t → take (min h (length xs)) xs ≡ take h xs
-take-least′ true h xs e = rw (min-eq-left (leb-true h (length xs) e))
-take-least′ false h xs e =
-    let l = le-of-lt (leb-false h (length xs) e) in
-    rw (min-eq-right l, take-length xs, take-all h xs l)
-
-pub take-least : (h : ℕ) (xs : List ℕ) → take (min h (length xs)) xs ≡ take h xs
-take-least h xs = take-least′ (leb h (length xs)) h xs refl
+use Rattle.end.specs.declared.End.{End}
 
 -- the questions were all answered yes
 pub read-room : (e : End) (inbox : List ℕ) (buffer : ℕ) → readRefusal e inbox buffer ≡ 0 → e .receiving .held ≤ length inbox

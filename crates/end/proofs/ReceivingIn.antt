@@ -1,15 +1,18 @@
 -- A record within its rules (question 5): the bounds of its receiving side.
 -- Assumes nothing.
+use Prim.Native.Nat.{_+_, _*_, _≤_}
 use mathlib.Core.Path.{_≡_}
 use mathlib.Core.Bool.{true, _&&_}
-use Prim.Native.Nat.{_+_, _*_, _≤_}
 use borrow.Author.Tests.{leb-true}
 use Rattle.logical_record.specs.Positions.{isPosition}
 use Rattle.pacing.specs.Pacing.{windowGood, credit}
 use Rattle.control.specs.Within.{controlGood}
-use Rattle.end.specs.Record.{maxGood, inboxGood, sendingGood, receivingGood, recordGood}
+use Rattle.answers.proofs.Rows.{both}
+use Rattle.sides.specs.Shared.{maxGood}
+use Rattle.sides.specs.Receiving.{inboxGood, receivingGood}
+use Rattle.sides.specs.Sending.{sendingGood}
+use Rattle.end.specs.Record.{recordGood}
 use Rattle.end.specs.declared.End.{End}
-use Rattle.end.proofs.Rows.{both}
 
 -- what is open, each request at its longest, has room behind the bytes held
 pub receiving-in : (e : End) → recordGood e ≡ true

@@ -1,19 +1,19 @@
 -- A call whose questions were all answered yes: what it writes has room.
 -- Assumes nothing.
+use Prim.Native.Nat.{ℕ, _+_, _≤_}
 use mathlib.Core.Path.{_≡_}
 use mathlib.Core.Bool.{Bool, true}
-use Prim.Native.Nat.{ℕ, _+_, _≤_}
 use native.Mathlib.Omega.{arith}
 use borrow.Author.Tests.{leb-true}
 use Rattle.unit.specs.declared.Follows.{Follows}
+use Rattle.answers.proofs.Rows.{both, yes}
 use Rattle.end.specs.Record.{recordGood, sendLent, unitLent}
 use Rattle.end.specs.Allocate.{allocateQuestions, allocateRefusal}
 use Rattle.end.specs.Confirmed.{confirmedQuestions, confirmedRefusal}
 use Rattle.end.specs.Close.{closeQuestions, closeRefusal}
 use Rattle.end.specs.Pace.{paceQuestions, paceRefusal}
-use Rattle.end.specs.declared.End.{End}
-use Rattle.end.proofs.Rows.{both, yes}
 use Rattle.end.proofs.Within.{sending-in}
+use Rattle.end.specs.declared.End.{End}
 
 -- the longest unit that holds no data, a bid, has ten bytes: M is at least 8
 fixed-room : (e : End) (n : ℕ) → unitLent e n ≡ true → recordGood e ≡ true → 10 ≤ n

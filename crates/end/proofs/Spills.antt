@@ -1,20 +1,19 @@
 -- Send data, from its parts: what it may rely on, and its outcome from that of the unit made.
 -- Assumes nothing.
-use mathlib.Core.Path.{_≡_}
-use mathlib.Core.Bool.{_&&_}
-use mathlib.Core.List.{List}
 use Prim.Native.Nat.{ℕ, _+_, _≤_}
+use mathlib.Core.Path.{_≡_}
+use mathlib.Core.List.{List}
 use lib.Dec.{leb}
 use lib.ListN.{length}
 use borrow.Author.Tests.{leb-true}
+use Rattle.answers.proofs.Rows.{both, yes}
 use Rattle.end.specs.Record.{sendLent, unitLent}
 use Rattle.end.specs.SendData.{sendQuestions, sendRefusal}
-use Rattle.end.specs.Outcome.{cellsOut, doneOf, Decision, Sent, made}
+use Rattle.end.specs.Outcome.{cellsOut, doneOf, Decision, made}
 use Rattle.end.specs.Results.{madeBy, sentBy}
+use Rattle.end.proofs.Within.{SendingIn, sending-in}
 use Rattle.end.specs.declared.Done.{Done}
 use Rattle.end.specs.declared.End.{End}
-use Rattle.end.proofs.Rows.{both, yes}
-use Rattle.end.proofs.Within.{SendingIn, sending-in}
 
 -- the questions were all answered yes
 pub record SendRoom (e : End) (n send unit : ℕ) : Type 0 where

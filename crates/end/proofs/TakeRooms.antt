@@ -1,9 +1,9 @@
 -- A unit that no question refused: what is written of it has room.
 -- Assumes nothing.
+use Prim.Native.Nat.{ℕ, _+_, _*_, _≤_}
 use mathlib.Core.Path.{_≡_, sym, ap, _∙_}
 use mathlib.Core.Bool.{Bool, true, false, cond, _&&_, _||_}
 use mathlib.Core.List.{List}
-use Prim.Native.Nat.{ℕ, _+_, _*_, _≤_}
 use native.Mathlib.Nat.{le-refl, mul-le-mul}
 use native.Mathlib.Omega.{arith}
 use lib.Dec.{leb}
@@ -17,14 +17,14 @@ use Rattle.pacing.specs.Pacing.{credit, hasCredit, paced}
 use Rattle.control.specs.Tests.{isReset, agree}
 use Rattle.control.specs.Transitions.{bidAnswer}
 use Rattle.control.specs.declared.Control.{Control}
-use Rattle.end.specs.Questions.{firstNo}
+use Rattle.answers.specs.Questions.{firstNo}
+use Rattle.answers.proofs.Rows.{both, yes}
 use Rattle.end.specs.Record.{recordGood, inboxLent, unitLent}
 use Rattle.end.specs.ReceiveUnit.{endQuestions, kindQuestions}
 use Rattle.end.specs.Kinds.{endRefusal, kindRefusal}
-use Rattle.end.specs.declared.End.{End}
-use Rattle.end.proofs.Rows.{both, yes}
 use Rattle.end.proofs.Within.{sending-in}
 use Rattle.end.proofs.ReceivingIn.{receiving-in}
+use Rattle.end.specs.declared.End.{End}
 
 pub end-good : (e : End) (inbox unit : ℕ) → endRefusal e inbox unit ≡ 0
     → (inboxLent e inbox && unitLent e unit ≡ true) × (recordGood e ≡ true)

@@ -1,9 +1,9 @@
 -- Take: the row of its definition where the code stops, and what each number leaves.
 -- Assumes nothing.
+use Prim.Native.Nat.{ℕ}
 use mathlib.Core.Path.{_≡_, refl, sym, ap, _∙_}
 use mathlib.Core.Bool.{Bool, true, false, cond}
 use mathlib.Core.List.{List, _∷_}
-use Prim.Native.Nat.{ℕ}
 use native.Mathlib.Omega.{arith}
 use lib.Dec.{eqb, leb}
 use lib.ListN.{length}
@@ -12,16 +12,16 @@ use Rattle.unit.specs.Rules.{headerGood}
 use Rattle.unit.specs.Unit.{RU-START, numberIn, headerIn}
 use Rattle.unit.specs.declared.Header.{Header}
 use Rattle.unit.specs.declared.Header.the-variants.{Data, Bid, PositiveBidResponse, NegativeBidResponse, Confirmation, PacingResponse}
-use Rattle.end.specs.Questions.{firstNo}
-use Rattle.end.specs.Answers.{SHORT-UNIT, BAD-HEADER, refused}
+use Rattle.answers.specs.Questions.{firstNo}
+use Rattle.answers.specs.Answers.{SHORT-UNIT, BAD-HEADER, refused}
+use Rattle.answers.proofs.Rows.{yes}
+use Rattle.answers.proofs.TwoRows.{pass, stop, never}
 use Rattle.end.specs.Outcome.{Decision, refuse, cellsOut, doneOf, Taken}
 use Rattle.end.specs.Results.{takenBy}
 use Rattle.end.specs.ReceiveUnit.{endQuestions, kindQuestions, headerTaken, ruTaken, takeRefusal, dataJoined, bidAnswered, creditRaised, kindTaken, kindJoined, takeDecision, inboxCells, answerNaming, receiveUnit}
 use Rattle.end.specs.Kinds.{endRefusal, kindRefusal, kindLeft, unitRefused, kindReceived}
 use Rattle.end.specs.declared.Done.{Done}
 use Rattle.end.specs.declared.End.{End}
-use Rattle.end.proofs.Rows.{yes}
-use Rattle.end.proofs.TwoRows.{pass, stop, never}
 
 -- ---- the row, where the code stops
 

@@ -1,8 +1,8 @@
 -- A record within its rules (question 5): the bounds of its numbers.
 -- Assumes nothing.
+use Prim.Native.Nat.{_+_, _*_, _≤_}
 use mathlib.Core.Path.{_≡_}
-use mathlib.Core.Bool.{Bool, true, not, _&&_, _||_}
-use Prim.Native.Nat.{ℕ, _+_, _*_, _≤_}
+use mathlib.Core.Bool.{true, not, _&&_, _||_}
 use native.Mathlib.Nat.{le-trans, le-add-right}
 use lib.Dec.{leb, eqb}
 use borrow.Author.Tests.{leb-true}
@@ -10,10 +10,13 @@ use Rattle.logical_record.specs.Positions.{isPosition}
 use Rattle.pacing.specs.Pacing.{windowGood, credit}
 use Rattle.control.specs.Tests.{isSend}
 use Rattle.control.specs.Within.{controlGood}
-use Rattle.end.specs.Record.{maxGood, heldGood, sendingGood, inboxGood, receivingGood, recordGood}
+use Rattle.answers.proofs.Rows.{both}
+use Rattle.sides.specs.Shared.{maxGood}
+use Rattle.sides.specs.Sending.{heldGood, sendingGood}
+use Rattle.sides.specs.Receiving.{inboxGood, receivingGood}
+use Rattle.sides.specs.declared.Sending.{Sending}
+use Rattle.end.specs.Record.{recordGood}
 use Rattle.end.specs.declared.End.{End}
-use Rattle.end.specs.declared.Sending.{Sending}
-use Rattle.end.proofs.Rows.{both}
 
 pub record SendingIn (s : Sending) : Type 0 where
   pub max-least : 8 ≤ s .max

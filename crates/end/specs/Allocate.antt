@@ -10,11 +10,12 @@ use Rattle.pacing.specs.Pacing.{paced, hasCredit}
 use Rattle.control.specs.Tests.{isFirstSpeaker}
 use Rattle.control.specs.Questions.{mayAllocate}
 use Rattle.control.specs.Transitions.{allocated}
-use Rattle.end.specs.Questions.{firstNo}
-use Rattle.end.specs.Answers.{BAD-BUFFER, BAD-RECORD, WRONG-STATE, NO-CREDIT}
+use Rattle.answers.specs.Questions.{firstNo}
+use Rattle.answers.specs.Answers.{BAD-BUFFER, BAD-RECORD, WRONG-STATE, NO-CREDIT}
+use Rattle.sides.specs.Shared.{nextNumber}
+use Rattle.sides.specs.Sending.{requestMade}
 use Rattle.end.specs.Record.{recordGood, unitLent}
-use Rattle.end.specs.Requests.{nextNumber, requestMade}
-use Rattle.end.specs.Outcome.{Out, nothing, aUnit, Decision, accept, decided, Made, made, withControl, withSending, withBidding}
+use Rattle.end.specs.Outcome.{nothing, aUnit, Decision, accept, decided, Made, made, withControl, withSending, withBidding}
 use Rattle.end.specs.declared.End.{End}
 
 abbrev pub allocateQuestions : End → ℕ → List (Bool × ℕ)

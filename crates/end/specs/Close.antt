@@ -10,17 +10,18 @@ use Rattle.logical_record.specs.Positions.{isWhole}
 use Rattle.unit.specs.Ru.{marks}
 use Rattle.unit.specs.declared.Follows.{Follows}
 use Rattle.unit.specs.declared.Follows.the-variants.{Stay, ChangeDirection, EndBracket}
-use Rattle.unit.specs.declared.ChainEnd.{ChainEnd}
 use Rattle.unit.specs.declared.ChainEnd.the-variants.{Last}
 use Rattle.pacing.specs.Pacing.{hasCredit}
 use Rattle.control.specs.Questions.{maySend}
 use Rattle.control.specs.Transitions.{closed}
-use Rattle.end.specs.Questions.{firstNo}
-use Rattle.end.specs.Answers.{BAD-BUFFER, BAD-RECORD, WRONG-STATE, UNFINISHED-RECORD, NO-CREDIT}
+use Rattle.answers.specs.Questions.{firstNo}
+use Rattle.answers.specs.Answers.{BAD-BUFFER, BAD-RECORD, WRONG-STATE, UNFINISHED-RECORD, NO-CREDIT}
+use Rattle.sides.specs.Shared.{nextNumber}
+use Rattle.sides.specs.Sending.{requestMade}
 use Rattle.end.specs.Record.{recordGood, sendLent, unitLent}
-use Rattle.end.specs.Requests.{nextNumber, requestMade, dataHeader}
+use Rattle.end.specs.Requests.{dataHeader}
 use Rattle.end.specs.SendData.{heldBytes}
-use Rattle.end.specs.Outcome.{Out, nothing, aUnit, Decision, accept, decided, Made, made, withControl, withSending}
+use Rattle.end.specs.Outcome.{nothing, aUnit, Decision, accept, decided, Made, made, withControl, withSending}
 use Rattle.end.specs.declared.End.{End}
 
 -- a flush of no byte: no unit goes

@@ -7,10 +7,10 @@ use lib.ListN.{length}
 use Rattle.unit.specs.declared.Header.the-variants.{Confirmation}
 use Rattle.control.specs.Questions.{mayConfirm}
 use Rattle.control.specs.Transitions.{confirmationMade}
-use Rattle.end.specs.Questions.{firstNo}
-use Rattle.end.specs.Answers.{BAD-BUFFER, BAD-RECORD, WRONG-STATE}
+use Rattle.answers.specs.Questions.{firstNo}
+use Rattle.answers.specs.Answers.{BAD-BUFFER, BAD-RECORD, WRONG-STATE}
 use Rattle.end.specs.Record.{recordGood, unitLent}
-use Rattle.end.specs.Outcome.{Out, aUnit, Decision, accept, decided, Made, made, withControl}
+use Rattle.end.specs.Outcome.{aUnit, Decision, accept, decided, Made, made, withControl}
 use Rattle.end.specs.declared.End.{End}
 
 abbrev pub confirmedQuestions : End → ℕ → List (Bool × ℕ)

@@ -4,20 +4,13 @@ use Prim.Native.Nat.{ℕ}
 use mathlib.Core.Bool.{cond}
 use mathlib.Core.List.{List}
 use lib.Dec.{eqb}
-use Rattle.logical_record.specs.Walk.{walk}
-use Rattle.logical_record.specs.declared.Position.{Position}
-use Rattle.logical_record.specs.declared.Walked.{Walked}
-use Rattle.logical_record.specs.declared.Walked.the-variants.{At}
 use Rattle.unit.specs.declared.Header.{Header}
-use Rattle.unit.specs.declared.Header.the-variants.{Data, Bid, PositiveBidResponse, NegativeBidResponse, Confirmation, PacingResponse}
-use Rattle.pacing.specs.Pacing.{answered}
-use Rattle.end.specs.Questions.{firstNo}
-use Rattle.end.specs.Answers.{refusedNaming}
+use Rattle.answers.specs.Questions.{firstNo}
+use Rattle.answers.specs.Answers.{refusedNaming}
 use Rattle.end.specs.Outcome.{cellsOut, doneOf, Taken}
 use Rattle.end.specs.ReceiveUnit.{endQuestions, kindQuestions, kindTaken, kindJoined}
 use Rattle.end.specs.Results.{takenBy}
 use Rattle.end.specs.declared.End.{End}
-use Rattle.end.specs.declared.Sending.{Sending}
 
 -- the first three of the row, before a byte of the unit is read
 unfoldable pub endRefusal : End → ℕ → ℕ → ℕ
@@ -26,19 +19,6 @@ endRefusal e inbox unit = firstNo (endQuestions e inbox unit)
 -- the part of the row that the kind decides
 unfoldable pub kindRefusal : End → Header → ℕ → List ℕ → ℕ
 kindRefusal e h n ru = firstNo (kindQuestions e h n ru)
-
--- data alone is walked over
-abbrev pub walkedFor : Header → Position → List ℕ → Walked
-walkedFor (Data d) p ru = walk p ru
-walkedFor (Bid b) p ru = At p
-walkedFor PositiveBidResponse p ru = At p
-walkedFor NegativeBidResponse p ru = At p
-walkedFor Confirmation p ru = At p
-walkedFor PacingResponse p ru = At p
-
--- the sending side once its pacing request is answered
-abbrev pub creditAnswered : Sending → Sending
-creditAnswered s = record { window = answered (s .window); max = s .max; held = s .held; number = s .number; given = s .given }
 
 -- what an accepted unit leaves
 unfoldable pub kindLeft : End → Header → ℕ → List ℕ → List ℕ → List ℕ → Taken

@@ -1,5 +1,3 @@
-pub mod Questions
-pub mod Answers
 pub mod Record
 pub mod Requests
 pub mod Outcome

@@ -1,19 +1,19 @@
 -- What a call leaves: a pure decision first, and then its cells by one writer.
 -- Assumes nothing.
 use Prim.Native.Nat.{ℕ, _+_}
-use mathlib.Core.Bool.{Bool, cond}
-use mathlib.Core.List.{List, [], _∷_}
+use mathlib.Core.Bool.{cond}
+use mathlib.Core.List.{List}
 use lib.Dec.{eqb}
 use lib.ListN.{length}
 use Rattle.cells.specs.Cells.{front}
 use Rattle.unit.specs.Unit.{RU-START, unitOf}
 use Rattle.unit.specs.declared.Header.{Header}
 use Rattle.control.specs.declared.Control.{Control}
-use Rattle.end.specs.Answers.{accepted, refused}
+use Rattle.answers.specs.Answers.{accepted, refused}
+use Rattle.answers.specs.declared.Answer.{Answer}
+use Rattle.sides.specs.declared.Sending.{Sending}
+use Rattle.sides.specs.declared.Receiving.{Receiving}
 use Rattle.end.specs.declared.End.{End}
-use Rattle.end.specs.declared.Sending.{Sending}
-use Rattle.end.specs.declared.Receiving.{Receiving}
-use Rattle.end.specs.declared.Answer.{Answer}
 use Rattle.end.specs.declared.Done.{Done}
 use Rattle.end.specs.declared.ReadDone.{ReadDone}
 

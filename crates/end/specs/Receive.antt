@@ -1,27 +1,25 @@
 -- Read into the caller's buffer, in all states.
 -- Assumes nothing.
-use Prim.Native.Nat.{ℕ, _-_, min}
-use mathlib.Core.Bool.{Bool, true, false, not, cond, _||_}
+use Prim.Native.Nat.{ℕ, min}
+use mathlib.Core.Bool.{Bool, false, not, cond, _||_}
 use mathlib.Core.List.{List, [], _∷_}
 use lib.Dec.{eqb, leb}
 use lib.ListN.{length, take, drop}
 use Rattle.cells.specs.Cells.{front}
 use Rattle.logical_record.specs.Positions.{isBetween}
-use Rattle.logical_record.specs.Walk.{walk}
+use Rattle.logical_record.specs.Walk.{walk, placeOr}
 use Rattle.logical_record.specs.Reading.{rest}
 use Rattle.logical_record.specs.declared.Position.{Position}
 use Rattle.logical_record.specs.declared.Rest.{Rest}
-use Rattle.logical_record.specs.declared.Rest.the-variants.{Bytes, BadLength}
 use Rattle.control.specs.Tests.{isNothing}
 use Rattle.control.specs.Transitions.{markAnswered}
 use Rattle.control.specs.declared.WhatReceived.the-variants as mark
-use Rattle.end.specs.Questions.{firstNo}
-use Rattle.end.specs.Answers.{BAD-BUFFER, BAD-RECORD, BAD-LENGTH, BAD-LL, NOTHING-TO-READ, accepted, readRefused}
+use Rattle.answers.specs.Questions.{firstNo}
+use Rattle.answers.specs.Answers.{BAD-BUFFER, BAD-RECORD, BAD-LENGTH, BAD-LL, NOTHING-TO-READ, readRefused, readAccepted}
+use Rattle.sides.specs.Reading.{restBytes, restGood, bytesGone}
 use Rattle.end.specs.Record.{recordGood, inboxLent}
-use Rattle.end.specs.SendData.{placeOr}
 use Rattle.end.specs.Outcome.{Copied, withControl, withReceiving}
 use Rattle.end.specs.declared.End.{End}
-use Rattle.end.specs.declared.Receiving.{Receiving}
 use Rattle.end.specs.declared.ReadDone.{ReadDone}
 
 -- the bytes held in the inbox
@@ -31,14 +29,6 @@ inboxBytes e inbox = take (e .receiving .held) inbox
 -- the rest of the current record, LL included, by the bytes held
 abbrev pub recordRest : End → List ℕ → Rest
 recordRest e inbox = rest (e .receiving .read) (inboxBytes e inbox)
-
-abbrev pub restGood : Rest → Bool
-restGood (Bytes n) = true
-restGood BadLength = false
-
-abbrev pub restBytes : Rest → ℕ
-restBytes (Bytes n) = n
-restBytes BadLength = 0
 
 abbrev pub someHeld : End → Bool
 someHeld e = leb 1 (e .receiving .held)
@@ -67,26 +57,15 @@ placeRead e k inbox = placeOr (e .receiving .read) (walk (e .receiving .read) (t
 unfoldable pub bytesRead : End → ℕ → List ℕ → ReadDone
 bytesRead e k inbox =
     record {
-      answer = record { answer = accepted 0; copied = k; complete = isBetween (placeRead e k inbox); mark = mark.Nothing };
-      end =
-          withReceiving
-          (record {
-            window = e .receiving .window;
-            max = e .receiving .max;
-            inbox = e .receiving .inbox;
-            held = e .receiving .held - k;
-            number = e .receiving .number;
-            taken = e .receiving .taken;
-            read = placeRead e k inbox;
-          })
-          e;
+      answer = readAccepted k (isBetween (placeRead e k inbox)) mark.Nothing;
+      end = withReceiving (bytesGone k (placeRead e k inbox) (e .receiving)) e;
     }
 
 -- none held and a mark: the mark is answered and cleared
 unfoldable pub markRead : End → ReadDone
 markRead e =
     record {
-      answer = record { answer = accepted 0; copied = 0; complete = false; mark = e .control .mark };
+      answer = readAccepted 0 false (e .control .mark);
       end = withControl (markAnswered (e .control)) e;
     }
 

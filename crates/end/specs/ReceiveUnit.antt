@@ -1,79 +1,45 @@
 -- Take one unit.
 -- Assumes nothing.
 use Prim.Native.Nat.{ℕ, _+_}
-use mathlib.Core.Bool.{Bool, true, false, not, cond, _&&_, _||_}
+use mathlib.Core.Bool.{Bool, cond, _&&_}
 use mathlib.Core.List.{List, [], _∷_, _++_}
 use lib.Dec.{eqb, leb}
 use lib.ListN.{length, drop}
 use Rattle.cells.specs.Cells.{written}
-use Rattle.logical_record.specs.Positions.{isWhole}
-use Rattle.logical_record.specs.Walk.{walk}
-use Rattle.logical_record.specs.declared.Walked.{Walked}
-use Rattle.logical_record.specs.declared.Walked.the-variants.{At, BadLength}
+use Rattle.logical_record.specs.Walk.{walk, placeOr}
 use Rattle.unit.specs.Rules.{headerGood}
-use Rattle.unit.specs.Header.{fieldsOf, isFirst, beginsBracket, confirms}
-use Rattle.unit.specs.Ru.{marks, ruGood, fixedRu}
+use Rattle.unit.specs.Header.{fieldsOf, confirms}
+use Rattle.unit.specs.Ru.{fixedRu}
 use Rattle.unit.specs.Unit.{RU-START, numberIn, headerIn}
-use Rattle.unit.specs.declared.ChainEnd.{ChainEnd}
 use Rattle.unit.specs.declared.DataHeader.{DataHeader}
 use Rattle.unit.specs.declared.Header.{Header}
 use Rattle.unit.specs.declared.Header.the-variants.{Data, Bid, PositiveBidResponse, NegativeBidResponse, Confirmation, PacingResponse}
-use Rattle.pacing.specs.Pacing.{hasCredit, paced, answered}
-use Rattle.control.specs.Tests.{isNothing, agree}
-use Rattle.control.specs.Questions.{chainFits, bracketFits, bidFits, stateFits, grantFits, refusalFits, confirmationFits}
+use Rattle.control.specs.Tests.{isNothing}
+use Rattle.control.specs.Questions.{grantFits, refusalFits, confirmationFits}
 use Rattle.control.specs.Transitions.{dataTaken, bidTaken, bidAnswer, grantTaken, refusalTaken, confirmationTaken}
-use Rattle.end.specs.Questions.{firstNo}
-use Rattle.end.specs.Answers.{BAD-BUFFER, BAD-RECORD, UNREAD-MARK, SHORT-UNIT, BAD-HEADER, BAD-RU, BAD-NUMBER, BAD-CHAIN, BAD-BRACKET, BAD-STATE, BAD-PACING, BAD-RESPONSE, BAD-RECORDS, accepted, refusedNaming}
+use Rattle.answers.specs.Questions.{firstNo}
+use Rattle.answers.specs.Answers.{BAD-BUFFER, BAD-RECORD, UNREAD-MARK, SHORT-UNIT, BAD-HEADER, accepted, refusedNaming}
+use Rattle.answers.specs.declared.Answer.{Answer}
+use Rattle.sides.specs.Sending.{creditAnswered}
+use Rattle.sides.specs.Receiving.{requestTaken}
+use Rattle.sides.specs.Taking.{dataQuestions, bidQuestions, responseQuestions, pacingQuestions}
 use Rattle.end.specs.Record.{recordGood, inboxLent, unitLent}
-use Rattle.end.specs.Requests.{nextNumber, requestTaken}
-use Rattle.end.specs.SendData.{placeOr}
-use Rattle.end.specs.Outcome.{Out, nothing, aUnit, lengthOut, cellsOut, Decision, accept, decided, Taken, withControl, withSending, withReceiving, withOwed}
+use Rattle.end.specs.Outcome.{nothing, aUnit, lengthOut, cellsOut, Decision, accept, decided, Taken, withControl, withSending, withReceiving, withOwed}
 use Rattle.end.specs.declared.End.{End}
-use Rattle.end.specs.declared.Sending.{Sending}
-use Rattle.end.specs.declared.Receiving.{Receiving}
-use Rattle.end.specs.declared.Answer.{Answer}
 
 -- ---- questions
 
--- 27, of requests: is open above 0 and the pacing bit right?
-abbrev pub pacingFits : Receiving → Bool → Bool
-pacingFits r bit = hasCredit (r .window) && agree bit (paced (r .window))
-
--- 23, of requests: is the number the next one?
-abbrev pub isNext : Receiving → ℕ → Bool
-isNext r n = eqb n (nextNumber (r .number))
-
--- 29: is every LL good, and the record whole at a mark?
-abbrev pub recordsFit : ChainEnd → Walked → Bool
-recordsFit ends (At p) = not (marks ends) || isWhole p
-recordsFit ends BadLength = false
-
 -- what is asked of each kind of unit, by number and RU
 abbrev pub kindQuestions : End → Header → ℕ → List ℕ → List (Bool × ℕ)
-kindQuestions e (Data d) n ru =
-    (ruGood (e .receiving .max) (Data d) ru, BAD-RU)
-    ∷ (pacingFits (e .receiving) (d .pacing), BAD-PACING)
-    ∷ (isNext (e .receiving) n, BAD-NUMBER)
-    ∷ (chainFits (isFirst (d .begins)) (e .control), BAD-CHAIN)
-    ∷ (bracketFits (beginsBracket (d .begins)) (e .control), BAD-BRACKET)
-    ∷ (stateFits (beginsBracket (d .begins)) (e .control), BAD-STATE)
-    ∷ (recordsFit (d .ends) (walk (e .receiving .taken) ru), BAD-RECORDS)
-    ∷ []
-kindQuestions e (Bid p) n ru =
-    (ruGood (e .receiving .max) (Bid p) ru, BAD-RU)
-    ∷ (pacingFits (e .receiving) p, BAD-PACING)
-    ∷ (isNext (e .receiving) n, BAD-NUMBER)
-    ∷ (chainFits true (e .control), BAD-CHAIN)
-    ∷ (bidFits (e .control), BAD-BRACKET)
-    ∷ []
+kindQuestions e (Data d) n ru = dataQuestions (e .control) (e .receiving) d n ru
+kindQuestions e (Bid p) n ru = bidQuestions (e .control) (e .receiving) p n ru
 kindQuestions e PositiveBidResponse n ru =
-    (ruGood (e .receiving .max) PositiveBidResponse ru, BAD-RU) ∷ (grantFits (e .control) && eqb n (e .bidding), BAD-RESPONSE) ∷ []
+    responseQuestions (e .receiving .max) PositiveBidResponse (grantFits (e .control) && eqb n (e .bidding)) ru
 kindQuestions e NegativeBidResponse n ru =
-    (ruGood (e .receiving .max) NegativeBidResponse ru, BAD-RU) ∷ (refusalFits (e .control) && eqb n (e .bidding), BAD-RESPONSE) ∷ []
+    responseQuestions (e .receiving .max) NegativeBidResponse (refusalFits (e .control) && eqb n (e .bidding)) ru
 kindQuestions e Confirmation n ru =
-    (ruGood (e .receiving .max) Confirmation ru, BAD-RU) ∷ (confirmationFits (e .control) && eqb n (e .sending .number), BAD-RESPONSE) ∷ []
-kindQuestions e PacingResponse n ru =
-    (ruGood (e .receiving .max) PacingResponse ru, BAD-RU) ∷ (e .sending .window .pending, BAD-PACING) ∷ (eqb n 0, BAD-NUMBER) ∷ []
+    responseQuestions (e .receiving .max) Confirmation (confirmationFits (e .control) && eqb n (e .sending .number)) ru
+kindQuestions e PacingResponse n ru = pacingQuestions (e .receiving .max) (e .sending .window .pending) n ru
 
 -- what is asked of the end alone, before a byte of the unit is read
 abbrev pub endQuestions : End → ℕ → ℕ → List (Bool × ℕ)
@@ -119,15 +85,7 @@ bidAnswered e n =
 unfoldable pub creditRaised : End → Decision
 creditRaised e =
     accept
-    (withSending
-    (record {
-      window = answered (e .sending .window);
-      max = e .sending .max;
-      held = e .sending .held;
-      number = e .sending .number;
-      given = e .sending .given;
-    })
-    e)
+    (withSending (creditAnswered (e .sending)) e)
     nothing
 
 abbrev pub kindTaken : End → Header → ℕ → List ℕ → Decision

@@ -2,40 +2,25 @@
 -- its chain, and the rest is kept.
 -- Assumes nothing.
 use Prim.Native.Nat.{ℕ, _+_, _-_}
-use mathlib.Core.Bool.{Bool, true, false, cond, _&&_, _||_}
+use mathlib.Core.Bool.{Bool, cond, _&&_, _||_}
 use mathlib.Core.List.{List, [], _∷_, _++_}
 use lib.Dec.{eqb, leb}
 use lib.ListN.{length, take, drop}
 use Rattle.cells.specs.Cells.{front, written}
-use Rattle.logical_record.specs.Walk.{walk}
+use Rattle.logical_record.specs.Walk.{walk, isGood, placeOr}
 use Rattle.logical_record.specs.declared.Position.{Position}
-use Rattle.logical_record.specs.declared.Walked.{Walked}
-use Rattle.logical_record.specs.declared.Walked.the-variants.{At, BadLength}
 use Rattle.unit.specs.declared.ChainEnd.the-variants.{Continues}
 use Rattle.pacing.specs.Pacing.{hasCredit}
 use Rattle.control.specs.Questions.{maySend}
 use Rattle.control.specs.Transitions.{spilled}
-use Rattle.end.specs.Questions.{firstNo}
-use Rattle.end.specs.Answers.{BAD-BUFFER, BAD-RECORD, BAD-LENGTH, WRONG-STATE, BAD-LL, NO-CREDIT}
+use Rattle.answers.specs.Questions.{firstNo}
+use Rattle.answers.specs.Answers.{BAD-BUFFER, BAD-RECORD, BAD-LENGTH, WRONG-STATE, BAD-LL, NO-CREDIT}
+use Rattle.sides.specs.Shared.{nextNumber}
+use Rattle.sides.specs.Sending.{requestMade, keeps, bytesAdded}
 use Rattle.end.specs.Record.{recordGood, sendLent, unitLent}
-use Rattle.end.specs.Requests.{nextNumber, requestMade, dataHeader}
-use Rattle.end.specs.Outcome.{Out, nothing, aUnit, cellsOut, doneOf, Decision, accept, decided, Sent, withControl, withSending}
+use Rattle.end.specs.Requests.{dataHeader}
+use Rattle.end.specs.Outcome.{nothing, aUnit, cellsOut, doneOf, Decision, accept, decided, Sent, withControl, withSending}
 use Rattle.end.specs.declared.End.{End}
-use Rattle.end.specs.declared.Sending.{Sending}
-
--- every LL met is good
-abbrev pub isGood : Walked → Bool
-isGood (At p) = true
-isGood BadLength = false
-
--- the place walked to; where an LL is bad, the place before
-abbrev pub placeOr : Position → Walked → Position
-placeOr p (At q) = q
-placeOr p BadLength = p
-
--- held plus new is at most M
-abbrev pub keeps : Sending → ℕ → Bool
-keeps s n = leb (s .held + n) (s .max)
 
 abbrev pub sendQuestions : End → List ℕ → ℕ → ℕ → List (Bool × ℕ)
 sendQuestions e bytes send unit =
@@ -64,15 +49,7 @@ gone e = e .sending .max - e .sending .held
 unfoldable pub bytesKept : End → List ℕ → Decision
 bytesKept e bytes =
     accept
-    (withSending
-    (record {
-      window = e .sending .window;
-      max = e .sending .max;
-      held = e .sending .held + length bytes;
-      number = e .sending .number;
-      given = given e bytes;
-    })
-    e)
+    (withSending (bytesAdded (length bytes) (given e bytes) (e .sending)) e)
     nothing
 
 unfoldable pub bytesSpilled : End → List ℕ → List ℕ → Decision

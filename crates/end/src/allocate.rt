@@ -1,16 +1,15 @@
 // The call allocate.
 use crate::Done;
 use crate::End;
-use crate::answers::BAD_BUFFER;
-use crate::answers::BAD_RECORD;
-use crate::answers::NO_CREDIT;
-use crate::answers::WRONG_STATE;
-use crate::answers::accept;
-use crate::answers::ask;
-use crate::answers::refuse;
 use crate::requests::make_fixed;
-use crate::requests::request_made;
-use control::tests::is_first_speaker;
+use crate::results::accepted;
+use crate::results::refused;
+use answers::numbers::BAD_BUFFER;
+use answers::numbers::BAD_RECORD;
+use answers::numbers::NO_CREDIT;
+use answers::numbers::WRONG_STATE;
+use answers::questions::ask;
+use sides::outgoing::request_sent;
 use unit::Header;
 ghost use mathlib.Core.Path.{_≡_};
 ghost use Prim.Native.Nat.{_≤_};
@@ -24,12 +23,12 @@ impl End {
     fn allocate_refusal(self, unit: usize) -> u8
         ensures { λ r. ⌜ r ≡ allocateRefusal self unit ⌝ }
     {
-        let control = self.control;
-        let role = control.role;
-        let sending = self.sending;
-        let window = sending.window;
-        let credit = ask(is_first_speaker(role) | window.has_credit(), NO_CREDIT, 0);
-        let state = ask(control.may_allocate(), WRONG_STATE, credit);
+        let credit = ask(
+            self.control.speaks_first() | self.sending.window.has_credit(),
+            NO_CREDIT,
+            0,
+        );
+        let state = ask(self.control.may_allocate(), WRONG_STATE, credit);
         let record = ask(self.record_good(), BAD_RECORD, state);
         ask(self.unit_lent(unit), BAD_BUFFER, record)
     }
@@ -39,43 +38,29 @@ impl End {
         requires { ⌜ 10 ≤ length (now unit) ⌝ }
         ensures { λ r. ⌜ madeBy r (now (unit .exit)) ≡ made (bidMade self) (now (unit .entry)) ⌝ }
     {
-        let control = self.control;
-        let sending = self.sending;
-        let window = sending.window;
-        let given = sending.given;
-        let bidding = control.allocated();
-        let next = request_made(sending, sending.held, given);
-        let mut end = self;
-        end.control = bidding;
-        end.sending = next;
+        let bidding = self.control.allocated();
+        let next = request_sent(self.sending, self.sending.held);
+        let mut end = self.with_control(bidding).with_sending(next);
         end.bidding = next.number;
-        make_fixed(end, next.number, Header::Bid(window.paced()), unit)
+        make_fixed(
+            end,
+            next.number,
+            Header::Bid(self.sending.window.paced()),
+            unit,
+        )
     }
 
     // Starts a conversation. A first speaker may send at once; a bidder makes a bid.
     pub fn allocate(self, unit: &mut [u8]) -> Done
         ensures { λ r. ⌜ madeBy r (now (unit .exit)) ≡ allocate self (now (unit .entry)) ⌝ }
     {
-        let control = self.control;
-        let role = control.role;
         let q = self.allocate_refusal(unit.len());
-        if q == 0 {
-            if is_first_speaker(role) {
-                let speaking = control.allocated();
-                let mut end = self;
-                end.control = speaking;
-                Done {
-                    answer: accept(0),
-                    end,
-                }
-            } else {
-                self.bid(unit)
-            }
-        } else {
-            Done {
-                answer: refuse(q),
-                end: self,
-            }
+        if q != 0 {
+            return refused(q, self);
         }
+        if self.control.speaks_first() {
+            return accepted(0, self.with_control(self.control.allocated()));
+        }
+        self.bid(unit)
     }
 }

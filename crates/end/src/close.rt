@@ -2,37 +2,27 @@
 // They differ only in what that unit says to follow, and whether it asks for a confirmation.
 use crate::Done;
 use crate::End;
-use crate::Sending;
-use crate::answers::BAD_BUFFER;
-use crate::answers::BAD_RECORD;
-use crate::answers::NO_CREDIT;
-use crate::answers::UNFINISHED_RECORD;
-use crate::answers::WRONG_STATE;
-use crate::answers::accept;
-use crate::answers::ask;
-use crate::answers::refuse;
-use crate::requests::make_data;
-use crate::requests::request_made;
-use logical_record::positions::is_whole;
+use crate::results::accepted;
+use crate::results::refused;
+use answers::numbers::BAD_BUFFER;
+use answers::numbers::BAD_RECORD;
+use answers::numbers::NO_CREDIT;
+use answers::numbers::UNFINISHED_RECORD;
+use answers::numbers::WRONG_STATE;
+use answers::questions::ask;
+use sides::giving::send_held;
+use sides::outgoing::given_whole;
+use sides::outgoing::nothing_goes;
+use sides::outgoing::request_sent;
 use unit::ChainEnd;
 use unit::Follows;
 use unit::ru::marks;
 ghost use mathlib.Core.Path.{_≡_};
-ghost use mathlib.Core.Bool.{not, _&&_};
 ghost use Prim.Native.Nat.{_+_, _≤_};
-ghost use lib.Dec.{eqb};
 ghost use lib.ListN.{length};
-ghost use Rattle.unit.specs.Ru.{marks};
 ghost use Rattle.end.specs.Close.{closeRefusal, lastMade, close, flush, confirm, prepareToReceive, deallocate};
 ghost use Rattle.end.specs.Outcome.{made};
 ghost use Rattle.end.specs.Results.{madeBy};
-
-// A unit that says nothing to follow goes only to carry bytes: a flush of none makes no unit.
-fn nothing_goes(s: Sending, ends: ChainEnd) -> bool
-    ensures { λ r. ⌜ r ≡ not (marks ends) && eqb (s .held) 0 ⌝ }
-{
-    !marks(ends) & (s.held == 0)
-}
 
 impl End {
     // Only a unit that leaves a mark needs the record given to be whole; a flush may stand within one.
@@ -40,17 +30,17 @@ impl End {
         ensures { λ r. ⌜ r ≡ closeRefusal self follows confirm send unit ⌝ }
     {
         let ends = ChainEnd::Last { follows, confirm };
-        let control = self.control;
-        let sending = self.sending;
-        let window = sending.window;
-        let given = sending.given;
         let credit = ask(
-            nothing_goes(sending, ends) | window.has_credit(),
+            nothing_goes(self.sending.held, ends) | self.sending.window.has_credit(),
             NO_CREDIT,
             0,
         );
-        let whole = ask(!marks(ends) | is_whole(given), UNFINISHED_RECORD, credit);
-        let state = ask(control.may_send(), WRONG_STATE, whole);
+        let whole = ask(
+            !marks(ends) | given_whole(self.sending),
+            UNFINISHED_RECORD,
+            credit,
+        );
+        let state = ask(self.control.may_send(), WRONG_STATE, whole);
         let record = ask(self.record_good(), BAD_RECORD, state);
         ask(
             self.send_lent(send) & self.unit_lent(unit),
@@ -64,39 +54,24 @@ impl End {
         requires { ⌜ (self .sending .held ≤ length (now send)) × (5 + self .sending .held ≤ length (now unit)) ⌝ }
         ensures { λ r. ⌜ madeBy r (now (unit .exit)) ≡ made (lastMade self follows confirm (now (send .entry))) (now (unit .entry)) ⌝ }
     {
-        let control = self.control;
-        let sending = self.sending;
-        let given = sending.given;
-        let held = sending.held as usize;
         let header = self.data_header(ChainEnd::Last { follows, confirm });
-        let closed = control.closed(follows, confirm);
-        let next = request_made(sending, 0, given);
-        let mut end = self;
-        end.control = closed;
-        end.sending = next;
-        make_data(end, next.number, header, &send[..held], b"", unit)
+        let closed = self.control.closed(follows, confirm);
+        let next = request_sent(self.sending, 0);
+        let n = send_held(next.number, header, self.sending.held, send, unit);
+        accepted(n, self.with_control(closed).with_sending(next))
     }
 
     fn close(self, follows: Follows, confirm: bool, send: &[u8], unit: &mut [u8]) -> Done
         ensures { λ r. ⌜ madeBy r (now (unit .exit)) ≡ close follows confirm self (now (send .entry)) (now (unit .entry)) ⌝ }
     {
-        let sending = self.sending;
         let q = self.close_refusal(follows, confirm, send.len(), unit.len());
-        if q == 0 {
-            if nothing_goes(sending, ChainEnd::Last { follows, confirm }) {
-                Done {
-                    answer: accept(0),
-                    end: self,
-                }
-            } else {
-                self.send_last(follows, confirm, send, unit)
-            }
-        } else {
-            Done {
-                answer: refuse(q),
-                end: self,
-            }
+        if q != 0 {
+            return refused(q, self);
         }
+        if nothing_goes(self.sending.held, ChainEnd::Last { follows, confirm }) {
+            return accepted(0, self);
+        }
+        self.send_last(follows, confirm, send, unit)
     }
 
     // Sends the bytes held, if there are any.

@@ -1,12 +1,12 @@
 // The call confirmed.
 use crate::Done;
 use crate::End;
-use crate::answers::BAD_BUFFER;
-use crate::answers::BAD_RECORD;
-use crate::answers::WRONG_STATE;
-use crate::answers::ask;
-use crate::answers::refuse;
 use crate::requests::make_fixed;
+use crate::results::refused;
+use answers::numbers::BAD_BUFFER;
+use answers::numbers::BAD_RECORD;
+use answers::numbers::WRONG_STATE;
+use answers::questions::ask;
 use unit::Header;
 ghost use mathlib.Core.Path.{_≡_};
 ghost use Rattle.end.specs.Confirmed.{confirmedRefusal, confirmed};
@@ -16,8 +16,7 @@ impl End {
     fn confirmed_refusal(self, unit: usize) -> u8
         ensures { λ r. ⌜ r ≡ confirmedRefusal self unit ⌝ }
     {
-        let control = self.control;
-        let state = ask(control.may_confirm(), WRONG_STATE, 0);
+        let state = ask(self.control.may_confirm(), WRONG_STATE, 0);
         let record = ask(self.record_good(), BAD_RECORD, state);
         ask(self.unit_lent(unit), BAD_BUFFER, record)
     }
@@ -27,17 +26,15 @@ impl End {
         ensures { λ r. ⌜ madeBy r (now (unit .exit)) ≡ confirmed self (now (unit .entry)) ⌝ }
     {
         let q = self.confirmed_refusal(unit.len());
-        if q == 0 {
-            let control = self.control;
-            let next = control.confirmation_made();
-            let mut end = self;
-            end.control = next;
-            make_fixed(end, self.owed, Header::Confirmation, unit)
-        } else {
-            Done {
-                answer: refuse(q),
-                end: self,
-            }
+        if q != 0 {
+            return refused(q, self);
         }
+        let next = self.control.confirmation_made();
+        make_fixed(
+            self.with_control(next),
+            self.owed,
+            Header::Confirmation,
+            unit,
+        )
     }
 }

@@ -28,26 +28,32 @@ use Rattle.pacing.specs.Pacing.{hasCredit, paced}
 use Rattle.control.specs.Tests.{isFirstSpeaker, isNothing}
 use Rattle.control.specs.Questions.{mayAllocate, maySend, mayConfirm}
 use Rattle.control.specs.Transitions.{allocated, spilled, closed, confirmationMade, markAnswered, bidAnswer, grantTaken, refusalTaken, confirmationTaken}
-use Rattle.end.specs.Answers.{accepted, refused, refusedNaming, readRefused}
+use Rattle.answers.specs.Answers.{accepted, refused, refusedNaming, readRefused}
 use Rattle.end.specs.Record.{recordGood, sendLent, unitLent, inboxLent}
-use Rattle.end.specs.Requests.{nextNumber, requestMade, dataHeader}
+use Rattle.sides.specs.Shared.{nextNumber}
+use Rattle.sides.specs.Sending.{requestMade}
+use Rattle.end.specs.Requests.{dataHeader}
 use Rattle.end.specs.Outcome.{Out, nothing, aUnit, lengthOut, cellsOut, Decision, refuse, decided, doneOf, made, Sent, Taken, Copied, withControl, withSending, withReceiving}
 use Rattle.end.specs.Allocate.{allocateQuestions, allocateRefusal, bidMade, allocateDecision, allocate}
-use Rattle.end.specs.SendData.{isGood, placeOr, keeps, given, heldBytes, gone, sendQuestions, sendRefusal, bytesKept, bytesSpilled, sendDecision, sendCells, sendData}
+use Rattle.logical_record.specs.Walk.{isGood, placeOr}
+use Rattle.sides.specs.Sending.{keeps}
+use Rattle.end.specs.SendData.{given, heldBytes, gone, sendQuestions, sendRefusal, bytesKept, bytesSpilled, sendDecision, sendCells, sendData}
 use Rattle.end.specs.Close.{nothingGoes, closeQuestions, closeRefusal, lastMade, closeDecision, close}
 use Rattle.end.specs.Confirmed.{confirmedQuestions, confirmedRefusal, confirmedDecision, confirmed}
 use Rattle.end.specs.ReceiveUnit.{headQuestions, kindQuestions, headerTaken, ruTaken, takeRefusal, dataJoined, bidAnswered, creditRaised, kindTaken, takeDecision, kindJoined, inboxCells, answerNaming, receiveUnit}
-use Rattle.end.specs.Receive.{inboxBytes, recordRest, restGood, someHeld, readQuestions, readRefusal, copyCount, bytesRead, markRead, readDecision, inboxMoved, receive}
-use Rattle.end.specs.Pace.{mayPace, paceQuestions, paceRefusal, windowAnswered, paceDecision, pace}
+use Rattle.end.specs.Receive.{inboxBytes, recordRest, someHeld, readQuestions, readRefusal, copyCount, bytesRead, markRead, readDecision, inboxMoved, receive}
+use Rattle.sides.specs.Reading.{restGood}
+use Rattle.sides.specs.Receiving.{mayPace, windowAnswered}
+use Rattle.end.specs.Pace.{paceQuestions, paceRefusal, paceDecision, pace}
 use Rattle.end.specs.declared.End.{End}
 use Rattle.end.specs.declared.ReadDone.{ReadDone}
-use Rattle.end.specs.declared.ReadAnswer.{ReadAnswer}
+use Rattle.answers.specs.declared.ReadAnswer.{ReadAnswer}
 use Rattle.joined.specs.Joined.{Acted, Took}
 use Rattle.joined.specs.Ends as J
 use Rattle.joined.specs.Ends.{Station, Verb, Reply, plain, unitsOf, makes, sends, copies, acts, takes}
 use Rattle.joined.proofs.Cases.{cases, split}
 use Rattle.joined.proofs.Rows.{all-yes, pass, left, right}
-use Rattle.end.specs.Questions.{firstNo}
+use Rattle.answers.specs.Questions.{firstNo}
 
 abbrev pub UnitBytes : Type 0
 UnitBytes = List ℕ

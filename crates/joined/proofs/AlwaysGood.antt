@@ -18,14 +18,16 @@ use Rattle.unit.specs.declared.Header.the-variants.{Data, Bid, PositiveBidRespo
 use Rattle.pacing.specs.Pacing.{paced}
 use Rattle.control.specs.Transitions.{bidAnswer}
 use Rattle.end.specs.Record.{recordGood}
-use Rattle.end.specs.Requests.{nextNumber, dataHeader}
-use Rattle.end.specs.Opening.{openingRefusal, opened}
+use Rattle.sides.specs.Shared.{nextNumber}
+use Rattle.end.specs.Requests.{dataHeader}
+use Rattle.sides.specs.Opening.{openingRefusal}
+use Rattle.end.specs.Opening.{opened}
 use Rattle.end.specs.Allocate.{bidMade}
 use Rattle.end.specs.SendData.{heldBytes, gone, bytesKept, bytesSpilled}
 use Rattle.end.specs.Close.{lastMade, close}
 use Rattle.end.specs.ReceiveUnit.{headerTaken, ruTaken, dataJoined, bidAnswered, creditRaised}
 use Rattle.end.specs.Receive.{inboxBytes, bytesRead, inboxMoved}
-use Rattle.end.specs.declared.Session.{Session}
+use Rattle.sides.specs.declared.Session.{Session}
 use Rattle.end.specs.declared.Done.{Done}
 use Rattle.joined.specs.Joined.{Call, act, At, first, second, Acted, Took, apply, step, run}
 use Rattle.joined.specs.Joined as J

@@ -13,7 +13,7 @@ use Rattle.unit.specs.Ru.{fixedRu}
 use Rattle.unit.specs.Unit.{unitBytes, unitOf, numberIn}
 use Rattle.unit.specs.declared.Header.{Header}
 use Rattle.unit.specs.declared.Header.the-variants.{Data, Bid, PositiveBidResponse, NegativeBidResponse, Confirmation, PacingResponse}
-use Rattle.end.specs.Requests.{nextNumber}
+use Rattle.sides.specs.Shared.{nextNumber}
 
 abbrev pub AllBytes : List ℕ → Type 0
 AllBytes bs = (k : ℕ) → getD bs k 0 < 256

@@ -23,12 +23,16 @@ use Rattle.pacing.specs.Pacing.{paced}
 use Rattle.control.specs.Tests.{isReset}
 use Rattle.control.specs.Transitions.{beginOf, bidAnswer}
 use Rattle.control.specs.declared.Control.{Control}
-use Rattle.end.specs.Requests.{nextNumber, requestMade, requestTaken, dataHeader}
+use Rattle.sides.specs.Shared.{nextNumber}
+use Rattle.sides.specs.Sending.{requestMade}
+use Rattle.sides.specs.Receiving.{requestTaken}
+use Rattle.end.specs.Requests.{dataHeader}
 use Rattle.end.specs.Allocate.{bidMade}
 use Rattle.end.specs.SendData.{heldBytes, gone, bytesKept, bytesSpilled}
 use Rattle.end.specs.Close.{lastMade, close}
 use Rattle.end.specs.ReceiveUnit.{headerTaken, ruTaken, dataJoined, bidAnswered, creditRaised}
-use Rattle.end.specs.Receive.{restBytes, recordRest, copyCount, bytesRead, inboxMoved, someHeld}
+use Rattle.sides.specs.Reading.{restBytes}
+use Rattle.end.specs.Receive.{recordRest, copyCount, bytesRead, inboxMoved, someHeld}
 use Rattle.end.specs.Receive as R
 use Rattle.joined.specs.Joined.{Acted, Took, acted, took}
 use Rattle.joined.specs.Ends.{Station, Verb, Reply, makes, acts, takes}

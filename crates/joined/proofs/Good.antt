@@ -14,7 +14,10 @@ use Rattle.control.specs.Within.{markInReceive, dueInSend, bidAtBidder, chainIn
 use Rattle.control.specs.declared.Control.{Control}
 use Rattle.control.specs.declared.State.{State}
 use Rattle.control.specs.declared.State.the-variants.{Reset, Send, Receive, ConfirmOwed, ConfirmAwaited}
-use Rattle.end.specs.Record.{maxGood, heldGood, sendingGood, inboxGood, receivingGood, recordGood}
+use Rattle.sides.specs.Shared.{maxGood}
+use Rattle.sides.specs.Sending.{heldGood, sendingGood}
+use Rattle.sides.specs.Receiving.{inboxGood, receivingGood}
+use Rattle.end.specs.Record.{recordGood}
 use Rattle.end.specs.declared.End.{End}
 use Rattle.joined.proofs.Rows.{left, right}
 

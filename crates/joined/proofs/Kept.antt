@@ -17,13 +17,17 @@ use Rattle.pacing.specs.Pacing.{leastWindow, greatestWindow, windowGood, nextPo
 use Rattle.pacing.specs.declared.Window.{Window}
 use Rattle.control.specs.Within.{controlGood}
 use Rattle.control.specs.declared.Control.{Control}
-use Rattle.end.specs.Record.{maxGood, heldGood, sendingGood, inboxGood, receivingGood, recordGood}
-use Rattle.end.specs.Requests.{requestMade, requestTaken}
-use Rattle.end.specs.SendData.{placeOr}
-use Rattle.end.specs.Pace.{mayPace, windowAnswered}
+use Rattle.sides.specs.Shared.{maxGood}
+use Rattle.sides.specs.Sending.{heldGood, sendingGood}
+use Rattle.sides.specs.Receiving.{inboxGood, receivingGood}
+use Rattle.end.specs.Record.{recordGood}
+use Rattle.sides.specs.Sending.{requestMade}
+use Rattle.sides.specs.Receiving.{requestTaken}
+use Rattle.logical_record.specs.Walk.{placeOr}
+use Rattle.sides.specs.Receiving.{mayPace, windowAnswered}
 use Rattle.end.specs.declared.End.{End}
-use Rattle.end.specs.declared.Sending.{Sending}
-use Rattle.end.specs.declared.Receiving.{Receiving}
+use Rattle.sides.specs.declared.Sending.{Sending}
+use Rattle.sides.specs.declared.Receiving.{Receiving}
 use Rattle.joined.proofs.Cases.{split}
 use Rattle.joined.proofs.Rows.{left, right}
 use Rattle.joined.proofs.Good.{both, control-good, sending-good, receiving-good, size-least}

@@ -24,19 +24,22 @@ use Rattle.control.specs.declared.Control.{Control}
 use Rattle.control.specs.declared.Role.{Role}
 use Rattle.control.specs.declared.State.{State}
 use Rattle.control.specs.declared.State.the-variants.{Reset, Send, Receive, ConfirmOwed, ConfirmAwaited}
-use Rattle.end.specs.Questions.{firstNo}
-use Rattle.end.specs.Answers.{accepted, refused}
-use Rattle.end.specs.Record.{maxGood, recordGood}
-use Rattle.end.specs.Requests.{requestMade, requestTaken}
-use Rattle.end.specs.Opening.{roleOf, openingQuestions, openingRefusal, freshEnd, zeroEnd, opened}
+use Rattle.answers.specs.Questions.{firstNo}
+use Rattle.answers.specs.Answers.{accepted, refused}
+use Rattle.sides.specs.Shared.{maxGood}
+use Rattle.end.specs.Record.{recordGood}
+use Rattle.sides.specs.Sending.{requestMade}
+use Rattle.sides.specs.Receiving.{requestTaken}
+use Rattle.sides.specs.Opening.{roleOf, openingQuestions, openingRefusal}
+use Rattle.end.specs.Opening.{freshEnd, zeroEnd, opened}
 use Rattle.end.specs.Outcome.{withControl, withReceiving}
 use Rattle.end.specs.Allocate.{bidMade}
 use Rattle.end.specs.SendData.{given, gone, bytesKept, bytesSpilled}
 use Rattle.end.specs.Close.{lastMade, close}
 use Rattle.end.specs.ReceiveUnit.{kindQuestions, headerTaken, ruTaken, dataJoined, bidAnswered, creditRaised}
 use Rattle.end.specs.Receive.{bytesRead}
-use Rattle.end.specs.Pace.{windowAnswered}
-use Rattle.end.specs.declared.Session.{Session}
+use Rattle.sides.specs.Receiving.{windowAnswered}
+use Rattle.sides.specs.declared.Session.{Session}
 use Rattle.end.specs.declared.Done.{Done}
 use Rattle.joined.specs.Joined.{Acted, Took}
 use Rattle.joined.specs.Ends.{Station, Verb, Reply, makes, acts, takes}

@@ -20,7 +20,7 @@ use Rattle.pacing.specs.Pacing.{credit}
 use Rattle.control.specs.Tests.{isSend}
 use Rattle.control.specs.declared.WhatReceived.{WhatReceived}
 use Rattle.control.specs.declared.WhatReceived.the-variants as mark
-use Rattle.end.specs.Answers.{accepted, readRefused, refusedNaming}
+use Rattle.answers.specs.Answers.{accepted, readRefused, refusedNaming}
 use Rattle.joined.specs.Joined.{acted, took}
 use Rattle.joined.specs.Ends.{Station, Verb, Reply, plain, refusalIn}
 use Rattle.joined.specs.Histories.{Log, given, bytesAccepted, bytesRead, bytesInInbox, count, requestsAmong, requestsMade, isPacingResponse, pacingResponsesTaken, isBreach, breaches, isBadRead, badReads, CompleteIsRight}

@@ -38,15 +38,21 @@ use Rattle.control.specs.declared.Control.{Control}
 use Rattle.control.specs.declared.State.{State}
 use Rattle.control.specs.declared.State.the-variants.{Reset, Send, Receive, ConfirmOwed, ConfirmAwaited}
 use Rattle.control.specs.declared.WhatReceived.the-variants as mark
-use Rattle.end.specs.Questions.{firstNo}
+use Rattle.answers.specs.Questions.{firstNo}
 use Rattle.end.specs.Record.{recordGood, inboxLent}
-use Rattle.end.specs.Answers.{senses}
-use Rattle.end.specs.Requests.{nextNumber, requestMade, requestTaken, dataHeader}
+use Rattle.answers.specs.Answers.{senses}
+use Rattle.sides.specs.Shared.{nextNumber}
+use Rattle.sides.specs.Sending.{requestMade}
+use Rattle.sides.specs.Receiving.{requestTaken}
+use Rattle.end.specs.Requests.{dataHeader}
 use Rattle.end.specs.Allocate.{bidMade}
-use Rattle.end.specs.SendData.{placeOr, heldBytes, bytesKept, bytesSpilled}
+use Rattle.logical_record.specs.Walk.{placeOr}
+use Rattle.end.specs.SendData.{heldBytes, bytesKept, bytesSpilled}
 use Rattle.end.specs.Close.{nothingGoes, lastMade, close}
-use Rattle.end.specs.ReceiveUnit.{kindQuestions, recordsFit, headerTaken, ruTaken, dataJoined, bidAnswered, creditRaised, takeRefusal}
-use Rattle.end.specs.Receive.{inboxBytes, restGood, restBytes, recordRest, someHeld, readRefusal, copyCount, bytesRead, markRead}
+use Rattle.end.specs.ReceiveUnit.{kindQuestions, headerTaken, ruTaken, dataJoined, bidAnswered, creditRaised, takeRefusal}
+use Rattle.sides.specs.Receiving.{recordsFit}
+use Rattle.end.specs.Receive.{inboxBytes, recordRest, someHeld, readRefusal, copyCount, bytesRead, markRead}
+use Rattle.sides.specs.Reading.{restGood, restBytes}
 use Rattle.end.specs.declared.End.{End}
 use Rattle.joined.specs.Joined.{Acted, Took, acted, took}
 use Rattle.joined.specs.Ends.{Station, Verb, Reply, makes, acts, takes}

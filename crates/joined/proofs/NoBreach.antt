@@ -17,10 +17,11 @@ use Rattle.pacing.specs.Pacing.{hasCredit, paced}
 use Rattle.control.specs.Tests.{isNothing, agree}
 use Rattle.control.specs.Questions.{chainFits, bracketFits, bidFits, stateFits}
 use Rattle.control.specs.declared.Role.{Role}
-use Rattle.end.specs.Questions.{firstNo}
+use Rattle.answers.specs.Questions.{firstNo}
 use Rattle.end.specs.Record.{recordGood, inboxLent, unitLent}
-use Rattle.end.specs.Requests.{nextNumber}
-use Rattle.end.specs.ReceiveUnit.{pacingFits, isNext, recordsFit, kindQuestions, headQuestions, headerTaken, ruTaken, takeRefusal}
+use Rattle.sides.specs.Shared.{nextNumber}
+use Rattle.sides.specs.Receiving.{pacingFits, isNext, recordsFit}
+use Rattle.end.specs.ReceiveUnit.{kindQuestions, headQuestions, headerTaken, ruTaken, takeRefusal}
 use Rattle.end.specs.declared.End.{End}
 use Rattle.joined.specs.Ends.{Station}
 use Rattle.joined.specs.Histories.{isBreach}

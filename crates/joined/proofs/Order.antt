@@ -26,8 +26,13 @@ use Rattle.control.specs.declared.State.{State}
 use Rattle.control.specs.declared.State.the-variants.{Reset, Send, Receive, ConfirmOwed, ConfirmAwaited}
 use Rattle.control.specs.declared.WhatReceived.{WhatReceived}
 use Rattle.control.specs.declared.WhatReceived.the-variants as mark
-use Rattle.end.specs.Record.{recordGood, sendingGood, receivingGood}
-use Rattle.end.specs.Requests.{nextNumber, requestMade, requestTaken, dataHeader}
+use Rattle.end.specs.Record.{recordGood}
+use Rattle.sides.specs.Sending.{sendingGood}
+use Rattle.sides.specs.Receiving.{receivingGood}
+use Rattle.sides.specs.Shared.{nextNumber}
+use Rattle.sides.specs.Sending.{requestMade}
+use Rattle.sides.specs.Receiving.{requestTaken}
+use Rattle.end.specs.Requests.{dataHeader}
 use Rattle.end.specs.Outcome.{withControl, withSending, withReceiving, withBidding}
 use Rattle.end.specs.Opening.{freshEnd}
 use Rattle.end.specs.Allocate.{bidMade}
@@ -36,7 +41,7 @@ use Rattle.end.specs.Close.{lastMade}
 use Rattle.end.specs.Receive.{bytesRead}
 use Rattle.end.specs.ReceiveUnit.{headerTaken, dataJoined, bidAnswered, creditRaised}
 use Rattle.end.specs.declared.End.{End}
-use Rattle.end.specs.declared.Receiving.{Receiving}
+use Rattle.sides.specs.declared.Receiving.{Receiving}
 use Rattle.joined.proofs.Automata.{ok, leads-nowhere}
 use Rattle.joined.proofs.Cases.{on}
 use Rattle.joined.proofs.Rows.{left, right}

@@ -13,7 +13,7 @@ use Rattle.pacing.specs.Pacing.{paced}
 use Rattle.control.specs.declared.Role.{Role}
 use Rattle.end.specs.SendData.{heldBytes}
 use Rattle.end.specs.Close.{close}
-use Rattle.end.specs.Pace.{windowAnswered}
+use Rattle.sides.specs.Receiving.{windowAnswered}
 use Rattle.end.specs.ReceiveUnit.{headerTaken, ruTaken}
 use Rattle.end.specs.declared.End.{End}
 use Rattle.joined.specs.Joined.{Acted, Took}

@@ -19,14 +19,18 @@ use Rattle.pacing.specs.declared.Window.{Window}
 use Rattle.control.specs.Tests.{isReset, agree}
 use Rattle.control.specs.Transitions.{bidAnswer}
 use Rattle.control.specs.declared.Control.{Control}
-use Rattle.end.specs.Questions.{firstNo}
-use Rattle.end.specs.Requests.{nextNumber, requestMade, requestTaken, dataHeader}
+use Rattle.answers.specs.Questions.{firstNo}
+use Rattle.sides.specs.Shared.{nextNumber}
+use Rattle.sides.specs.Sending.{requestMade}
+use Rattle.sides.specs.Receiving.{requestTaken}
+use Rattle.end.specs.Requests.{dataHeader}
 use Rattle.end.specs.Allocate.{bidMade}
 use Rattle.end.specs.SendData.{heldBytes, bytesKept, bytesSpilled}
 use Rattle.end.specs.Close.{lastMade, close}
-use Rattle.end.specs.ReceiveUnit.{pacingFits, kindQuestions, headerTaken, ruTaken, dataJoined, bidAnswered, creditRaised}
+use Rattle.sides.specs.Receiving.{pacingFits}
+use Rattle.end.specs.ReceiveUnit.{kindQuestions, headerTaken, ruTaken, dataJoined, bidAnswered, creditRaised}
 use Rattle.end.specs.Receive.{bytesRead}
-use Rattle.end.specs.Pace.{mayPace}
+use Rattle.sides.specs.Receiving.{mayPace}
 use Rattle.end.specs.declared.End.{End}
 use Rattle.joined.specs.Joined.{Acted, Took}
 use Rattle.joined.specs.Ends.{Station, Verb, Reply, makes, acts, takes}

@@ -19,9 +19,10 @@ use Rattle.control.specs.declared.Role.{Role}
 use Rattle.control.specs.declared.Role.the-variants.{FirstSpeaker, Bidder}
 use Rattle.control.specs.declared.State.{State}
 use Rattle.control.specs.declared.State.the-variants.{Reset, Send, Receive, ConfirmOwed, ConfirmAwaited}
-use Rattle.end.specs.Opening.{roleOf, openingRefusal, freshEnd, zeroEnd, opened}
-use Rattle.end.specs.Answers.{accepted, refused}
-use Rattle.end.specs.declared.Session.{Session}
+use Rattle.sides.specs.Opening.{roleOf, openingRefusal}
+use Rattle.end.specs.Opening.{freshEnd, zeroEnd, opened}
+use Rattle.answers.specs.Answers.{accepted, refused}
+use Rattle.sides.specs.declared.Session.{Session}
 use Rattle.end.specs.declared.End.{End}
 use Rattle.end.specs.declared.Done.{Done}
 use Rattle.joined.specs.Joined.{At, Side, Both, run}

@@ -7,7 +7,7 @@ use Prim.Native.Nat.{ℕ, zero, suc}
 use native.Mathlib.Omega.{arith}
 use lib.ListN.{getD}
 use lib.Dec.{T, eqb}
-use Rattle.end.specs.Questions.{firstNo}
+use Rattle.answers.specs.Questions.{firstNo}
 
 both-left : (a b : Bool) → T (a && b) → T a
 both-left true b t = tt

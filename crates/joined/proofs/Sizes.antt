@@ -10,7 +10,7 @@ use Rattle.unit.specs.declared.Follows.the-variants.{Stay, ChangeDirection, End
 use Rattle.unit.specs.declared.Header.{Header}
 use Rattle.unit.specs.declared.Header.the-variants.{Data, Bid, PositiveBidResponse, NegativeBidResponse, Confirmation, PacingResponse}
 use Rattle.pacing.specs.Pacing.{advanced, answered}
-use Rattle.end.specs.Requests.{requestMade}
+use Rattle.sides.specs.Sending.{requestMade}
 use Rattle.end.specs.Allocate.{bidMade}
 use Rattle.end.specs.SendData.{bytesKept, bytesSpilled}
 use Rattle.end.specs.Close.{lastMade, close}

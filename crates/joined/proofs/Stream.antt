@@ -27,9 +27,10 @@ use Rattle.unit.proofs.RoundTrip.{built-good, built-fields}
 use Rattle.unit.proofs.Units.{unit-length, unit-number, unit-header, unit-ru}
 use Rattle.pacing.specs.Pacing.{nextPosition}
 use Rattle.control.specs.Tests.{agree}
-use Rattle.end.specs.Requests.{nextNumber}
-use Rattle.end.specs.SendData.{placeOr}
-use Rattle.end.specs.ReceiveUnit.{recordsFit, headerTaken, ruTaken}
+use Rattle.sides.specs.Shared.{nextNumber}
+use Rattle.logical_record.specs.Walk.{placeOr}
+use Rattle.sides.specs.Receiving.{recordsFit}
+use Rattle.end.specs.ReceiveUnit.{headerTaken, ruTaken}
 use Rattle.joined.specs.Ends.{Station}
 use Rattle.joined.specs.Histories.{bytesInSendBuffer}
 use Rattle.joined.proofs.Automata.{Ran, ok, stuck, stuck≢ok, ok-is, Leads, leads-nowhere, leads-more, Parted, parted}

@@ -32,10 +32,15 @@ use Rattle.control.specs.Questions.{mayAllocate}
 use Rattle.control.specs.Transitions.{beginOf, allocated, spilled, closed, confirmationMade, markAnswered, dataTaken, bidTaken, bidAnswer, grantTaken, refusalTaken, confirmationTaken}
 use Rattle.control.specs.declared.Control.{Control}
 use Rattle.end.specs.Record.{recordGood}
-use Rattle.end.specs.Requests.{nextNumber, requestMade, requestTaken, dataHeader}
+use Rattle.sides.specs.Shared.{nextNumber}
+use Rattle.sides.specs.Sending.{requestMade}
+use Rattle.sides.specs.Receiving.{requestTaken}
+use Rattle.end.specs.Requests.{dataHeader}
 use Rattle.end.specs.Outcome.{withControl}
 use Rattle.end.specs.Allocate.{bidMade}
-use Rattle.end.specs.SendData.{placeOr, keeps, heldBytes, gone, bytesKept, bytesSpilled}
+use Rattle.logical_record.specs.Walk.{placeOr}
+use Rattle.sides.specs.Sending.{keeps}
+use Rattle.end.specs.SendData.{heldBytes, gone, bytesKept, bytesSpilled}
 use Rattle.end.specs.Close.{nothingGoes, lastMade, close}
 use Rattle.end.specs.ReceiveUnit.{headerTaken, ruTaken, dataJoined, bidAnswered, creditRaised}
 use Rattle.end.specs.Receive.{bytesRead}

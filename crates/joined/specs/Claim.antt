@@ -10,7 +10,7 @@ use Rattle.logical_record.specs.Records.{wholeRecords}
 use Rattle.logical_record.specs.declared.Walked.the-variants as walked
 use Rattle.control.specs.Questions.{holdsSend}
 use Rattle.end.specs.Record.{creditOf}
-use Rattle.end.specs.declared.Session.{Session}
+use Rattle.sides.specs.declared.Session.{Session}
 use Rattle.joined.specs.Joined.{At, Side, Both, firsts, seconds, run, AllFed}
 use Rattle.joined.specs.Ends.{Station, Verb, Reply, Buffers, JoinedOpenings, openedBoth, acts, takes}
 use Rattle.joined.specs.Histories.{bytesAccepted, bytesRead, bytesOnLine, bytesInInbox, bytesInSendBuffer, requestsMade, pacingResponsesTaken, breaches, badReads, CompleteIsRight}

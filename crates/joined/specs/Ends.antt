@@ -16,10 +16,10 @@ use Rattle.end.specs.ReceiveUnit as T
 use Rattle.end.specs.Receive as R
 use Rattle.end.specs.Pace as P
 use Rattle.end.specs.Outcome.{Made, Sent, Taken, Copied}
-use Rattle.end.specs.declared.Session.{Session}
+use Rattle.sides.specs.declared.Session.{Session}
 use Rattle.end.specs.declared.End.{End}
-use Rattle.end.specs.declared.Answer.{Answer}
-use Rattle.end.specs.declared.ReadAnswer.{ReadAnswer}
+use Rattle.answers.specs.declared.Answer.{Answer}
+use Rattle.answers.specs.declared.ReadAnswer.{ReadAnswer}
 use Rattle.joined.specs.Joined.{Acted, Took, Event, Side, Both, At}
 
 -- An end with the buffers that were lent to it at opening, which nobody else writes.

@@ -12,7 +12,7 @@ use Rattle.logical_record.specs.Records.{ended}
 use Rattle.unit.specs.Weights.{on}
 use Rattle.unit.specs.Rules.{isData, bytes, sameHeader}
 use Rattle.unit.specs.Unit.{RU-START, headerIn}
-use Rattle.end.specs.Answers.{BAD-LL}
+use Rattle.answers.specs.Answers.{BAD-LL}
 use Rattle.joined.specs.Joined.{Event, acted, took}
 use Rattle.joined.specs.Ends.{Station, Verb, allocate, flush, confirm, confirmed, pace, sendData, prepareToReceive, deallocate, receive, Reply, refusalIn}
 

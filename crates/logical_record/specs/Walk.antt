@@ -1,7 +1,7 @@
 -- The walk over the bytes of a stream of logical records: one byte, then any number.
 -- Assumes nothing.
 use Prim.Native.Nat.{ℕ, _-_}
-use mathlib.Core.Bool.{cond}
+use mathlib.Core.Bool.{Bool, true, false, cond}
 use mathlib.Core.List.{List, [], _∷_}
 use Rattle.logical_record.specs.Length.{lengthOf, lengthGood}
 use Rattle.logical_record.specs.Positions.{remaining, afterLength}
@@ -24,3 +24,13 @@ thenWalk BadLength (b ∷ bs) = BadLength
 
 abbrev pub walk : Position → List ℕ → Walked
 walk p bs = thenWalk (At p) bs
+
+-- every LL met is good
+abbrev pub isGood : Walked → Bool
+isGood (At p) = true
+isGood BadLength = false
+
+-- the place walked to; where an LL is bad, the place before
+abbrev pub placeOr : Position → Walked → Position
+placeOr p (At q) = q
+placeOr p BadLength = p

@@ -8,7 +8,7 @@ use crate::positions::after_length;
 use crate::positions::remaining;
 ghost use mathlib.Core.Path.{_≡_};
 ghost use Prim.Native.Nat.{min, max};
-ghost use Rattle.logical_record.specs.Walk.{step, walk};
+ghost use Rattle.logical_record.specs.Walk.{step, walk, isGood, placeOr};
 
 // One byte. LL is met, and checked, with its second byte.
 fn step(from: Position, byte: u8) -> Walked
@@ -64,4 +64,24 @@ pub fn walk_over(from: Position, bytes: &[u8]) -> Walked
         }
     }
     Walked::At(position)
+}
+
+// Every LL met is good.
+pub fn is_good(walked: Walked) -> bool
+    ensures { λ r. ⌜ r ≡ isGood walked ⌝ }
+{
+    match walked {
+        Walked::At(_) => true,
+        Walked::BadLength => false,
+    }
+}
+
+// The record place walked to; where an LL is bad, the place before.
+pub fn place_or(before: Position, walked: Walked) -> Position
+    ensures { λ r. ⌜ r ≡ placeOr before walked ⌝ }
+{
+    match walked {
+        Walked::At(after) => after,
+        Walked::BadLength => before,
+    }
 }

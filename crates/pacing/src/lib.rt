@@ -2,7 +2,7 @@
 // The same rules serve both directions: the sending end counts its credit by them, the receiving end what it has open.
 ghost use mathlib.Core.Path.{_≡_};
 ghost use Prim.Native.Nat.{_-_, _≤_};
-ghost use Rattle.pacing.specs.Pacing.{windowGood, whole, left, credit, hasCredit, paced, nextPosition, advanced, answered};
+ghost use Rattle.pacing.specs.Pacing.{sizeGood, freshWindow, windowGood, whole, left, credit, hasCredit, paced, nextPosition, advanced, answered};
 
 // `size` is document 01's W; `position` its window place; `pending` is its pacing request unanswered (sending) or answer
 // owed (receiving).
@@ -59,9 +59,11 @@ impl Window {
     pub fn answered(self) -> Window
         ensures { λ r. ⌜ r ≡ answered self ⌝ }
     {
-        let mut w = self;
-        w.pending = false;
-        w
+        Window {
+            size: self.size,
+            position: self.position,
+            pending: false,
+        }
     }
 }
 
@@ -97,5 +99,21 @@ fn next_position(position: u8, size: u8) -> u8
         0
     } else {
         position + 1
+    }
+}
+
+pub fn size_good(window: u8) -> bool
+    ensures { λ r. ⌜ r ≡ sizeGood window ⌝ }
+{
+    (LEAST_WINDOW <= window) & (window <= GREATEST_WINDOW)
+}
+
+pub fn fresh_window(size: u8) -> Window
+    ensures { λ r. ⌜ r ≡ freshWindow size ⌝ }
+{
+    Window {
+        size,
+        position: 0,
+        pending: false,
     }
 }

@@ -16,9 +16,14 @@ use Rattle.control.specs.Within.{controlGood}
 use Rattle.control.specs.Transitions.{allocated, spilled, closed, confirmationMade, markAnswered, dataTaken, bidTaken, grantTaken, refusalTaken, confirmationTaken}
 use Rattle.control.specs.declared.State.{State}
 use Rattle.control.specs.declared.State.the-variants.{Reset, Send, Receive, ConfirmOwed, ConfirmAwaited}
-use Rattle.end.specs.Record.{sendingGood, receivingGood, recordGood, creditOf}
-use Rattle.end.specs.Requests.{requestMade, requestTaken, dataHeader}
-use Rattle.end.specs.Opening.{openingRefusal, opened}
+use Rattle.sides.specs.Sending.{sendingGood}
+use Rattle.sides.specs.Receiving.{receivingGood}
+use Rattle.end.specs.Record.{recordGood, creditOf}
+use Rattle.sides.specs.Sending.{requestMade}
+use Rattle.sides.specs.Receiving.{requestTaken}
+use Rattle.end.specs.Requests.{dataHeader}
+use Rattle.sides.specs.Opening.{openingRefusal}
+use Rattle.end.specs.Opening.{opened}
 use Rattle.end.specs.Allocate.{allocateRefusal, bidMade, allocateDecision, allocate}
 use Rattle.end.specs.SendData.{sendRefusal, bytesKept, bytesSpilled, sendDecision, sendCells, sendData}
 use Rattle.end.specs.Close.{closeRefusal, lastMade, closeDecision, close}

@@ -3,7 +3,7 @@
 use Prim.Native.Nat.{ℕ, zero, suc, _+_, _*_}
 use mathlib.Core.List.{List, [], _∷_}
 use lib.ListN.{length}
-use Rattle.end.specs.declared.Session.{Session}
+use Rattle.sides.specs.declared.Session.{Session}
 use Rattle.joined.specs.Joined.{Acted, Took, Side, Both, At, run}
 use Rattle.joined.specs.Ends.{Station, Verb, Reply, Buffers, acts, takes, openedWith, openedBoth}
 

@@ -17,10 +17,15 @@ use Rattle.pacing.specs.Pacing.{credit, advanced, answered}
 use Rattle.control.specs.Within.{controlGood}
 use Rattle.control.specs.Transitions.{setState, allocated, spilled, closed, confirmationMade, markAnswered, dataTaken, bidTaken, grantTaken, refusalTaken, confirmationTaken}
 use Rattle.control.specs.declared.State.the-variants.{ConfirmOwed}
-use Rattle.end.specs.Record.{sendingGood, receivingGood, recordGood}
-use Rattle.end.specs.Requests.{requestMade, requestTaken, dataHeader}
+use Rattle.sides.specs.Sending.{sendingGood}
+use Rattle.sides.specs.Receiving.{receivingGood}
+use Rattle.end.specs.Record.{recordGood}
+use Rattle.sides.specs.Sending.{requestMade}
+use Rattle.sides.specs.Receiving.{requestTaken}
+use Rattle.end.specs.Requests.{dataHeader}
 use Rattle.end.specs.Outcome.{withControl, withOwed}
-use Rattle.end.specs.Opening.{openingRefusal, opened}
+use Rattle.sides.specs.Opening.{openingRefusal}
+use Rattle.end.specs.Opening.{opened}
 use Rattle.end.specs.Allocate.{allocateRefusal, bidMade, allocateDecision, allocate}
 use Rattle.end.specs.SendData as S
 use Rattle.end.specs.SendData.{sendRefusal, bytesKept, bytesSpilled, sendDecision, sendCells, sendData}

@@ -3,8 +3,8 @@ use borrow.Author.Needs.{needs}
 use Rattle.end.proofs.End.allocate_refusal.Statement.{statement}
 use Rattle.end.proofs.End.allocate_refusal.Tie as tie
 
-is-first-speaker-requires : tie.Need-is-first-speaker-requires
-is-first-speaker-requires c κs = search needs
+speaks-first-requires : tie.Need-speaks-first-requires
+speaks-first-requires c κs = search needs
 
 has-credit-requires : tie.Need-has-credit-requires
 has-credit-requires c κs = search needs
@@ -41,14 +41,14 @@ returns c = rw (
   c .before .before .before .before .before .may-allocate .ensures,
   c .before .before .before .before .before .before .ask .ensures,
   c .before .before .before .before .before .before .before .has-credit .ensures,
-  c .before .before .before .before .before .before .before .before .is-first-speaker .ensures,
+  c .before .before .before .before .before .before .before .before .speaks-first .ensures,
 )
 
 pub allocate-refusal-spec : {M : Type 1} → statement M
 allocate-refusal-spec =
     tie.close
     (tie.spec
-    is-first-speaker-requires
+    speaks-first-requires
     has-credit-requires
     ask-requires
     may-allocate-requires

@@ -11,18 +11,31 @@ bid-answer-requires c κs = search needs
 bid-taken-requires : tie.Need-bid-taken-requires
 bid-taken-requires c κs = search needs
 
-request-taken-requires : tie.Need-request-taken-requires
-request-taken-requires c κs = search needs
+request-counted-requires : tie.Need-request-counted-requires
+request-counted-requires c κs = search needs
+
+with-control-requires : tie.Need-with-control-requires
+with-control-requires c κs = search needs
+
+with-receiving-requires : tie.Need-with-receiving-requires
+with-receiving-requires c κs = search needs
 
 make-fixed-requires : tie.Need-make-fixed-requires
-make-fixed-requires c κs = rw (c .before .before .before .bid-answer .ensures) (omega (arith, bid-answer-length (c .before .before .before .before .before .before .before .args .self .control), c .before .before .before .before .before .before .before .pre))
+make-fixed-requires c κs = rw (c .before .before .before .before .before .bid-answer .ensures) (omega (arith, bid-answer-length (c .before .before .before .before .before .before .before .args .self .control), c .before .before .before .before .before .before .before .pre))
 
 same-length : tie.Need-same-length
 same-length c = search needs
 
 returns : tie.Need-returns
 unfolding bidAnswered
-returns c = rw (c .before .before .make-fixed .ensures, c .before .before .before .before .request-taken .ensures, c .before .before .before .before .before .bid-taken .ensures, c .before .before .before .before .before .before .bid-answer .ensures)
+returns c = rw (
+  c .before .before .make-fixed .ensures,
+  c .before .before .before .before .with-receiving .ensures,
+  c .before .before .before .before .before .with-control .ensures,
+  c .before .before .before .before .before .before .request-counted .ensures,
+  c .before .before .before .before .before .before .before .bid-taken .ensures,
+  c .before .before .before .before .before .before .before .before .bid-answer .ensures,
+)
 
 pub answer-bid-spec : {M : Type 1} → statement M
 answer-bid-spec =
@@ -30,7 +43,9 @@ answer-bid-spec =
     (tie.spec
     bid-answer-requires
     bid-taken-requires
-    request-taken-requires
+    request-counted-requires
+    with-control-requires
+    with-receiving-requires
     make-fixed-requires
     same-length
     returns)

@@ -15,8 +15,8 @@ ask-requires c κs = search needs
 marks-requires : tie.Need-marks-requires
 marks-requires c κs = search needs
 
-is-whole-requires : tie.Need-is-whole-requires
-is-whole-requires c κs = search needs
+given-whole-requires : tie.Need-given-whole-requires
+given-whole-requires c κs = search needs
 
 ask-requires-2 : tie.Need-ask-requires-2
 ask-requires-2 c κs = search needs
@@ -53,7 +53,7 @@ returns c = rw (
   c .before .before .before .before .before .ask3 .ensures,
   c .before .before .before .before .before .before .may-send .ensures,
   c .before .before .before .before .before .before .before .ask2 .ensures,
-  c .before .before .before .before .before .before .before .before .is-whole .ensures,
+  c .before .before .before .before .before .before .before .before .given-whole .ensures,
   c .before .before .before .before .before .before .before .before .before .marks .ensures,
   c .before .before .before .before .before .before .before .before .before .before .ask .ensures,
   c .before .before .before .before .before .before .before .before .before .before .before .has-credit .ensures,
@@ -68,7 +68,7 @@ close-refusal-spec =
     has-credit-requires
     ask-requires
     marks-requires
-    is-whole-requires
+    given-whole-requires
     ask-requires-2
     may-send-requires
     ask-requires-3

@@ -3,8 +3,8 @@ use borrow.Author.Needs.{needs}
 use Rattle.end.proofs.End.end_refusal.Statement.{statement}
 use Rattle.end.proofs.End.end_refusal.Tie as tie
 
-is-nothing-requires : tie.Need-is-nothing-requires
-is-nothing-requires c κs = search needs
+has-no-mark-requires : tie.Need-has-no-mark-requires
+has-no-mark-requires c κs = search needs
 
 ask-requires : tie.Need-ask-requires
 ask-requires c κs = search needs
@@ -33,14 +33,14 @@ returns c = rw (
   c .before .before .before .ask2 .ensures,
   c .before .before .before .before .record-good .ensures,
   c .before .before .before .before .before .ask .ensures,
-  c .before .before .before .before .before .before .is-nothing .ensures,
+  c .before .before .before .before .before .before .has-no-mark .ensures,
 )
 
 pub end-refusal-spec : {M : Type 1} → statement M
 end-refusal-spec =
     tie.close
     (tie.spec
-    is-nothing-requires
+    has-no-mark-requires
     ask-requires
     record-good-requires
     ask-requires-2

@@ -4,20 +4,25 @@ use borrow.Author.Needs.{needs}
 use Rattle.end.proofs.End.kind_refusal.Statement.{statement}
 use Rattle.end.proofs.End.kind_refusal.Tie as tie
 
-cast-max : tie.Need-cast-max
-cast-max c = search needs
-
 enum-known-header : tie.Need-enum-known-header
 enum-known-header c = search needs
 
 data-refusal-requires : tie.Need-data-refusal-requires
-data-refusal-requires c κs = c .before .before .before .before .before .before .before .before .pre ∙ rw (c .before .header .given .1)
+data-refusal-requires c κs = c .before .before .before .before .pre ∙ rw (c .before .header .given .1)
+
+returns : tie.Need-returns
+unfolding kindRefusal
+returns c = rw (c .data-refusal .ensures, c .before .before .header .given .1)
 
 enum-known-header-2 : tie.Need-enum-known-header-2
 enum-known-header-2 c = search needs
 
 bid-refusal-requires : tie.Need-bid-refusal-requires
 bid-refusal-requires c κs = search needs
+
+returns-2 : tie.Need-returns-2
+unfolding kindRefusal
+returns-2 c = rw (c .bid-refusal .ensures, c .before .before .header2 .given .1)
 
 enum-told : tie.Need-enum-told
 enum-told c = search needs
@@ -28,6 +33,10 @@ grant-fits-requires c κs = search needs
 response-refusal-requires : tie.Need-response-refusal-requires
 response-refusal-requires c κs = search needs
 
+returns-3 : tie.Need-returns-3
+unfolding kindRefusal
+returns-3 c = rw (c .response-refusal .ensures, c .before .before .grant-fits .ensures, c .before .before .before .enum-told .given .1)
+
 enum-told-2 : tie.Need-enum-told-2
 enum-told-2 c = search needs
 
@@ -36,6 +45,10 @@ refusal-fits-requires c κs = search needs
 
 response-refusal-requires-2 : tie.Need-response-refusal-requires-2
 response-refusal-requires-2 c κs = search needs
+
+returns-4 : tie.Need-returns-4
+unfolding kindRefusal
+returns-4 c = rw (c .response-refusal2 .ensures, c .before .before .refusal-fits .ensures, c .before .before .before .enum-told2 .given .1)
 
 enum-told-3 : tie.Need-enum-told-3
 enum-told-3 c = search needs
@@ -46,31 +59,15 @@ confirmation-fits-requires c κs = search needs
 response-refusal-requires-3 : tie.Need-response-refusal-requires-3
 response-refusal-requires-3 c κs = search needs
 
+returns-5 : tie.Need-returns-5
+unfolding kindRefusal
+returns-5 c = rw (c .response-refusal3 .ensures, c .before .before .confirmation-fits .ensures, c .before .before .before .enum-told3 .given .1)
+
 enum-told-4 : tie.Need-enum-told-4
 enum-told-4 c = search needs
 
 pacing-response-refusal-requires : tie.Need-pacing-response-refusal-requires
 pacing-response-refusal-requires c κs = search needs
-
-returns : tie.Need-returns
-unfolding kindRefusal
-returns c = rw (c .data-refusal .ensures, c .before .before .header .given .1)
-
-returns-2 : tie.Need-returns-2
-unfolding kindRefusal
-returns-2 c = rw (c .bid-refusal .ensures, c .before .before .header2 .given .1)
-
-returns-3 : tie.Need-returns-3
-unfolding kindRefusal
-returns-3 c = rw (c .response-refusal .ensures, c .before .before .grant-fits .ensures, c .before .before .before .enum-told .given .1)
-
-returns-4 : tie.Need-returns-4
-unfolding kindRefusal
-returns-4 c = rw (c .response-refusal2 .ensures, c .before .before .refusal-fits .ensures, c .before .before .before .enum-told2 .given .1)
-
-returns-5 : tie.Need-returns-5
-unfolding kindRefusal
-returns-5 c = rw (c .response-refusal3 .ensures, c .before .before .confirmation-fits .ensures, c .before .before .before .enum-told3 .given .1)
 
 returns-6 : tie.Need-returns-6
 unfolding kindRefusal
@@ -80,7 +77,6 @@ pub kind-refusal-spec : {M : Type 1} → statement M
 kind-refusal-spec =
     tie.close
     (tie.spec
-    cast-max
     enum-known-header
     data-refusal-requires
     enum-known-header-2

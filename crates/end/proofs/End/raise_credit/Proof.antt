@@ -6,12 +6,16 @@ use Rattle.end.proofs.End.raise_credit.Tie as tie
 credit-answered-requires : tie.Need-credit-answered-requires
 credit-answered-requires c κs = search needs
 
-accept-requires : tie.Need-accept-requires
-accept-requires c κs = search needs
+with-sending-requires : tie.Need-with-sending-requires
+with-sending-requires c κs = search needs
+
+accepted-requires : tie.Need-accepted-requires
+accepted-requires c κs = search needs
 
 returns : tie.Need-returns
 unfolding creditRaised
-returns c = rw (c .accept .ensures, c .before .credit-answered .ensures)
+returns c = rw (c .accepted .ensures, c .before .with-sending .ensures, c .before .before .credit-answered .ensures)
 
 pub raise-credit-spec : {M : Type 1} → statement M
-raise-credit-spec = tie.close (tie.spec credit-answered-requires accept-requires returns)
+raise-credit-spec =
+    tie.close (tie.spec credit-answered-requires with-sending-requires accepted-requires returns)

@@ -6,8 +6,8 @@ use Rattle.end.proofs.End.read_refusal.Tie as tie
 some-held-requires : tie.Need-some-held-requires
 some-held-requires c κs = search needs
 
-is-nothing-requires : tie.Need-is-nothing-requires
-is-nothing-requires c κs = search needs
+has-no-mark-requires : tie.Need-has-no-mark-requires
+has-no-mark-requires c κs = search needs
 
 ask-requires : tie.Need-ask-requires
 ask-requires c κs = search needs
@@ -44,9 +44,9 @@ returns c = rw (
   c .before .before .before .before .before .ask2 .ensures,
   c .before .before .before .before .before .before .rest-good .ensures,
   c .before .before .before .before .before .before .before .ask .ensures,
-  c .before .before .before .before .before .before .before .before .is-nothing .ensures,
+  c .before .before .before .before .before .before .before .before .has-no-mark .ensures,
   c .before .before .before .before .before .before .before .before .before .some-held .ensures,
-  c .before .before .before .before .before .before .before .before .before .before .before .before .before .pre,
+  c .before .before .before .before .before .before .before .before .before .before .before .pre,
 )
 
 pub read-refusal-spec : {M : Type 1} → statement M
@@ -54,7 +54,7 @@ read-refusal-spec =
     tie.close
     (tie.spec
     some-held-requires
-    is-nothing-requires
+    has-no-mark-requires
     ask-requires
     rest-good-requires
     ask-requires-2

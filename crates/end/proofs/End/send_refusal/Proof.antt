@@ -62,7 +62,7 @@ returns c = rw (
   c .before .before .before .before .before .before .before .before .before .before .before .ask .ensures,
   c .before .before .before .before .before .before .before .before .before .before .before .before .has-credit .ensures,
   c .before .before .before .before .before .before .before .before .before .before .before .before .before .keeps .ensures,
-  c .before .before .before .before .before .before .before .before .before .before .before .before .before .before .before .before .before .before .pre,
+  c .before .before .before .before .before .before .before .before .before .before .before .before .before .before .before .pre,
 )
 
 pub send-refusal-spec : {M : Type 1} → statement M

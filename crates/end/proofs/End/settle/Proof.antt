@@ -2,11 +2,14 @@ use borrow.Author.Needs.{needs}
 use Rattle.end.proofs.End.settle.Statement.{statement}
 use Rattle.end.proofs.End.settle.Tie as tie
 
-accept-requires : tie.Need-accept-requires
-accept-requires c κs = search needs
+with-control-requires : tie.Need-with-control-requires
+with-control-requires c κs = search needs
+
+accepted-requires : tie.Need-accepted-requires
+accepted-requires c κs = search needs
 
 returns : tie.Need-returns
-returns c = rw (c .accept .ensures)
+returns c = rw (c .accepted .ensures, c .before .with-control .ensures)
 
 pub settle-spec : {M : Type 1} → statement M
-settle-spec = tie.close (tie.spec accept-requires returns)
+settle-spec = tie.close (tie.spec with-control-requires accepted-requires returns)

@@ -1,11 +1,5 @@
-use mathlib.Core.Path.{sym}
-use Prim.Native.Nat.{_-_}
-use native.Mathlib.Omega.{arith}
-use lib.Seq.{length-take-le}
-use denote.Ref.{now}
-use Rattle.end.specs.Requests.{requestMade}
+use Rattle.sides.specs.Sending.{requestMade}
 use Rattle.end.specs.SendData.{bytesSpilled}
-use Rattle.end.proofs.Copies.{copy-rest}
 use borrow.Author.Needs.{needs}
 use Rattle.end.proofs.End.spill.Statement.{statement}
 use Rattle.end.proofs.End.spill.Tie as tie
@@ -31,32 +25,20 @@ data-header-requires c κs = search needs
 spilled-requires : tie.Need-spilled-requires
 spilled-requires c κs = search needs
 
-request-made-requires : tie.Need-request-made-requires
-request-made-requires c κs = search needs
+bytes-sent-requires : tie.Need-bytes-sent-requires
+bytes-sent-requires c κs = search needs
 
-slice-reshare-prefix-make-data : tie.Need-slice-reshare-prefix-make-data
-slice-reshare-prefix-make-data c = search needs
+send-full-requires : tie.Need-send-full-requires
+send-full-requires c κs = search needs
 
-slice-aggregate-make-data : tie.Need-slice-aggregate-make-data
-slice-aggregate-make-data c = let a = c .before .before .before .before .before .before .before .before .before .before .before .args in let p = c .before .before .before .before .before .before .before .before .before .before .before .pre in sym (length-take-le (a .self .sending .held) (now (a .send)) (omega (arith, p)))
+with-control-requires : tie.Need-with-control-requires
+with-control-requires c κs = search needs
 
-slice-aggregate-make-data-2 : tie.Need-slice-aggregate-make-data-2
-slice-aggregate-make-data-2 c = let a = c .before .before .before .before .before .before .before .before .before .before .before .before .args in let p = c .before .before .before .before .before .before .before .before .before .before .before .before .pre in sym (length-take-le (a .self .sending .max - a .self .sending .held) (now (a .bytes)) (omega (arith, p)))
+with-sending-requires : tie.Need-with-sending-requires
+with-sending-requires c κs = search needs
 
-make-data-requires : tie.Need-make-data-requires
-make-data-requires c κs = let a = c .before .before .before .before .before .before .before .before .before .before .before .before .before .args in let p = c .before .before .before .before .before .before .before .before .before .before .before .before .before .pre in omega (arith, length-take-le (a .self .sending .held) (now (a .send)) (omega (arith, p)), length-take-le (a .self .sending .max - a .self .sending .held) (now (a .bytes)) (omega (arith, p)))
-
-sub-copy : tie.Need-sub-copy
-sub-copy c = let p = c .before .before .before .before .before .before .before .before .before .before .before .before .before .before .before .before .pre in omega (arith, p)
-
-part-copy-start : tie.Need-part-copy-start
-part-copy-start c = let p = c .before .before .before .before .before .before .before .before .before .before .before .before .before .before .before .before .pre in omega (arith, p)
-
-part-copy-end : tie.Need-part-copy-end
-part-copy-end c = search needs
-
-copy-requires : tie.Need-copy-requires
-copy-requires c κs = let p = c .before .before .before .before .before .before .before .before .before .before .before .before .before .before .before .before .before .before .pre in omega (arith, p)
+accepted-requires : tie.Need-accepted-requires
+accepted-requires c κs = search needs
 
 same-length : tie.Need-same-length
 same-length c = search needs
@@ -66,7 +48,7 @@ same-length-2 c = search needs
 
 returns : tie.Need-returns
 unfolding bytesSpilled requestMade
-returns c = let a = c .before .before .before .before .before .before .before .before .before .before .before .before .before .before .before .before .before .before .before .before .before .args in (rw (c .before .before .before .before .before .before .before .make-data .ensures, c .before .before .before .before .before .before .before .before .before .before .before .request-made .ensures, c .before .before .before .before .before .before .before .before .before .before .before .before .spilled .ensures, c .before .before .before .before .before .before .before .before .before .before .before .before .before .data-header .ensures, c .before .before .before .before .before .before .before .before .before .before .before .before .before .before .before .before .before .before .before .before .before .pre .0), copy-rest (a .self .sending .max - a .self .sending .held) (now (a .bytes)) (now (a .send)) (c .before .before .copy .last .1 .0) (c .before .before .copy .ensures .1))
+returns c = (rw (c .accepted .ensures, c .before .with-sending .ensures, c .before .before .with-control .ensures, c .before .before .before .before .before .before .before .send-full .ensures .0, c .before .before .before .before .before .before .before .send-full .ensures .1 .0, c .before .before .before .before .before .before .before .before .before .before .bytes-sent .ensures, c .before .before .before .before .before .before .before .before .before .before .before .spilled .ensures, c .before .before .before .before .before .before .before .before .before .before .before .before .data-header .ensures, c .before .before .before .before .before .before .before .before .before .before .before .before .before .before .before .before .before .before .pre .0), c .before .before .before .before .before .before .before .send-full .ensures .1 .1)
 
 pub spill-spec : {M : Type 1} → statement M
 spill-spec =
@@ -79,15 +61,11 @@ spill-spec =
     cast-rest
     data-header-requires
     spilled-requires
-    request-made-requires
-    slice-reshare-prefix-make-data
-    slice-aggregate-make-data
-    slice-aggregate-make-data-2
-    make-data-requires
-    sub-copy
-    part-copy-start
-    part-copy-end
-    copy-requires
+    bytes-sent-requires
+    send-full-requires
+    with-control-requires
+    with-sending-requires
+    accepted-requires
     same-length
     same-length-2
     returns)

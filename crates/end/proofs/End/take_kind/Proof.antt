@@ -14,14 +14,13 @@ enum-known-header : tie.Need-enum-known-header
 enum-known-header c = search needs
 
 join-data-requires : tie.Need-join-data-requires
-join-data-requires c κs = let a = c .before .before .before .before .before .before .before .before .args in let p = c .before .before .before .before .before .before .before .before .pre in
-    (p .3 ∙ rw (c .before .before .header .given .1), joined-room (a .self) (a .header) _ (a .number) (now (a .ru)) (p .1) (c .before .before .header .given .1) (p .2), inbox-is (a .self) (length (now (a .inbox))) (length (now (a .unit))) (p .0))
+join-data-requires c κs = let a = c .before .before .before .before .before .before .before .args in let p = c .before .before .before .before .before .before .before .pre in (p .3 ∙ rw (c .before .before .header .given .1), joined-room (a .self) (a .header) _ (a .number) (now (a .ru)) (p .1) (c .before .before .header .given .1) (p .2), inbox-is (a .self) (length (now (a .inbox))) (length (now (a .unit))) (p .0))
 
 enum-told : tie.Need-enum-told
 enum-told c = search needs
 
 answer-bid-requires : tie.Need-answer-bid-requires
-answer-bid-requires c κs = let a = c .before .before .before .before .before .before .before .args in let p = c .before .before .before .before .before .before .before .pre in bid-room (a .self) (length (now (a .inbox))) (length (now (a .unit))) (p .0) (p .1)
+answer-bid-requires c κs = let a = c .before .before .before .before .before .before .args in let p = c .before .before .before .before .before .before .pre in bid-room (a .self) (length (now (a .inbox))) (length (now (a .unit))) (p .0) (p .1)
 
 enum-told-2 : tie.Need-enum-told-2
 enum-told-2 c = search needs
@@ -68,7 +67,7 @@ same-length-2 c = search needs
 
 returns-2 : tie.Need-returns-2
 unfolding kindLeft dataJoined creditRaised
-returns-2 c = ap (λ (m : Made). takenBy (m .done) (now (c .before .before .before .before .before .before .before .before .before .before .args .inbox)) (m .unit)) (c .before .before .answer-bid .ensures) ∙ rw (c .before .before .before .before .enum-told .given .1)
+returns-2 c = ap (λ (m : Made). takenBy (m .done) (now (c .before .before .before .before .before .before .before .before .before .args .inbox)) (m .unit)) (c .before .before .answer-bid .ensures) ∙ rw (c .before .before .before .before .enum-told .given .1)
 
 returns-3 : tie.Need-returns-3
 unfolding kindLeft dataJoined creditRaised

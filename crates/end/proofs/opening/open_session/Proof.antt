@@ -10,50 +10,50 @@ use Rattle.end.proofs.opening.open_session.Tie as tie
 opening-refusal-requires : tie.Need-opening-refusal-requires
 opening-refusal-requires c κs = search needs
 
+zero-end-requires : tie.Need-zero-end-requires
+zero-end-requires c κs = search needs
+
+refused-requires : tie.Need-refused-requires
+refused-requires c κs = search needs
+
+returns : tie.Need-returns
+unfolding opened
+returns c = rw (c .refused .ensures, c .before .zero-end .ensures, ← c .before .before .before .opening-refusal .ensures, ne-eqb _ _ (c .before .before .if1 .taken))
+
 role-of-requires : tie.Need-role-of-requires
 role-of-requires c κs = search needs
 
 cast-outmax : tie.Need-cast-outmax
-cast-outmax c = let a = c .before .before .before .before .args in let f = opening-fits (a .session) (a .send) (a .unit) (a .inbox) (sym (c .before .before .before .opening-refusal .ensures) ∙ c .before .before .if1 .taken) in omega arith
+cast-outmax c = let a = c .before .before .before .before .args in let f = opening-fits (a .session) (a .send) (a .unit) (a .inbox) (sym (c .before .before .before .opening-refusal .ensures) ∙ c .before .before .if1 .left) in omega arith
 
 cast-inmax : tie.Need-cast-inmax
-cast-inmax c = let a = c .before .before .before .before .before .args in let f = opening-fits (a .session) (a .send) (a .unit) (a .inbox) (sym (c .before .before .before .before .opening-refusal .ensures) ∙ c .before .before .before .if1 .taken) in omega arith
-
-accept-requires : tie.Need-accept-requires
-accept-requires c κs = search needs
+cast-inmax c = let a = c .before .before .before .before .before .args in let f = opening-fits (a .session) (a .send) (a .unit) (a .inbox) (sym (c .before .before .before .before .opening-refusal .ensures) ∙ c .before .before .before .if1 .left) in omega arith
 
 cast-fresh-end : tie.Need-cast-fresh-end
-cast-fresh-end c = let a = c .before .before .before .before .before .before .args in let f = opening-fits (a .session) (a .send) (a .unit) (a .inbox) (sym (c .before .before .before .before .before .opening-refusal .ensures) ∙ c .before .before .before .before .if1 .taken) in omega arith
+cast-fresh-end c = let a = c .before .before .before .before .before .args in let f = opening-fits (a .session) (a .send) (a .unit) (a .inbox) (sym (c .before .before .before .before .opening-refusal .ensures) ∙ c .before .before .before .if1 .left) in omega arith
 
 fresh-end-requires : tie.Need-fresh-end-requires
 fresh-end-requires c κs = search needs
 
-refuse-requires : tie.Need-refuse-requires
-refuse-requires c κs = search needs
-
-zero-end-requires : tie.Need-zero-end-requires
-zero-end-requires c κs = search needs
-
-returns : tie.Need-returns
-unfolding opened
-returns c = rw (c .fresh-end .ensures, c .before .accept .ensures, c .before .before .before .before .role-of .ensures, eq-eqb _ _ (sym (c .before .before .before .before .before .before .opening-refusal .ensures) ∙ c .before .before .before .before .before .if1 .taken))
+accepted-requires : tie.Need-accepted-requires
+accepted-requires c κs = search needs
 
 returns-2 : tie.Need-returns-2
 unfolding opened
-returns-2 c = rw (c .zero-end .ensures, c .before .refuse .ensures, ← c .before .before .before .opening-refusal .ensures, ne-eqb _ _ (c .before .before .if1 .left))
+returns-2 c = rw (c .accepted .ensures, c .before .fresh-end .ensures, c .before .before .before .before .role-of .ensures, eq-eqb _ _ (sym (c .before .before .before .before .before .before .opening-refusal .ensures) ∙ c .before .before .before .before .before .if1 .left))
 
 pub open-session-spec : {M : Type 1} → statement M
 open-session-spec =
     tie.close
     (tie.spec
     opening-refusal-requires
+    zero-end-requires
+    refused-requires
+    returns
     role-of-requires
     cast-outmax
     cast-inmax
-    accept-requires
     cast-fresh-end
     fresh-end-requires
-    refuse-requires
-    zero-end-requires
-    returns
+    accepted-requires
     returns-2)

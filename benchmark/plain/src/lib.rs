@@ -1,0 +1,697 @@
+//! One end of a basic conversation, in plain safe Rust: what a programmer would write from document 01 without proofs. It is here
+//! to be compared with: by the benchmark for its speed, by the tests for its answers. It shares no code with the library.
+//!
+//! The walk over records skips a record's body at once; it does not go byte by byte. Bytes are moved by `copy_from_slice`.
+
+#[derive(Clone, Copy, Debug, PartialEq, Eq)]
+pub enum State {
+    Reset,
+    Send,
+    Receive,
+    Owes,
+    Waits,
+}
+
+#[derive(Clone, Copy, Debug, PartialEq, Eq)]
+pub enum Follow {
+    Stay,
+    Turn,
+    End,
+}
+
+#[derive(Clone, Copy, Debug, PartialEq, Eq)]
+pub enum Mark {
+    None,
+    Turn,
+    End,
+    Confirm,
+    ConfirmTurn,
+    ConfirmEnd,
+}
+
+/// A record place: between records, after the first LL byte, or with that many bytes left.
+#[derive(Clone, Copy, Debug, PartialEq, Eq)]
+pub enum Place {
+    Between,
+    AfterFirst(u8),
+    Left(u16),
+}
+
+/// One direction's window: its size W, the place in it, and the flag of a pacing request not yet answered.
+#[derive(Clone, Copy, Debug, PartialEq, Eq)]
+pub struct Window {
+    pub size: u8,
+    pub place: u8,
+    pub pending: bool,
+}
+
+#[derive(Clone, Copy, Debug, PartialEq, Eq)]
+pub struct End {
+    pub bidder: bool,
+    pub state: State,
+    pub follow: Follow,
+    pub mark: Mark,
+    pub due: bool,
+    pub bid: bool,
+    pub out_chain: bool,
+    pub in_chain: bool,
+    pub out: Window,
+    pub out_max: u16,
+    pub out_held: u16,
+    pub out_number: u16,
+    pub given: Place,
+    pub into: Window,
+    pub in_max: u16,
+    pub inbox: u16,
+    pub in_held: u16,
+    pub in_number: u16,
+    pub taken: Place,
+    pub read: Place,
+    pub bid_number: u16,
+    pub owed_number: u16,
+}
+
+#[derive(Clone, Copy, Debug, Default, PartialEq, Eq)]
+pub struct Answer {
+    pub refusal: u32,
+    pub sense: u32,
+    pub rule: u32,
+    pub unit: u32,
+    pub copied: u32,
+    pub complete: bool,
+    pub mark: u32,
+}
+
+const BID: [u8; 5] = [0x04, 0x00, 0x06, 0x00, 0x00];
+const GRANT: [u8; 1] = [0x04];
+const BID_REFUSAL: [u8; 5] = [0x08, 0x13, 0x00, 0x00, 0x04];
+
+pub fn sense(number: u32) -> u32 {
+    match number {
+        20 => 0x4005_0000,
+        22 => 0x1002_0000,
+        23 => 0x2001_0000,
+        24 => 0x2002_0000,
+        25 => 0x2003_0000,
+        26 => 0x2004_0000,
+        27 => 0x2011_0000,
+        28 => 0x200E_0000,
+        _ => 0,
+    }
+}
+
+fn made(unit: usize) -> Answer {
+    Answer { unit: unit as u32, ..Answer::default() }
+}
+
+fn refused(number: u32) -> Answer {
+    Answer { refusal: number, sense: sense(number), ..Answer::default() }
+}
+
+fn after_ll(high: u8, low: u8) -> Option<Place> {
+    match u16::from_be_bytes([high, low]) {
+        0 | 1 | 32768.. => None,
+        2 => Some(Place::Between),
+        ll => Some(Place::Left(ll - 2)),
+    }
+}
+
+/// The place after these bytes, or none if an LL among them is bad.
+pub fn walk(mut place: Place, mut bytes: &[u8]) -> Option<Place> {
+    while let Some((&first, rest)) = bytes.split_first() {
+        match place {
+            Place::Between => {
+                place = Place::AfterFirst(first);
+                bytes = rest;
+            }
+            Place::AfterFirst(high) => {
+                place = after_ll(high, first)?;
+                bytes = rest;
+            }
+            Place::Left(left) => {
+                let skipped = bytes.len().min(left as usize);
+                place = match left - skipped as u16 {
+                    0 => Place::Between,
+                    n => Place::Left(n),
+                };
+                bytes = &bytes[skipped..];
+            }
+        }
+    }
+    Some(place)
+}
+
+impl Window {
+    pub fn credit(&self) -> u32 {
+        let size = u32::from(self.size);
+        let fresh = if self.pending { 0 } else { size };
+        let rest = if self.place == 0 { 0 } else { size.saturating_sub(u32::from(self.place)) };
+        fresh + rest
+    }
+
+    // One request goes by: at place 0 it carries the pacing bit.
+    fn step(&mut self) -> bool {
+        let bit = self.place == 0;
+        if bit {
+            self.pending = true;
+        }
+        self.place += 1;
+        if self.place == self.size {
+            self.place = 0;
+        }
+        bit
+    }
+
+    fn good(&self) -> bool {
+        (1..=63).contains(&self.size) && self.place < self.size
+    }
+}
+
+fn place_good(place: Place) -> bool {
+    match place {
+        Place::Left(left) => (1..=32765).contains(&left),
+        _ => true,
+    }
+}
+
+enum Kind {
+    Data { first: bool, last: bool, confirm: bool, pacing: bool, begin: bool, follow: Follow },
+    Bid { pacing: bool },
+    Grant,
+    BidRefusal,
+    Confirmation,
+    Pacing,
+}
+
+/// The rules H1 to H6 that a header breaks, H1 at index 0. The lower rules decide which of the others are asked.
+pub fn broken(header: [u8; 3]) -> [bool; 6] {
+    let [a, b, c] = header;
+    let mut rules = [false; 6];
+    match a {
+        0..=3 => {
+            let confirm = b == 0x20 || b == 0x21;
+            rules[2] = !(confirm || b == 0x90 || b == 0x91);
+            rules[3] = confirm && a & 1 == 0;
+            rules[4] = ![0x00, 0x01, 0x20, 0x80, 0x81, 0xA0].contains(&c);
+            rules[5] = (c & 0x80 != 0 && a & 2 == 0) || (c & 0x21 != 0 && a & 1 == 0);
+        }
+        0x4B => rules[1] = !((b == 0x80 || b == 0x81) && c == 0x80),
+        0x83 => rules[1] = !((b == 0x20 || b == 0x01) && c == 0x00),
+        0xCB => rules[1] = !(b == 0x80 && c == 0x00),
+        0xCF => rules[1] = !(b == 0x90 && c == 0x00),
+        _ => rules[0] = true,
+    }
+    rules
+}
+
+fn kind(header: [u8; 3]) -> Result<Kind, u32> {
+    if let Some(rule) = broken(header).iter().position(|&b| b) {
+        return Err(rule as u32 + 1);
+    }
+    let [a, b, c] = header;
+    Ok(match a {
+        0x4B => Kind::Bid { pacing: b & 1 != 0 },
+        0x83 if b == 0x01 => Kind::Pacing,
+        0x83 => Kind::Confirmation,
+        0xCB => Kind::Grant,
+        0xCF => Kind::BidRefusal,
+        _ => Kind::Data {
+            first: a & 2 != 0,
+            last: a & 1 != 0,
+            confirm: b & 0x20 != 0,
+            pacing: b & 1 != 0,
+            begin: c & 0x80 != 0,
+            follow: if c & 0x20 != 0 {
+                Follow::Turn
+            } else if c & 1 != 0 {
+                Follow::End
+            } else {
+                Follow::Stay
+            },
+        },
+    })
+}
+
+fn write_head(unit: &mut [u8], number: u16, header: [u8; 3]) {
+    unit[..2].copy_from_slice(&number.to_be_bytes());
+    unit[2..5].copy_from_slice(&header);
+}
+
+fn write_unit(unit: &mut [u8], number: u16, header: [u8; 3], ru: &[u8]) -> Answer {
+    write_head(unit, number, header);
+    unit[5..5 + ru.len()].copy_from_slice(ru);
+    made(5 + ru.len())
+}
+
+/// What a session is opened with.
+#[derive(Clone, Copy, Debug)]
+pub struct Session {
+    pub role: u8,
+    pub out_window: u8,
+    pub in_window: u8,
+    pub out_max: u32,
+    pub in_max: u32,
+}
+
+/// Opens a session by the lengths of the buffers.
+pub fn open(session: Session, send: usize, unit: usize, inbox: usize) -> Result<End, u32> {
+    let windows = 1..=63;
+    let maxima = 8..=1024;
+    if session.role > 1 {
+        return Err(1);
+    }
+    if !windows.contains(&session.out_window) || !windows.contains(&session.in_window) {
+        return Err(2);
+    }
+    if !maxima.contains(&session.out_max) || !maxima.contains(&session.in_max) {
+        return Err(3);
+    }
+    let out_max = session.out_max as usize;
+    let least = usize::from(session.in_window) * session.in_max as usize;
+    if send < out_max || unit < out_max + 5 || !(least..=65535).contains(&inbox) {
+        return Err(4);
+    }
+    Ok(End {
+        bidder: session.role == 1,
+        state: State::Reset,
+        follow: Follow::Stay,
+        mark: Mark::None,
+        due: false,
+        bid: false,
+        out_chain: false,
+        in_chain: false,
+        out: Window { size: session.out_window, place: 0, pending: false },
+        out_max: session.out_max as u16,
+        out_held: 0,
+        out_number: 0,
+        given: Place::Between,
+        into: Window { size: session.in_window, place: 0, pending: false },
+        in_max: session.in_max as u16,
+        inbox: inbox as u16,
+        in_held: 0,
+        in_number: 0,
+        taken: Place::Between,
+        read: Place::Between,
+        bid_number: 0,
+        owed_number: 0,
+    })
+}
+
+impl End {
+    /// Question 5.
+    pub fn good(&self) -> bool {
+        let maxima = 8..=1024;
+        let sends = self.state == State::Send;
+        self.out.good()
+            && self.into.good()
+            && maxima.contains(&self.out_max)
+            && maxima.contains(&self.in_max)
+            && (self.mark == Mark::None || self.state == State::Receive)
+            && (!self.due || (!self.bidder && sends && !self.out_chain))
+            && (!self.bid || self.bidder)
+            && self.out_held <= self.out_max
+            && (!self.out_chain || (sends && self.out_held >= 1))
+            && (sends || self.out_held == 0)
+            && u32::from(self.in_held) + self.into.credit() * u32::from(self.in_max) <= u32::from(self.inbox)
+            && place_good(self.given)
+            && place_good(self.taken)
+            && place_good(self.read)
+    }
+
+    fn send_fits(&self, send: &[u8]) -> bool {
+        send.len() >= usize::from(self.out_max)
+    }
+
+    fn unit_fits(&self, unit: &[u8]) -> bool {
+        unit.len() >= usize::from(self.out_max) + 5
+    }
+
+    fn inbox_fits(&self, inbox: &[u8]) -> bool {
+        inbox.len() == usize::from(self.inbox)
+    }
+
+    fn next_request(&mut self) -> (u16, u8) {
+        self.out_number = self.out_number.wrapping_add(1);
+        let bit = self.out.step();
+        (self.out_number, u8::from(bit))
+    }
+
+    // Number and header of the next data unit.
+    fn next_data(&mut self, last: bool, byte1: u8, byte2: u8) -> (u16, [u8; 3]) {
+        let first = !self.out_chain;
+        let begin = if self.due { 0x80 } else { 0 };
+        self.due = false;
+        self.out_chain = !last;
+        let (number, bit) = self.next_request();
+        (number, [u8::from(first) * 2 + u8::from(last), byte1 | bit, byte2 | begin])
+    }
+
+    pub fn allocate(&mut self, unit: &mut [u8]) -> Answer {
+        if !self.unit_fits(unit) {
+            return refused(4);
+        }
+        if !self.good() {
+            return refused(5);
+        }
+        if self.state != State::Reset || (self.bidder && self.bid) {
+            return refused(7);
+        }
+        if !self.bidder {
+            self.state = State::Send;
+            self.due = true;
+            return made(0);
+        }
+        if self.out.credit() == 0 {
+            return refused(10);
+        }
+        let (number, bit) = self.next_request();
+        self.bid = true;
+        self.bid_number = number;
+        write_unit(unit, number, [0x4B, 0x80 | bit, 0x80], &BID)
+    }
+
+    pub fn send_data(&mut self, bytes: &[u8], send: &mut [u8], unit: &mut [u8]) -> Answer {
+        if !self.send_fits(send) || !self.unit_fits(unit) {
+            return refused(4);
+        }
+        if !self.good() {
+            return refused(5);
+        }
+        let max = usize::from(self.out_max);
+        if bytes.is_empty() || bytes.len() > max {
+            return refused(6);
+        }
+        if self.state != State::Send {
+            return refused(7);
+        }
+        let Some(given) = walk(self.given, bytes) else {
+            return refused(8);
+        };
+        let held = usize::from(self.out_held);
+        if held + bytes.len() <= max {
+            send[held..held + bytes.len()].copy_from_slice(bytes);
+            self.out_held += bytes.len() as u16;
+            self.given = given;
+            return made(0);
+        }
+        if self.out.credit() == 0 {
+            return refused(10);
+        }
+        let (front, rest) = bytes.split_at(max - held);
+        let (number, header) = self.next_data(false, 0x90, 0);
+        write_head(unit, number, header);
+        unit[5..5 + held].copy_from_slice(&send[..held]);
+        unit[5 + held..5 + max].copy_from_slice(front);
+        send[..rest.len()].copy_from_slice(rest);
+        self.out_held = rest.len() as u16;
+        self.given = given;
+        made(5 + max)
+    }
+
+    fn close(&mut self, follow: Follow, confirm: bool, send: &[u8], unit: &mut [u8]) -> Answer {
+        if !self.send_fits(send) || !self.unit_fits(unit) {
+            return refused(4);
+        }
+        if !self.good() {
+            return refused(5);
+        }
+        if self.state != State::Send {
+            return refused(7);
+        }
+        let flush = follow == Follow::Stay && !confirm;
+        if !flush && self.given != Place::Between {
+            return refused(9);
+        }
+        if flush && self.out_held == 0 {
+            return made(0);
+        }
+        if self.out.credit() == 0 {
+            return refused(10);
+        }
+        let byte1 = if confirm { 0x20 } else { 0x90 };
+        let byte2 = match follow {
+            Follow::Stay => 0x00,
+            Follow::Turn => 0x20,
+            Follow::End => 0x01,
+        };
+        let (number, header) = self.next_data(true, byte1, byte2);
+        let answer = write_unit(unit, number, header, &send[..usize::from(self.out_held)]);
+        self.out_held = 0;
+        if confirm {
+            self.state = State::Waits;
+            self.follow = follow;
+        } else {
+            self.state = match follow {
+                Follow::Stay => State::Send,
+                Follow::Turn => State::Receive,
+                Follow::End => State::Reset,
+            };
+        }
+        answer
+    }
+
+    pub fn flush(&mut self, send: &[u8], unit: &mut [u8]) -> Answer {
+        self.close(Follow::Stay, false, send, unit)
+    }
+
+    pub fn confirm(&mut self, send: &[u8], unit: &mut [u8]) -> Answer {
+        self.close(Follow::Stay, true, send, unit)
+    }
+
+    pub fn prepare_to_receive(&mut self, confirm: bool, send: &[u8], unit: &mut [u8]) -> Answer {
+        self.close(Follow::Turn, confirm, send, unit)
+    }
+
+    pub fn deallocate(&mut self, confirm: bool, send: &[u8], unit: &mut [u8]) -> Answer {
+        self.close(Follow::End, confirm, send, unit)
+    }
+
+    pub fn confirmed(&mut self, unit: &mut [u8]) -> Answer {
+        if !self.unit_fits(unit) {
+            return refused(4);
+        }
+        if !self.good() {
+            return refused(5);
+        }
+        if self.state != State::Owes {
+            return refused(7);
+        }
+        self.state = match self.follow {
+            Follow::Stay => State::Receive,
+            Follow::Turn => State::Send,
+            Follow::End => State::Reset,
+        };
+        write_unit(unit, self.owed_number, [0x83, 0x20, 0x00], &[])
+    }
+
+    pub fn send_pacing_response(&mut self, unit: &mut [u8]) -> Answer {
+        if !self.unit_fits(unit) {
+            return refused(4);
+        }
+        if !self.good() {
+            return refused(5);
+        }
+        let open_then = self.into.credit() + u32::from(self.into.size);
+        let room = u32::from(self.in_held) + open_then * u32::from(self.in_max) <= u32::from(self.inbox);
+        if !self.into.pending || !room {
+            return refused(11);
+        }
+        self.into.pending = false;
+        write_unit(unit, 0, [0x83, 0x01, 0x00], &[])
+    }
+
+    pub fn receive_unit(&mut self, unit_taken: &[u8], inbox: &mut [u8], unit: &mut [u8]) -> Answer {
+        if !self.inbox_fits(inbox) || !self.unit_fits(unit) {
+            return refused(4);
+        }
+        if !self.good() {
+            return refused(5);
+        }
+        if self.mark != Mark::None {
+            return refused(13);
+        }
+        if unit_taken.len() < 5 {
+            return refused(20);
+        }
+        let number = u16::from_be_bytes([unit_taken[0], unit_taken[1]]);
+        let ru = &unit_taken[5..];
+        let kind = match kind([unit_taken[2], unit_taken[3], unit_taken[4]]) {
+            Ok(kind) => kind,
+            Err(rule) => return Answer { rule, ..refused(21) },
+        };
+        let ru_good = match kind {
+            Kind::Data { confirm, follow, .. } => {
+                ru.len() <= usize::from(self.in_max) && (!ru.is_empty() || confirm || follow != Follow::Stay)
+            }
+            Kind::Bid { .. } => ru == BID,
+            Kind::Grant => ru == GRANT,
+            Kind::BidRefusal => ru == BID_REFUSAL,
+            Kind::Confirmation | Kind::Pacing => ru.is_empty(),
+        };
+        if !ru_good {
+            return refused(22);
+        }
+        match kind {
+            Kind::Data { first, pacing, .. } => self.take_request(first, pacing, number, kind, ru, inbox, unit),
+            Kind::Bid { pacing } => self.take_request(true, pacing, number, kind, ru, inbox, unit),
+            _ => self.take_response(number, kind),
+        }
+    }
+
+    #[allow(clippy::too_many_arguments)]
+    fn take_request(
+        &mut self,
+        first: bool,
+        pacing: bool,
+        number: u16,
+        kind: Kind,
+        ru: &[u8],
+        inbox: &mut [u8],
+        unit: &mut [u8],
+    ) -> Answer {
+        if self.into.credit() == 0 || pacing != (self.into.place == 0) {
+            return refused(27);
+        }
+        if number != self.in_number.wrapping_add(1) {
+            return refused(23);
+        }
+        if first == self.in_chain {
+            return refused(24);
+        }
+        let Kind::Data { last, confirm, begin, follow, .. } = kind else {
+            if self.bidder {
+                return refused(25);
+            }
+            self.into.step();
+            self.in_number = number;
+            if self.state == State::Reset {
+                self.state = State::Receive;
+                return write_unit(unit, number, [0xCB, 0x80, 0x00], &GRANT);
+            }
+            return write_unit(unit, number, [0xCF, 0x90, 0x00], &BID_REFUSAL);
+        };
+        if begin != (self.bidder && self.state == State::Reset) {
+            return refused(25);
+        }
+        if !begin && self.state != State::Receive {
+            return refused(26);
+        }
+        let mark = match (confirm, follow) {
+            (false, Follow::Stay) => Mark::None,
+            (false, Follow::Turn) => Mark::Turn,
+            (false, Follow::End) => Mark::End,
+            (true, Follow::Stay) => Mark::Confirm,
+            (true, Follow::Turn) => Mark::ConfirmTurn,
+            (true, Follow::End) => Mark::ConfirmEnd,
+        };
+        let taken = match walk(self.taken, ru) {
+            Some(place) if mark == Mark::None || place == Place::Between => place,
+            _ => return refused(29),
+        };
+        self.into.step();
+        self.in_number = number;
+        self.in_chain = !last;
+        self.state = State::Receive;
+        self.taken = taken;
+        self.mark = mark;
+        if confirm {
+            self.owed_number = number;
+        }
+        let held = usize::from(self.in_held);
+        inbox[held..held + ru.len()].copy_from_slice(ru);
+        self.in_held += ru.len() as u16;
+        made(0)
+    }
+
+    fn take_response(&mut self, number: u16, kind: Kind) -> Answer {
+        match kind {
+            Kind::Pacing => {
+                if !self.out.pending {
+                    return refused(27);
+                }
+                if number != 0 {
+                    return refused(23);
+                }
+                self.out.pending = false;
+            }
+            Kind::Grant => {
+                if self.state != State::Reset || !self.bid || number != self.bid_number {
+                    return refused(28);
+                }
+                self.state = State::Send;
+                self.bid = false;
+            }
+            Kind::BidRefusal => {
+                if !self.bid || number != self.bid_number {
+                    return refused(28);
+                }
+                self.bid = false;
+            }
+            _ => {
+                if self.state != State::Waits || number != self.out_number {
+                    return refused(28);
+                }
+                self.state = match self.follow {
+                    Follow::Stay => State::Send,
+                    Follow::Turn => State::Receive,
+                    Follow::End => State::Reset,
+                };
+            }
+        }
+        made(0)
+    }
+
+    pub fn receive(&mut self, inbox: &mut [u8], buffer: &mut [u8]) -> Answer {
+        if !self.inbox_fits(inbox) {
+            return refused(4);
+        }
+        if !self.good() {
+            return refused(5);
+        }
+        if buffer.is_empty() {
+            return refused(6);
+        }
+        let held = usize::from(self.in_held);
+        let ll = match (self.read, held) {
+            (Place::Between, 2..) => Some((inbox[0], inbox[1])),
+            (Place::AfterFirst(high), 1..) => Some((high, inbox[0])),
+            _ => None,
+        };
+        if ll.is_some_and(|(high, low)| after_ll(high, low).is_none()) {
+            return refused(8);
+        }
+        if held == 0 {
+            return self.read_mark();
+        }
+        let rest = match (self.read, ll) {
+            (Place::Left(left), _) => usize::from(left),
+            (Place::Between, Some((high, low))) => usize::from(u16::from_be_bytes([high, low])),
+            (_, Some((high, low))) => usize::from(u16::from_be_bytes([high, low])) - 1,
+            (_, None) => 1,
+        };
+        let copied = buffer.len().min(held).min(rest);
+        buffer[..copied].copy_from_slice(&inbox[..copied]);
+        if let Some(place) = walk(self.read, &buffer[..copied]) {
+            self.read = place;
+        }
+        inbox.copy_within(copied..held, 0);
+        self.in_held -= copied as u16;
+        Answer { copied: copied as u32, complete: self.read == Place::Between, ..made(0) }
+    }
+
+    fn read_mark(&mut self) -> Answer {
+        let mark = self.mark;
+        let (state, follow, code) = match mark {
+            Mark::None => return refused(12),
+            Mark::Turn => (State::Send, self.follow, 1),
+            Mark::End => (State::Reset, self.follow, 2),
+            Mark::Confirm => (State::Owes, Follow::Stay, 3),
+            Mark::ConfirmTurn => (State::Owes, Follow::Turn, 4),
+            Mark::ConfirmEnd => (State::Owes, Follow::End, 5),
+        };
+        self.state = state;
+        self.follow = follow;
+        self.mark = Mark::None;
+        Answer { mark: code, ..made(0) }
+    }
+}

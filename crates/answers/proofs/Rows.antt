@@ -1,0 +1,48 @@
+-- What a row of questions tells once it has passed.
+-- Assumes nothing.
+use mathlib.Core.Path.{_≡_, refl, subst}
+use mathlib.Core.Bool.{Bool, true, false, not, cond, _&&_}
+use mathlib.Core.List.{List, [], _∷_}
+use Prim.Native.Nat.{ℕ, zero, suc}
+use native.Mathlib.Omega.{arith}
+use lib.ListN.{getD}
+use lib.Dec.{T, eqb}
+use Rattle.answers.specs.Questions.{firstNo}
+
+pub both : (a b : Bool) → a && b ≡ true → (a ≡ true) × (b ≡ true)
+both true b e = (refl, e)
+both false b e = absurd (let z : _≡_ {A = ℕ} 0 1 = cc in omega arith)
+
+both-left : (a b : Bool) → T (a && b) → T a
+both-left true b t = tt
+both-left false b t = t
+
+both-right : (a b : Bool) → T (a && b) → T b
+both-right true b t = t
+both-right false b t = absurd t
+
+-- no question has the number 0, which says that a call is accepted
+abbrev pub numbered : List (Bool × ℕ) → Bool
+numbered [] = true
+numbered (q ∷ qs) = not (eqb (q .1) 0) && numbered qs
+
+abbrev pub outcomes : List (Bool × ℕ) → List Bool
+outcomes [] = []
+outcomes (q ∷ qs) = q .0 ∷ outcomes qs
+
+one : (a : Bool) (rest n : ℕ) → T (not (eqb n 0)) → cond a rest n ≡ 0 → (a ≡ true) × (rest ≡ 0)
+one true rest n t e = (refl, e)
+one false rest n t e = absurd (subst (λ (k : ℕ). T (not (eqb k 0))) e t)
+
+-- an accepted call: every question was answered yes. At a row that is written out, the test of its numbers is `tt`; past the row's
+-- end the answer is yes too, so that no bound is asked
+pub yes : (qs : List (Bool × ℕ)) → T (numbered qs) → firstNo qs ≡ 0 → (k : ℕ) → getD (outcomes qs) k true ≡ true
+yes [] t e k = refl
+yes (q ∷ qs) t e k =
+    let l = both-left (not (eqb (q .1) 0)) (numbered qs) t in
+    let o = one (q .0) (firstNo qs) (q .1) l e in
+    at-place (q .0) (outcomes qs) k (o .0) (yes qs (both-right (not (eqb (q .1) 0)) (numbered qs) t) (o .1))
+  where
+    at-place : (a : Bool) (bs : List Bool) (k : ℕ) → a ≡ true → ((j : ℕ) → getD bs j true ≡ true) → getD (a ∷ bs) k true ≡ true
+    at-place a bs zero h f = h
+    at-place a bs (suc k) h f = f k

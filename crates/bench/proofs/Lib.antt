@@ -1,0 +1,5 @@
+mod Frames
+mod Held
+mod Acting
+mod Lengths
+mod Stepping

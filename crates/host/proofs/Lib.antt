@@ -1,0 +1,12 @@
+pub mod Called
+pub mod WrapUnit
+pub mod WrapSendUnit
+pub mod WrapFlagSendUnit
+pub mod WrapBytesTwo
+pub mod WrapTwo
+pub mod UnwrapUnit
+pub mod UnwrapSendUnit
+pub mod UnwrapFlagSendUnit
+pub mod UnwrapBytesTwo
+pub mod UnwrapTwo
+mod Promises

@@ -1,0 +1,24 @@
+-- `host::in_place::receive_unit` meets its contract: a call in place of its shape (`WrapBytesTwo.antt`), at the method.
+-- Assumes nothing.
+use contract.Running.{givenOf, tables, tablesOf}
+use denote.Triple.Spec.{tripleOf}
+use denote.Triple.Table.{entered, cited}
+use Rattle.host.specs.InPlace.{doneBy}
+use Rattle.host.proofs.Called.{calls}
+use Rattle.host.proofs.Promises.{ReceiveUnit}
+use Rattle.host.proofs.WrapBytesTwo as wrap
+use Rattle.end.proofs.End.receive_unit as method
+use Rattle.end.proofs.End.receive_unit.Symbol as method-def
+use Rattle.end.proofs.End.receive_unit.Met as method-thm
+use Rattle.host.proofs.in_place.receive_unit.Key.{name}
+use Rattle.host.proofs.in_place.receive_unit as host
+use Rattle.host.proofs.in_place.receive_unit.Statement as stated
+use Rattle.host.proofs.in_place.receive_unit.Code as code
+
+pub receive-unit-spec : {M : Type 1} → stated.statement M
+unfolding code.routine tablesOf
+receive-unit-spec 𝓤 H 𝓜 𝓖 𝓡 =
+    entered 𝓤 H (tripleOf 𝓤 H (𝓖 .A) host.signature (host.spec 𝓤 H (𝓖 .A) (𝓜 .mem) (𝓡 .run)))
+    (tables 𝓤 H 𝓜 𝓡 code.env .C) (tables 𝓤 H 𝓜 𝓡 code.env .Λ) name code.function (code.unfolded 𝓤 H 𝓜 𝓡)
+    (wrap.meets calls method-def.name ReceiveUnit (λ h x a e z. ReceiveUnit h x (doneBy a e) z) (λ h x r z says. says) 𝓤 H (𝓖 .A) (givenOf 𝓤 H 𝓜 𝓖) (tablesOf 𝓤 H 𝓜 (tables 𝓤 H 𝓜 𝓡 code.env))
+    (cited 𝓤 H (tripleOf 𝓤 H (𝓖 .A) method.signature (method.spec 𝓤 H (𝓖 .A) (𝓜 .mem) (𝓡 .run))) 𝓜 𝓡 code.env method-def.name method-def.routine code.calls-end·End·receive-unit (method-thm.met 𝓤 H 𝓜 𝓖 𝓡)))

@@ -1,0 +1,5 @@
+mod Writes
+mod Listed
+mod BackAndForth
+pub mod WhatIsRead
+pub mod RoundTrip

@@ -1,0 +1,58 @@
+-- What is known of an image by what it is read as.
+-- Assumes nothing.
+use mathlib.Core.Path.{_≡_, refl}
+use mathlib.Core.Bool.{Bool, true, false, cond}
+use mathlib.Core.List.{List}
+use Prim.Native.Nat.{ℕ, _+_, _<_, _≤_}
+use native.Mathlib.Omega.{arith}
+use lib.Dec.{eqb}
+use lib.ListN.{length}
+use borrow.Author.Tests.{eqb-true}
+use Rattle.answers.specs.Answers.{BAD-BUFFER, BAD-RECORD}
+use Rattle.end.specs.declared.End.{End}
+use Rattle.image.specs.Parts.{byteAt, numberAt}
+use Rattle.image.specs.Image.{IMAGE, imageOf, imageWritten, recordIn, imageGood, imageRead}
+use Rattle.image.specs.declared.ImageRead.{ImageRead}
+use Rattle.image.specs.declared.ImageRead.the-variants.{Record, Refused}
+
+-- the three cases
+reading : (image : List ℕ) (P : ImageRead → Type 0)
+    → (length image ≡ IMAGE → imageGood image ≡ true → P (Record (recordIn image))) → P (Refused BAD-RECORD) → P (Refused BAD-BUFFER)
+    → P (imageRead image)
+unfolding imageRead
+reading image P good value long = by (eqb (length image) IMAGE) (imageGood image) refl refl
+  where
+    by : (l g : Bool) → eqb (length image) IMAGE ≡ l → imageGood image ≡ g
+        → P (cond l (cond g (Record (recordIn image)) (Refused BAD-RECORD)) (Refused BAD-BUFFER))
+    by true true hl hg = good (eqb-true (length image) IMAGE hl) hg
+    by true false hl hg = value
+    by false g hl hg = long
+
+never : {A : Type 0} (q : ℕ) (e : End) → Refused q ≡ Record e → A
+never q e h = absurd (let z : _≡_ {A = ℕ} 0 1 = cc in omega arith)
+
+module _ (image : List ℕ) (e : End) where
+  pub record-known : imageRead image ≡ Record e → (length image ≡ IMAGE) × (imageGood image ≡ true) × (recordIn image ≡ e)
+  record-known =
+      reading image (λ (r : ImageRead). r ≡ Record e → (length image ≡ IMAGE) × (imageGood image ≡ true) × (recordIn image ≡ e))
+      (λ l g h. (l, g, cc)) (never BAD-RECORD e) (never BAD-BUFFER e)
+
+  -- such an image is written whole
+  pub written-whole : (next : End) → imageRead image ≡ Record e → imageWritten next image ≡ imageOf next
+  unfolding imageWritten
+  written-whole next h = rw (record-known h .0)
+
+  -- its numbers are of 16 bits
+  pub sizes-small : ((i : ℕ) → byteAt image i < 256) → imageRead image ≡ Record e
+      → (e .sending .held < 65536) × (e .sending .max < 65536) × (e .receiving .held < 65536)
+  unfolding recordIn
+  sizes-small bytes h =
+      let small : (at : ℕ) → numberAt image at < 65536 = λ at. omega (arith, bytes at, bytes (at + 1)) in
+      rw (← record-known h .2) (small 13, small 11, small 27)
+
+-- an image is refused by 4 or 5
+pub refused-known : (image : List ℕ) (q : ℕ) → imageRead image ≡ Refused q → q ≤ BAD-RECORD
+refused-known image q =
+    reading image (λ (r : ImageRead). r ≡ Refused q → q ≤ BAD-RECORD)
+    (λ l g h. absurd (let z : _≡_ {A = ℕ} 0 1 = cc in omega arith)) (λ h. let k : BAD-RECORD ≡ q = cc in omega arith)
+    (λ h. let k : BAD-BUFFER ≡ q = cc in omega arith)

@@ -1,0 +1,50 @@
+-- `image::reading::receiving_in` meets its contract: each part is what its function says.
+-- Assumes nothing.
+use borrow.Author.Needs.{needs}
+use Rattle.image.proofs.reading.receiving_in.Statement.{statement}
+use Rattle.image.proofs.reading.receiving_in.Tie as tie
+
+window-at-requires : tie.Need-window-at-requires
+window-at-requires c κs = search needs
+
+number-at-requires : tie.Need-number-at-requires
+number-at-requires c κs = search needs
+
+number-at-requires-2 : tie.Need-number-at-requires-2
+number-at-requires-2 c κs = search needs
+
+number-at-requires-3 : tie.Need-number-at-requires-3
+number-at-requires-3 c κs = search needs
+
+number-at-requires-4 : tie.Need-number-at-requires-4
+number-at-requires-4 c κs = search needs
+
+place-at-requires : tie.Need-place-at-requires
+place-at-requires c κs = search needs
+
+place-at-requires-2 : tie.Need-place-at-requires-2
+place-at-requires-2 c κs = search needs
+
+returns : tie.Need-returns
+returns c = rw (
+  c .place-at2 .ensures,
+  c .before .place-at .ensures,
+  c .before .before .number-at4 .ensures,
+  c .before .before .before .number-at3 .ensures,
+  c .before .before .before .before .number-at2 .ensures,
+  c .before .before .before .before .before .number-at .ensures,
+  c .before .before .before .before .before .before .window-at .ensures,
+)
+
+pub receiving-in-spec : {M : Type 1} → statement M
+receiving-in-spec =
+    tie.close
+    (tie.spec
+    window-at-requires
+    number-at-requires
+    number-at-requires-2
+    number-at-requires-3
+    number-at-requires-4
+    place-at-requires
+    place-at-requires-2
+    returns)

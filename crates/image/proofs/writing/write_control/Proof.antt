@@ -1,0 +1,98 @@
+-- `image::writing::write_control` meets its contract: eight stores are the eight bytes.
+-- Assumes nothing.
+use lib.ListN.{length-set}
+use native.Mathlib.Omega.{arith}
+use denote.Ref.{now}
+use Rattle.image.specs.Image.{controlBytes}
+use Rattle.image.proofs.Writes.{stored}
+use borrow.Author.Needs.{needs}
+use Rattle.image.proofs.writing.write_control.Statement.{statement}
+use Rattle.image.proofs.writing.write_control.Tie as tie
+
+role-code-requires : tie.Need-role-code-requires
+role-code-requires c κs = search needs
+
+slice-write-image : tie.Need-slice-write-image
+slice-write-image c = search needs
+
+state-code-requires : tie.Need-state-code-requires
+state-code-requires c κs = search needs
+
+slice-write-image-2 : tie.Need-slice-write-image-2
+slice-write-image-2 c = search needs
+
+follows-code-requires : tie.Need-follows-code-requires
+follows-code-requires c κs = search needs
+
+slice-write-image-3 : tie.Need-slice-write-image-3
+slice-write-image-3 c = search needs
+
+mark-code-requires : tie.Need-mark-code-requires
+mark-code-requires c κs = search needs
+
+slice-write-image-4 : tie.Need-slice-write-image-4
+slice-write-image-4 c = search needs
+
+flag-code-requires : tie.Need-flag-code-requires
+flag-code-requires c κs = search needs
+
+slice-write-image-5 : tie.Need-slice-write-image-5
+slice-write-image-5 c = simp length-set (omega arith)
+
+flag-code-requires-2 : tie.Need-flag-code-requires-2
+flag-code-requires-2 c κs = search needs
+
+slice-write-image-6 : tie.Need-slice-write-image-6
+slice-write-image-6 c = simp length-set (omega arith)
+
+flag-code-requires-3 : tie.Need-flag-code-requires-3
+flag-code-requires-3 c κs = search needs
+
+slice-write-image-7 : tie.Need-slice-write-image-7
+slice-write-image-7 c = simp length-set (omega arith)
+
+flag-code-requires-4 : tie.Need-flag-code-requires-4
+flag-code-requires-4 c κs = search needs
+
+slice-write-image-8 : tie.Need-slice-write-image-8
+slice-write-image-8 c = simp length-set (omega arith)
+
+same-length : tie.Need-same-length
+same-length c = search needs
+
+returns : tie.Need-returns
+returns c = let a = c .before .before .before .before .before .before .before .before .before .args in
+    rw (
+      c .flag-code4 .ensures,
+      c .before .flag-code3 .ensures,
+      c .before .before .flag-code2 .ensures,
+      c .before .before .before .flag-code .ensures,
+      c .before .before .before .before .mark-code .ensures,
+      c .before .before .before .before .before .follows-code .ensures,
+      c .before .before .before .before .before .before .state-code .ensures,
+      c .before .before .before .before .before .before .before .role-code .ensures,
+    )
+    (stored (controlBytes (a .c)) (now (a .image)) 0 (omega arith))
+
+pub write-control-spec : {M : Type 1} → statement M
+write-control-spec =
+    tie.close
+    (tie.spec
+    role-code-requires
+    slice-write-image
+    state-code-requires
+    slice-write-image-2
+    follows-code-requires
+    slice-write-image-3
+    mark-code-requires
+    slice-write-image-4
+    flag-code-requires
+    slice-write-image-5
+    flag-code-requires-2
+    slice-write-image-6
+    flag-code-requires-3
+    slice-write-image-7
+    flag-code-requires-4
+    slice-write-image-8
+    same-length
+    returns)

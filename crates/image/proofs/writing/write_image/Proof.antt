@@ -1,0 +1,66 @@
+-- `image::writing::write_image` meets its contract: the parts, one right behind the other, fill the image.
+-- Assumes nothing.
+use mathlib.Core.List.{[], _∷_}
+use native.Mathlib.Omega.{arith}
+use denote.Ref.{now}
+use mathlib.Core.Path.{_∙_, sym}
+use borrow.Author.Tests.{eq-eqb, ne-eqb}
+use Rattle.image.specs.Parts.{numberBytes}
+use Rattle.image.specs.Image.{controlBytes, sendingBytes, receivingBytes, imageOf, imageWritten}
+use Rattle.image.proofs.Writes.{runs, written-all}
+use borrow.Author.Needs.{needs}
+use Rattle.image.proofs.writing.write_image.Statement.{statement}
+use Rattle.image.proofs.writing.write_image.Tie as tie
+
+returns : tie.Need-returns
+unfolding imageWritten
+returns c = rw (ne-eqb _ _ (c .if1 .taken))
+
+write-control-requires : tie.Need-write-control-requires
+write-control-requires c κs = search needs
+
+write-sending-requires : tie.Need-write-sending-requires
+write-sending-requires c κs = search needs
+
+write-receiving-requires : tie.Need-write-receiving-requires
+write-receiving-requires c κs = search needs
+
+write-number-requires : tie.Need-write-number-requires
+write-number-requires c κs = search needs
+
+write-number-requires-2 : tie.Need-write-number-requires-2
+write-number-requires-2 c κs = search needs
+
+same-length : tie.Need-same-length
+same-length c = search needs
+
+returns-2 : tie.Need-returns-2
+unfolding imageWritten imageOf
+returns-2 c = let a = c .before .before .before .before .before .before .before .before .before .before .before .before .before .before .before .before .before .before .before .before .before .before .before .before .before .args in
+    let h = c .before .before .before .before .before .before .before .before .before .before .before .before .before .before .before .before .before .before .before .before .before .before .before .if1 .left in
+    rw (
+      eq-eqb _ _ h,
+      c .before .before .write-number2 .ensures,
+      c .before .before .before .before .before .before .write-number .ensures,
+      c .before .before .before .before .before .before .before .before .before .before .write-receiving .ensures,
+      c .before .before .before .before .before .before .before .before .before .before .before .before .before .before .write-sending .ensures,
+      c .before .before .before .before .before .before .before .before .before .before .before .before .before .before .before .before .before .before .write-control .ensures,
+    )
+    (runs
+    (controlBytes (a .end .control) ∷ sendingBytes (a .end .sending) ∷ receivingBytes (a .end .receiving) ∷ numberBytes (a .end .bidding)
+    ∷ numberBytes (a .end .owed) ∷ [])
+    0 (now (a .image)) (omega arith)
+    ∙ written-all (imageOf (a .end)) (now (a .image)) (sym h))
+
+pub write-image-spec : {M : Type 1} → statement M
+write-image-spec =
+    tie.close
+    (tie.spec
+    returns
+    write-control-requires
+    write-sending-requires
+    write-receiving-requires
+    write-number-requires
+    write-number-requires-2
+    same-length
+    returns-2)

@@ -1,0 +1,64 @@
+-- `image::writing::write_receiving` meets its contract: its parts stand one right behind the other.
+-- Assumes nothing.
+use mathlib.Core.List.{[], _∷_}
+use native.Mathlib.Omega.{arith}
+use denote.Ref.{now}
+use Rattle.image.specs.Parts.{numberBytes, windowBytes, placeBytes}
+use Rattle.image.proofs.Writes.{runs}
+use borrow.Author.Needs.{needs}
+use Rattle.image.proofs.writing.write_receiving.Statement.{statement}
+use Rattle.image.proofs.writing.write_receiving.Tie as tie
+
+write-window-requires : tie.Need-write-window-requires
+write-window-requires c κs = search needs
+
+write-number-requires : tie.Need-write-number-requires
+write-number-requires c κs = search needs
+
+write-number-requires-2 : tie.Need-write-number-requires-2
+write-number-requires-2 c κs = search needs
+
+write-number-requires-3 : tie.Need-write-number-requires-3
+write-number-requires-3 c κs = search needs
+
+write-number-requires-4 : tie.Need-write-number-requires-4
+write-number-requires-4 c κs = search needs
+
+write-place-requires : tie.Need-write-place-requires
+write-place-requires c κs = search needs
+
+write-place-requires-2 : tie.Need-write-place-requires-2
+write-place-requires-2 c κs = search needs
+
+same-length : tie.Need-same-length
+same-length c = search needs
+
+returns : tie.Need-returns
+returns c = let a = c .before .before .before .before .before .before .before .before .before .before .before .before .before .before .before .before .before .before .before .before .before .before .before .before .before .before .before .before .before .before .args in
+    rw (
+      c .before .before .write-place2 .ensures,
+      c .before .before .before .before .before .before .write-place .ensures,
+      c .before .before .before .before .before .before .before .before .before .before .write-number4 .ensures,
+      c .before .before .before .before .before .before .before .before .before .before .before .before .before .before .write-number3 .ensures,
+      c .before .before .before .before .before .before .before .before .before .before .before .before .before .before .before .before .before .before .write-number2 .ensures,
+      c .before .before .before .before .before .before .before .before .before .before .before .before .before .before .before .before .before .before .before .before .before .before .write-number .ensures,
+      c .before .before .before .before .before .before .before .before .before .before .before .before .before .before .before .before .before .before .before .before .before .before .before .before .before .before .write-window .ensures,
+    )
+    (runs
+    (windowBytes (a .r .window) ∷ numberBytes (a .r .max) ∷ numberBytes (a .r .inbox) ∷ numberBytes (a .r .held) ∷ numberBytes (a .r .number)
+    ∷ placeBytes (a .r .taken) ∷ placeBytes (a .r .read) ∷ [])
+    20 (now (a .image)) (omega arith))
+
+pub write-receiving-spec : {M : Type 1} → statement M
+write-receiving-spec =
+    tie.close
+    (tie.spec
+    write-window-requires
+    write-number-requires
+    write-number-requires-2
+    write-number-requires-3
+    write-number-requires-4
+    write-place-requires
+    write-place-requires-2
+    same-length
+    returns)

@@ -1,0 +1,53 @@
+-- `image::writing::write_sending` meets its contract: its parts stand one right behind the other.
+-- Assumes nothing.
+use mathlib.Core.List.{[], _∷_}
+use native.Mathlib.Omega.{arith}
+use denote.Ref.{now}
+use Rattle.image.specs.Parts.{numberBytes, windowBytes, placeBytes}
+use Rattle.image.proofs.Writes.{runs}
+use borrow.Author.Needs.{needs}
+use Rattle.image.proofs.writing.write_sending.Statement.{statement}
+use Rattle.image.proofs.writing.write_sending.Tie as tie
+
+write-window-requires : tie.Need-write-window-requires
+write-window-requires c κs = search needs
+
+write-number-requires : tie.Need-write-number-requires
+write-number-requires c κs = search needs
+
+write-number-requires-2 : tie.Need-write-number-requires-2
+write-number-requires-2 c κs = search needs
+
+write-number-requires-3 : tie.Need-write-number-requires-3
+write-number-requires-3 c κs = search needs
+
+write-place-requires : tie.Need-write-place-requires
+write-place-requires c κs = search needs
+
+same-length : tie.Need-same-length
+same-length c = search needs
+
+returns : tie.Need-returns
+returns c = let a = c .before .before .before .before .before .before .before .before .before .before .before .before .before .before .before .before .before .before .before .before .before .before .args in
+    rw (
+      c .before .before .write-place .ensures,
+      c .before .before .before .before .before .before .write-number3 .ensures,
+      c .before .before .before .before .before .before .before .before .before .before .write-number2 .ensures,
+      c .before .before .before .before .before .before .before .before .before .before .before .before .before .before .write-number .ensures,
+      c .before .before .before .before .before .before .before .before .before .before .before .before .before .before .before .before .before .before .write-window .ensures,
+    )
+    (runs
+    (windowBytes (a .s .window) ∷ numberBytes (a .s .max) ∷ numberBytes (a .s .held) ∷ numberBytes (a .s .number) ∷ placeBytes (a .s .given) ∷ [])
+    8 (now (a .image)) (omega arith))
+
+pub write-sending-spec : {M : Type 1} → statement M
+write-sending-spec =
+    tie.close
+    (tie.spec
+    write-window-requires
+    write-number-requires
+    write-number-requires-2
+    write-number-requires-3
+    write-place-requires
+    same-length
+    returns)

@@ -1,0 +1,82 @@
+// A record written as an image.
+use crate::IMAGE;
+use crate::codes::flag_code;
+use crate::codes::follows_code;
+use crate::codes::mark_code;
+use crate::codes::role_code;
+use crate::codes::state_code;
+use crate::parts::write_number;
+use crate::parts::write_place;
+use crate::parts::write_window;
+use control::Control;
+use end::End;
+use end::Receiving;
+use end::Sending;
+ghost use mathlib.Core.Path.{_≡_};
+ghost use lib.ListN.{length};
+ghost use Rattle.cells.specs.Cells.{written};
+ghost use Rattle.image.specs.Image.{IMAGE, controlBytes, sendingBytes, receivingBytes, imageWritten};
+
+fn write_control(image: &mut [u8], c: Control)
+    requires { ⌜ length (now image) ≡ IMAGE ⌝ }
+    ensures { λ _. ⌜ now (image .exit) ≡ written 0 (controlBytes c) (now (image .entry)) ⌝ }
+{
+    let role = c.role;
+    let state = c.state;
+    let follows = c.follows;
+    let mark = c.mark;
+    image[0] = role_code(role);
+    image[1] = state_code(state);
+    image[2] = follows_code(follows);
+    image[3] = mark_code(mark);
+    image[4] = flag_code(c.due);
+    image[5] = flag_code(c.bid);
+    image[6] = flag_code(c.outchain);
+    image[7] = flag_code(c.inchain);
+}
+
+fn write_sending(image: &mut [u8], s: Sending)
+    requires { ⌜ length (now image) ≡ IMAGE ⌝ }
+    ensures { λ _. ⌜ now (image .exit) ≡ written 8 (sendingBytes s) (now (image .entry)) ⌝ }
+{
+    let window = s.window;
+    let given = s.given;
+    write_window(image, 8, window);
+    write_number(image, 11, s.max);
+    write_number(image, 13, s.held);
+    write_number(image, 15, s.number);
+    write_place(image, 17, given);
+}
+
+fn write_receiving(image: &mut [u8], r: Receiving)
+    requires { ⌜ length (now image) ≡ IMAGE ⌝ }
+    ensures { λ _. ⌜ now (image .exit) ≡ written 20 (receivingBytes r) (now (image .entry)) ⌝ }
+{
+    let window = r.window;
+    let taken = r.taken;
+    let read = r.read;
+    write_window(image, 20, window);
+    write_number(image, 23, r.max);
+    write_number(image, 25, r.inbox);
+    write_number(image, 27, r.held);
+    write_number(image, 29, r.number);
+    write_place(image, 31, taken);
+    write_place(image, 34, read);
+}
+
+// Writes the record over an image. Where the length is not an image's, nothing is written.
+pub fn write_image(end: End, image: &mut [u8])
+    ensures { λ _. ⌜ now (image .exit) ≡ imageWritten end (now (image .entry)) ⌝ }
+{
+    if image.len() != IMAGE {
+        return;
+    }
+    let control = end.control;
+    let sending = end.sending;
+    let receiving = end.receiving;
+    write_control(image, control);
+    write_sending(image, sending);
+    write_receiving(image, receiving);
+    write_number(image, 37, end.bidding);
+    write_number(image, 39, end.owed);
+}

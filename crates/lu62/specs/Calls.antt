@@ -1,0 +1,85 @@
+-- Opening and the ten calls on an image: each is the end's own definition at the record that the image holds.
+-- Assumes nothing.
+use Prim.Native.Nat.{ℕ}
+use mathlib.Core.Bool.{Bool, cond}
+use mathlib.Core.List.{List}
+use lib.Dec.{eqb}
+use lib.ListN.{length, getD}
+use Rattle.answers.specs.Answers.{BAD-BUFFER}
+use Rattle.end.specs.Outcome.{Made, Sent, Taken, Copied}
+use Rattle.end.specs.Opening.{opened}
+use Rattle.end.specs.Allocate.{allocate}
+use Rattle.end.specs.SendData.{sendData}
+use Rattle.end.specs.Close.{flush, confirm, prepareToReceive, deallocate}
+use Rattle.end.specs.Confirmed.{confirmed}
+use Rattle.end.specs.Pace.{pace}
+use Rattle.end.specs.ReceiveUnit.{receiveUnit}
+use Rattle.end.specs.Receive.{receive}
+use Rattle.sides.specs.declared.Session.{Session}
+use Rattle.end.specs.declared.Done.{Done}
+use Rattle.image.specs.Image.{IMAGE}
+use Rattle.lu62.specs.Handing.{answerNumbers, readNumbers, Handed, handedOut, handedBack, Left, left, onImage}
+
+-- ---- what each kind of call leaves, with its cells
+
+abbrev pub doneOut : Done → Handed
+doneOut d = handedOut (answerNumbers (d .answer)) (d .end)
+
+abbrev pub madeOut : Made → Left (List ℕ)
+madeOut m = left (doneOut (m .done)) (m .unit)
+
+-- the send buffer and the unit buffer
+abbrev pub sentOut : Sent → Left (List ℕ × List ℕ)
+sentOut m = left (doneOut (m .done)) (m .send, m .unit)
+
+-- the inbox and the unit buffer
+abbrev pub takenOut : Taken → Left (List ℕ × List ℕ)
+takenOut m = left (doneOut (m .done)) (m .inbox, m .unit)
+
+-- the inbox and the caller's buffer
+abbrev pub copiedOut : Copied → Left (List ℕ × List ℕ)
+copiedOut m = left (handedOut (readNumbers (m .done .answer)) (m .done .end)) (m .inbox, m .buffer)
+
+-- ---- the calls
+
+abbrev pub session : ℕ → ℕ → ℕ → ℕ → ℕ → Session
+session role outwindow inwindow outmax inmax =
+    record { role = role; outwindow = outwindow; inwindow = inwindow; outmax = outmax; inmax = inmax }
+
+-- opening goes by the image's length alone; refused, it leaves the image of a record of zeros
+unfoldable pub openedOn : Session → ℕ → ℕ → ℕ → List ℕ → Handed
+openedOn s send unit inbox image = cond (eqb (length image) IMAGE) (doneOut (opened s send unit inbox)) (handedBack BAD-BUFFER image)
+
+unfoldable pub allocateOn : List ℕ → List ℕ → Left (List ℕ)
+allocateOn image unit = onImage image unit (λ e. madeOut (allocate e unit))
+
+unfoldable pub sendDataOn : List ℕ → List ℕ → List ℕ → List ℕ → Left (List ℕ × List ℕ)
+sendDataOn bytes image send unit = onImage image (send, unit) (λ e. sentOut (sendData e bytes send unit))
+
+unfoldable pub flushOn : List ℕ → List ℕ → List ℕ → Left (List ℕ)
+flushOn send image unit = onImage image unit (λ e. madeOut (flush e send unit))
+
+unfoldable pub confirmOn : List ℕ → List ℕ → List ℕ → Left (List ℕ)
+confirmOn send image unit = onImage image unit (λ e. madeOut (confirm e send unit))
+
+unfoldable pub prepareToReceiveOn : Bool → List ℕ → List ℕ → List ℕ → Left (List ℕ)
+prepareToReceiveOn confirms send image unit = onImage image unit (λ e. madeOut (prepareToReceive confirms e send unit))
+
+unfoldable pub deallocateOn : Bool → List ℕ → List ℕ → List ℕ → Left (List ℕ)
+deallocateOn confirms send image unit = onImage image unit (λ e. madeOut (deallocate confirms e send unit))
+
+unfoldable pub confirmedOn : List ℕ → List ℕ → Left (List ℕ)
+confirmedOn image unit = onImage image unit (λ e. madeOut (confirmed e unit))
+
+unfoldable pub paceOn : List ℕ → List ℕ → Left (List ℕ)
+paceOn image unit = onImage image unit (λ e. madeOut (pace e unit))
+
+-- the rule that 21 names is free: it is the first argument here, and the answer's third number
+unfoldable pub receiveUnitOn : ℕ → List ℕ → List ℕ → List ℕ → List ℕ → Left (List ℕ × List ℕ)
+receiveUnitOn rule taken image inbox unit = onImage image (inbox, unit) (λ e. takenOut (receiveUnit rule e taken inbox unit))
+
+abbrev pub ruleIn : List ℕ → ℕ
+ruleIn answer = getD answer 2 0
+
+unfoldable pub receiveOn : List ℕ → List ℕ → List ℕ → Left (List ℕ × List ℕ)
+receiveOn image inbox buffer = onImage image (inbox, buffer) (λ e. copiedOut (receive e inbox buffer))

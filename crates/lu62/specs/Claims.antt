@@ -1,0 +1,32 @@
+-- What is claimed of the calls on an image as a whole. Proved in proofs/, and promised by the function `theorems::refused_changes_nothing`.
+-- Assumes nothing.
+use mathlib.Core.Path.{_≡_}
+use mathlib.Core.Bool.{Bool, false}
+use mathlib.Core.List.{List}
+use Prim.Native.Nat.{ℕ, _<_}
+use lib.Dec.{eqb}
+use Rattle.image.specs.Parts.{byteAt}
+use Rattle.lu62.specs.Handing.{Left}
+use Rattle.lu62.specs.Calls.{allocateOn, sendDataOn, flushOn, confirmOn, prepareToReceiveOn, deallocateOn, confirmedOn, paceOn, receiveUnitOn, receiveOn}
+
+-- an image's values are bytes, which is always so of the code's u8
+abbrev pub Bytes : List ℕ → Type 0
+Bytes image = (i : ℕ) → byteAt image i < 256
+
+-- where a refusal number is returned, the image and the cells lent are what they were
+abbrev pub Untouched : {Cells : Type 0} → List ℕ → Cells → Left Cells → Type 0
+Untouched image cells l = eqb (l .out .returned) 0 ≡ false → (l .out .image ≡ image) × (l .cells ≡ cells)
+
+-- a call that is refused changes nothing
+pub record RefusedChangesNothing : Type 0 where
+  pub allocate : (image unit : List ℕ) → Bytes image → Untouched image unit (allocateOn image unit)
+  pub sendData : (bytes image send unit : List ℕ) → Bytes image → Untouched image (send, unit) (sendDataOn bytes image send unit)
+  pub flush : (send image unit : List ℕ) → Bytes image → Untouched image unit (flushOn send image unit)
+  pub confirm : (send image unit : List ℕ) → Bytes image → Untouched image unit (confirmOn send image unit)
+  pub prepareToReceive : (b : Bool) (send image unit : List ℕ) → Bytes image → Untouched image unit (prepareToReceiveOn b send image unit)
+  pub deallocate : (b : Bool) (send image unit : List ℕ) → Bytes image → Untouched image unit (deallocateOn b send image unit)
+  pub confirmed : (image unit : List ℕ) → Bytes image → Untouched image unit (confirmedOn image unit)
+  pub pace : (image unit : List ℕ) → Bytes image → Untouched image unit (paceOn image unit)
+  pub receiveUnit : (rule : ℕ) (taken image inbox unit : List ℕ) → Bytes image
+      → Untouched image (inbox, unit) (receiveUnitOn rule taken image inbox unit)
+  pub receive : (image inbox buffer : List ℕ) → Bytes image → Untouched image (inbox, buffer) (receiveOn image inbox buffer)

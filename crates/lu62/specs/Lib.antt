@@ -1,0 +1,3 @@
+pub mod Handing
+pub mod Calls
+pub mod Claims

@@ -1,0 +1,4 @@
+pub mod Lengths
+mod Numerals
+pub mod Printing
+pub mod Puts

@@ -1,0 +1,33 @@
+-- `report::answer::put_bytes` meets its contract. Where the part does not apply nothing is printed; else its texts are printed one behind another.
+-- Assumes nothing.
+use borrow.Author.Tests.{eq-eqb, ne-eqb}
+use Rattle.report.specs.Answer.{bytesText}
+use Rattle.report.proofs.Printing.{put-prints, prints-none, _then_}
+use borrow.Author.Needs.{needs}
+use Rattle.report.proofs.answer.put_bytes.Statement.{statement}
+use Rattle.report.proofs.answer.put_bytes.Tie as tie
+
+returns : tie.Need-returns
+unfolding bytesText
+returns c = rw (eq-eqb _ _ (c .if1 .taken)) prints-none
+
+put-requires : tie.Need-put-requires
+put-requires c κs = search needs
+
+hex-bytes-requires : tie.Need-hex-bytes-requires
+hex-bytes-requires c κs = search needs
+
+same-length : tie.Need-same-length
+same-length c = search needs
+
+returns-2 : tie.Need-returns-2
+unfolding bytesText
+returns-2 c =
+    let s2 = c .before .before in
+    let s1 = s2 .before .before .before .before in
+    rw (ne-eqb _ _ (s1 .before .before .if1 .left))
+    (put-prints (s1 .put .ensures)
+    then put-prints (s2 .hex-bytes .ensures))
+
+pub put-bytes-spec : {M : Type 1} → statement M
+put-bytes-spec = tie.close (tie.spec returns put-requires hex-bytes-requires same-length returns-2)

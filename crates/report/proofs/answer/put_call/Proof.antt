@@ -1,0 +1,51 @@
+-- `report::answer::put_call` meets its contract. Its texts are printed one behind another.
+-- Assumes nothing.
+use Rattle.report.specs.Answer.{callText}
+use Rattle.report.proofs.Printing.{put-prints, _then_}
+use borrow.Author.Needs.{needs}
+use Rattle.report.proofs.answer.put_call.Statement.{statement}
+use Rattle.report.proofs.answer.put_call.Tie as tie
+
+end-digit-requires : tie.Need-end-digit-requires
+end-digit-requires c κs = search needs
+
+put-word-requires : tie.Need-put-word-requires
+put-word-requires c κs = search needs
+
+slice-aggregate-put : tie.Need-slice-aggregate-put
+slice-aggregate-put c = search needs
+
+put-requires : tie.Need-put-requires
+put-requires c κs = search needs
+
+request-word-requires : tie.Need-request-word-requires
+request-word-requires c κs = search needs
+
+put-word-requires-2 : tie.Need-put-word-requires-2
+put-word-requires-2 c κs = search needs
+
+same-length : tie.Need-same-length
+same-length c = search needs
+
+returns : tie.Need-returns
+unfolding callText
+returns c =
+    let s3 = c .before .before in
+    let s2 = s3 .before .before .before .before .before in
+    let s1 = s2 .before .before .before .before .before in
+    put-prints (rw (s1 .before .end-digit .ensures .0) at (s1 .put-word .ensures))
+    then put-prints (s2 .put .ensures)
+    then put-prints (rw (s3 .before .request-word .ensures .0) at (s3 .put-word2 .ensures))
+
+pub put-call-spec : {M : Type 1} → statement M
+put-call-spec =
+    tie.close
+    (tie.spec
+    end-digit-requires
+    put-word-requires
+    slice-aggregate-put
+    put-requires
+    request-word-requires
+    put-word-requires-2
+    same-length
+    returns)

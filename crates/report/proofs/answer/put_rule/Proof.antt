@@ -1,0 +1,38 @@
+-- `report::answer::put_rule` meets its contract. Where the part does not apply nothing is printed; else its texts are printed one behind another.
+-- Assumes nothing.
+use borrow.Author.Tests.{eq-eqb, ne-eqb}
+use Rattle.report.specs.Answer.{ruleText}
+use Rattle.report.proofs.Printing.{put-prints, prints-none, _then_}
+use borrow.Author.Needs.{needs}
+use Rattle.report.proofs.answer.put_rule.Statement.{statement}
+use Rattle.report.proofs.answer.put_rule.Tie as tie
+
+returns : tie.Need-returns
+unfolding ruleText
+returns c = rw (ne-eqb _ _ (c .if1 .taken)) prints-none
+
+slice-aggregate-put : tie.Need-slice-aggregate-put
+slice-aggregate-put c = search needs
+
+put-requires : tie.Need-put-requires
+put-requires c κs = search needs
+
+decimal-requires : tie.Need-decimal-requires
+decimal-requires c κs = search needs
+
+same-length : tie.Need-same-length
+same-length c = search needs
+
+returns-2 : tie.Need-returns-2
+unfolding ruleText
+returns-2 c =
+    let s2 = c .before .before in
+    let s1 = s2 .before .before .before .before in
+    rw (eq-eqb _ _ (s1 .before .before .before .if1 .left))
+    (put-prints (s1 .put .ensures)
+    then put-prints (s2 .decimal .ensures))
+
+pub put-rule-spec : {M : Type 1} → statement M
+put-rule-spec =
+    tie.close
+    (tie.spec returns slice-aggregate-put put-requires decimal-requires same-length returns-2)

@@ -1,0 +1,44 @@
+-- `report::lines::end_line` meets its contract. Its texts are printed one behind another.
+-- Assumes nothing.
+use Rattle.report.specs.Lines.{endText}
+use Rattle.report.proofs.Printing.{put-prints, _then_, prints-line}
+use borrow.Author.Needs.{needs}
+use Rattle.report.proofs.lines.end_line.Statement.{statement}
+use Rattle.report.proofs.lines.end_line.Tie as tie
+
+put-state-requires : tie.Need-put-state-requires
+put-state-requires c κs = search needs
+
+put-counts-requires : tie.Need-put-counts-requires
+put-counts-requires c κs = search needs
+
+slice-aggregate-put : tie.Need-slice-aggregate-put
+slice-aggregate-put c = search needs
+
+put-requires : tie.Need-put-requires
+put-requires c κs = search needs
+
+same-length : tie.Need-same-length
+same-length c = search needs
+
+returns : tie.Need-returns
+unfolding endText
+returns c =
+    let s3 = c .before .before in
+    let s2 = s3 .before .before .before .before .before in
+    let s1 = s2 .before .before .before .before in
+    prints-line
+    (s1 .put-state .ensures
+    then s2 .put-counts .ensures
+    then put-prints (s3 .put .ensures))
+
+pub end-line-spec : {M : Type 1} → statement M
+end-line-spec =
+    tie.close
+    (tie.spec
+    put-state-requires
+    put-counts-requires
+    slice-aggregate-put
+    put-requires
+    same-length
+    returns)

@@ -1,0 +1,71 @@
+-- `report::lines::put_state` meets its contract. Its texts are printed one behind another.
+-- Assumes nothing.
+use Rattle.report.specs.Lines.{stateText}
+use Rattle.report.proofs.Printing.{put-prints, _then_}
+use borrow.Author.Needs.{needs}
+use Rattle.report.proofs.lines.put_state.Statement.{statement}
+use Rattle.report.proofs.lines.put_state.Tie as tie
+
+end-digit-requires : tie.Need-end-digit-requires
+end-digit-requires c κs = search needs
+
+put-word-requires : tie.Need-put-word-requires
+put-word-requires c κs = search needs
+
+slice-aggregate-put : tie.Need-slice-aggregate-put
+slice-aggregate-put c = search needs
+
+put-requires : tie.Need-put-requires
+put-requires c κs = search needs
+
+state-word-requires : tie.Need-state-word-requires
+state-word-requires c κs = search needs
+
+put-word-requires-2 : tie.Need-put-word-requires-2
+put-word-requires-2 c κs = search needs
+
+slice-aggregate-put-2 : tie.Need-slice-aggregate-put-2
+slice-aggregate-put-2 c = search needs
+
+put-requires-2 : tie.Need-put-requires-2
+put-requires-2 c κs = search needs
+
+mark-word-requires : tie.Need-mark-word-requires
+mark-word-requires c κs = search needs
+
+put-word-requires-3 : tie.Need-put-word-requires-3
+put-word-requires-3 c κs = search needs
+
+same-length : tie.Need-same-length
+same-length c = search needs
+
+returns : tie.Need-returns
+unfolding stateText
+returns c =
+    let s5 = c .before .before in
+    let s4 = s5 .before .before .before .before .before in
+    let s3 = s4 .before .before .before .before .before in
+    let s2 = s3 .before .before .before .before .before in
+    let s1 = s2 .before .before .before .before .before in
+    put-prints (rw (s1 .before .end-digit .ensures .0) at (s1 .put-word .ensures))
+    then put-prints (s2 .put .ensures)
+    then put-prints (rw (s3 .before .state-word .ensures .0) at (s3 .put-word2 .ensures))
+    then put-prints (s4 .put2 .ensures)
+    then put-prints (rw (s5 .before .mark-word .ensures .0) at (s5 .put-word3 .ensures))
+
+pub put-state-spec : {M : Type 1} → statement M
+put-state-spec =
+    tie.close
+    (tie.spec
+    end-digit-requires
+    put-word-requires
+    slice-aggregate-put
+    put-requires
+    state-word-requires
+    put-word-requires-2
+    slice-aggregate-put-2
+    put-requires-2
+    mark-word-requires
+    put-word-requires-3
+    same-length
+    returns)

@@ -1,0 +1,51 @@
+-- `report::words::state_word` meets its contract. Each word is computed from its letters.
+-- Assumes nothing.
+use native.Mathlib.Omega.{arith}
+use borrow.Author.Needs.{needs}
+use Rattle.report.proofs.words.state_word.Statement.{statement}
+use Rattle.report.proofs.words.state_word.Tie as tie
+
+enum-told : tie.Need-enum-told
+enum-told c = search needs
+
+enum-told-2 : tie.Need-enum-told-2
+enum-told-2 c = search needs
+
+enum-told-3 : tie.Need-enum-told-3
+enum-told-3 c = search needs
+
+enum-told-4 : tie.Need-enum-told-4
+enum-told-4 c = search needs
+
+enum-told-5 : tie.Need-enum-told-5
+enum-told-5 c = search needs
+
+returns : tie.Need-returns
+returns c = (rw (c .before .before .enum-told .given .1), omega arith)
+
+returns-2 : tie.Need-returns-2
+returns-2 c = (rw (c .before .before .enum-told2 .given .1), omega arith)
+
+returns-3 : tie.Need-returns-3
+returns-3 c = (rw (c .before .before .enum-told3 .given .1), omega arith)
+
+returns-4 : tie.Need-returns-4
+returns-4 c = (rw (c .before .before .enum-told4 .given .1), omega arith)
+
+returns-5 : tie.Need-returns-5
+returns-5 c = (rw (c .before .before .enum-told5 .given .1), omega arith)
+
+pub state-word-spec : {M : Type 1} → statement M
+state-word-spec =
+    tie.close
+    (tie.spec
+    enum-told
+    enum-told-2
+    enum-told-3
+    enum-told-4
+    enum-told-5
+    returns
+    returns-2
+    returns-3
+    returns-4
+    returns-5)

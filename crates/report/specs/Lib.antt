@@ -1,0 +1,8 @@
+pub mod Answer
+pub mod Ascii
+pub mod Examples
+pub mod Lines
+pub mod Named
+pub mod Numerals
+pub mod Prints
+pub mod Put

@@ -1,0 +1,55 @@
+-- The words for an end, a call, a mark and a state.
+-- Assumes nothing.
+use Prim.Native.Nat.{ℕ}
+use mathlib.Core.Bool.{Bool, cond}
+use mathlib.Core.List.{List}
+use Rattle.script.specs.declared.Verb.{Verb}
+use Rattle.script.specs.declared.Verb.the-variants as verb
+use Rattle.script.specs.declared.Request.{Request}
+use Rattle.script.specs.declared.Request.the-variants as request
+use Rattle.control.specs.declared.WhatReceived.{WhatReceived}
+use Rattle.control.specs.declared.WhatReceived.the-variants as mark
+use Rattle.control.specs.declared.State.{State}
+use Rattle.control.specs.declared.State.the-variants as state
+use Rattle.report.specs.Ascii.{ascii}
+
+abbrev pub endWord : Bool → List ℕ
+endWord second = cond second (ascii "2") (ascii "1")
+
+abbrev pub turnWords : Bool → List ℕ
+turnWords confirm = cond confirm (ascii "turn confirm") (ascii "turn")
+
+abbrev pub deallocateWords : Bool → List ℕ
+deallocateWords confirm = cond confirm (ascii "end confirm") (ascii "end")
+
+abbrev pub verbWords : Verb → List ℕ
+verbWords verb.Allocate = ascii "allocate"
+verbWords verb.Flush = ascii "flush"
+verbWords verb.Confirm = ascii "confirm"
+verbWords verb.Confirmed = ascii "confirmed"
+verbWords verb.SendPacingResponse = ascii "pace"
+verbWords verb.SendData = ascii "send"
+verbWords (verb.PrepareToReceive confirm) = turnWords confirm
+verbWords (verb.Deallocate confirm) = deallocateWords confirm
+verbWords verb.Receive = ascii "read"
+
+-- an offered unit is taken too
+abbrev pub requestWords : Request → List ℕ
+requestWords (request.Call v) = verbWords v
+requestWords request.Take = ascii "take"
+requestWords request.Offer = ascii "take"
+
+abbrev pub markWord : WhatReceived → List ℕ
+markWord mark.Nothing = ascii "none"
+markWord mark.Turn = ascii "turn"
+markWord mark.End = ascii "end"
+markWord mark.Confirm = ascii "confirm"
+markWord mark.ConfirmTurn = ascii "confirm-turn"
+markWord mark.ConfirmEnd = ascii "confirm-end"
+
+abbrev pub stateWord : State → List ℕ
+stateWord state.Reset = ascii "Reset"
+stateWord state.Send = ascii "Send"
+stateWord state.Receive = ascii "Receive"
+stateWord state.ConfirmOwed = ascii "Owes"
+stateWord state.ConfirmAwaited = ascii "Waits"

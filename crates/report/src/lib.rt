@@ -1,0 +1,6 @@
+// What the program `crossings` prints: a line for each call, and two at the end of the input.
+
+pub mod answer;
+pub mod lines;
+pub mod text;
+mod words;

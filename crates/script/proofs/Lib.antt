@@ -1,0 +1,7 @@
+pub mod Counts
+mod Digits
+mod Givens
+mod Lines
+mod Pairs
+mod Parts
+mod Same

@@ -1,0 +1,112 @@
+-- `script::requests::turn_or_end` meets its contract. Each return is one row of the table.
+-- Assumes nothing.
+use mathlib.Core.Path.{sym, _∙_}
+use borrow.Author.Needs.{needs}
+use Rattle.script.proofs.requests.turn_or_end.Statement.{statement}
+use Rattle.script.proofs.requests.turn_or_end.Tie as tie
+
+slice-aggregate-same : tie.Need-slice-aggregate-same
+slice-aggregate-same c = search needs
+
+same-requires : tie.Need-same-requires
+same-requires c κs = search needs
+
+plain-requires : tie.Need-plain-requires
+plain-requires c κs = search needs
+
+returns : tie.Need-returns
+returns c =
+    rw (
+      c .plain .ensures,
+      sym (c .before .before .same .ensures) ∙ c .before .if1 .taken,
+    )
+
+slice-aggregate-same-2 : tie.Need-slice-aggregate-same-2
+slice-aggregate-same-2 c = search needs
+
+same-requires-2 : tie.Need-same-requires-2
+same-requires-2 c κs = search needs
+
+plain-requires-2 : tie.Need-plain-requires-2
+plain-requires-2 c κs = search needs
+
+returns-2 : tie.Need-returns-2
+returns-2 c =
+    rw (
+      c .plain2 .ensures,
+      sym (c .before .before .before .before .before .same .ensures) ∙ c .before .before .before .before .if1 .left,
+      sym (c .before .before .same2 .ensures) ∙ c .before .if2 .taken,
+    )
+
+slice-aggregate-same-3 : tie.Need-slice-aggregate-same-3
+slice-aggregate-same-3 c = search needs
+
+same-requires-3 : tie.Need-same-requires-3
+same-requires-3 c κs = search needs
+
+plain-requires-3 : tie.Need-plain-requires-3
+plain-requires-3 c κs = search needs
+
+returns-3 : tie.Need-returns-3
+returns-3 c =
+    rw (
+      c .plain3 .ensures,
+      sym (c .before .before .before .before .before .before .before .before .same .ensures) ∙ c .before .before .before .before .before .before .before .if1 .left,
+      sym (c .before .before .before .before .before .same2 .ensures) ∙ c .before .before .before .before .if2 .left,
+      sym (c .before .before .same3 .ensures) ∙ c .before .if3 .taken,
+    )
+
+slice-aggregate-same-4 : tie.Need-slice-aggregate-same-4
+slice-aggregate-same-4 c = search needs
+
+same-requires-4 : tie.Need-same-requires-4
+same-requires-4 c κs = search needs
+
+plain-requires-4 : tie.Need-plain-requires-4
+plain-requires-4 c κs = search needs
+
+returns-4 : tie.Need-returns-4
+returns-4 c =
+    rw (
+      c .plain4 .ensures,
+      sym (c .before .before .before .before .before .before .before .before .before .before .before .same .ensures) ∙ c .before .before .before .before .before .before .before .before .before .before .if1 .left,
+      sym (c .before .before .before .before .before .before .before .before .same2 .ensures) ∙ c .before .before .before .before .before .before .before .if2 .left,
+      sym (c .before .before .before .before .before .same3 .ensures) ∙ c .before .before .before .before .if3 .left,
+      sym (c .before .before .same4 .ensures) ∙ c .before .if4 .taken,
+    )
+
+take-pace-send-requires : tie.Need-take-pace-send-requires
+take-pace-send-requires c κs = search needs
+
+returns-5 : tie.Need-returns-5
+returns-5 c =
+    rw (
+      c .take-pace-send .ensures,
+      sym (c .before .before .before .before .before .before .before .before .before .before .before .same .ensures) ∙ c .before .before .before .before .before .before .before .before .before .before .if1 .left,
+      sym (c .before .before .before .before .before .before .before .before .same2 .ensures) ∙ c .before .before .before .before .before .before .before .if2 .left,
+      sym (c .before .before .before .before .before .same3 .ensures) ∙ c .before .before .before .before .if3 .left,
+      sym (c .before .before .same4 .ensures) ∙ c .before .if4 .left,
+    )
+
+pub turn-or-end-spec : {M : Type 1} → statement M
+turn-or-end-spec =
+    tie.close
+    (tie.spec
+    slice-aggregate-same
+    same-requires
+    plain-requires
+    returns
+    slice-aggregate-same-2
+    same-requires-2
+    plain-requires-2
+    returns-2
+    slice-aggregate-same-3
+    same-requires-3
+    plain-requires-3
+    returns-3
+    slice-aggregate-same-4
+    same-requires-4
+    plain-requires-4
+    returns-4
+    take-pace-send-requires
+    returns-5)

@@ -1,0 +1,94 @@
+-- `script::six_numbers::all_six` meets its contract. All six are numbers, or the line is bad.
+-- Assumes nothing.
+use borrow.Author.Needs.{needs}
+use Rattle.script.proofs.six_numbers.all_six.Statement.{statement}
+use Rattle.script.proofs.six_numbers.all_six.Tie as tie
+
+is-number-requires : tie.Need-is-number-requires
+is-number-requires c κs = search needs
+
+is-number-requires-2 : tie.Need-is-number-requires-2
+is-number-requires-2 c κs = search needs
+
+is-number-requires-3 : tie.Need-is-number-requires-3
+is-number-requires-3 c κs = search needs
+
+is-number-requires-4 : tie.Need-is-number-requires-4
+is-number-requires-4 c κs = search needs
+
+is-number-requires-5 : tie.Need-is-number-requires-5
+is-number-requires-5 c κs = search needs
+
+is-number-requires-6 : tie.Need-is-number-requires-6
+is-number-requires-6 c κs = search needs
+
+value-requires : tie.Need-value-requires
+value-requires c κs = search needs
+
+value-requires-2 : tie.Need-value-requires-2
+value-requires-2 c κs = search needs
+
+value-requires-3 : tie.Need-value-requires-3
+value-requires-3 c κs = search needs
+
+value-requires-4 : tie.Need-value-requires-4
+value-requires-4 c κs = search needs
+
+value-requires-5 : tie.Need-value-requires-5
+value-requires-5 c κs = search needs
+
+value-requires-6 : tie.Need-value-requires-6
+value-requires-6 c κs = search needs
+
+returns : tie.Need-returns
+returns c =
+    let e =
+    rw (
+      c .before .before .before .before .before .before .before .is-number6 .ensures,
+      c .before .before .before .before .before .before .before .before .is-number5 .ensures,
+      c .before .before .before .before .before .before .before .before .before .is-number4 .ensures,
+      c .before .before .before .before .before .before .before .before .before .before .is-number3 .ensures,
+      c .before .before .before .before .before .before .before .before .before .before .before .is-number2 .ensures,
+      c .before .before .before .before .before .before .before .before .before .before .before .before .is-number .ensures,
+    ) at (c .before .before .before .before .before .before .if1 .taken) in
+    rw (
+      c .value6 .ensures,
+      c .before .value5 .ensures,
+      c .before .before .value4 .ensures,
+      c .before .before .before .value3 .ensures,
+      c .before .before .before .before .value2 .ensures,
+      c .before .before .before .before .before .value .ensures,
+      e,
+    )
+
+returns-2 : tie.Need-returns-2
+returns-2 c =
+    let e =
+    rw (
+      c .before .is-number6 .ensures,
+      c .before .before .is-number5 .ensures,
+      c .before .before .before .is-number4 .ensures,
+      c .before .before .before .before .is-number3 .ensures,
+      c .before .before .before .before .before .is-number2 .ensures,
+      c .before .before .before .before .before .before .is-number .ensures,
+    ) at (c .if1 .left) in
+    rw e
+
+pub all-six-spec : {M : Type 1} → statement M
+all-six-spec =
+    tie.close
+    (tie.spec
+    is-number-requires
+    is-number-requires-2
+    is-number-requires-3
+    is-number-requires-4
+    is-number-requires-5
+    is-number-requires-6
+    value-requires
+    value-requires-2
+    value-requires-3
+    value-requires-4
+    value-requires-5
+    value-requires-6
+    returns
+    returns-2)

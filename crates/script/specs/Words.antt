@@ -1,0 +1,30 @@
+-- Parts of a text, and texts compared. A text is a list of bytes.
+-- Assumes nothing.
+use Prim.Native.Nat.{ℕ, _+_}
+use mathlib.Core.Bool.{Bool, true, false, _&&_}
+use mathlib.Core.List.{List, [], _∷_}
+use lib.Dec.{eqb}
+use lib.ListN.{length, take, drop}
+use Rattle.bytes.specs.Bytes.{indexOf}
+
+-- byte by byte
+unfoldable pub sameBytes : List ℕ → List ℕ → Bool
+sameBytes [] [] = true
+sameBytes [] (y ∷ ys) = false
+sameBytes (x ∷ xs) [] = false
+sameBytes (x ∷ xs) (y ∷ ys) = eqb x y && sameBytes xs ys
+
+-- its first bytes are those of the word
+unfoldable pub begins : List ℕ → List ℕ → Bool
+begins text word = sameBytes (take (length word) text) word
+
+abbrev pub blank : ℕ
+blank = 0x20
+
+-- the bytes before the first blank; where there is none, all
+unfoldable pub wordOf : List ℕ → List ℕ
+wordOf text = take (indexOf blank text) text
+
+-- the bytes behind the first blank; where there is none, none
+unfoldable pub behindWord : List ℕ → List ℕ
+behindWord text = drop (indexOf blank text + 1) text

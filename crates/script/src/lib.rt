@@ -1,0 +1,71 @@
+// A script of calls on two joined ends: the forms of its lines.
+pub mod hexadecimal;
+pub mod line;
+pub mod numbers;
+mod requests;
+mod six_numbers;
+pub mod text;
+mod words;
+
+// A call that an end answers by itself. Bytes given, and the buffer of a read, stand beside it.
+pub enum Verb {
+    Allocate,
+    Flush,
+    Confirm,
+    Confirmed,
+    // Document 01: pace.
+    SendPacingResponse,
+    SendData,
+    // Document 01: turn, with or without confirmation.
+    PrepareToReceive(bool),
+    // Document 01: end, with or without confirmation.
+    Deallocate(bool),
+    // Document 01: read.
+    Receive,
+}
+
+// What a line asks: a call, a take of the oldest unit that waits, or a take of a unit that the line gives.
+pub enum Request {
+    Call(Verb),
+    Take,
+    Offer,
+}
+
+// A line that asks for a call: at which end, and how many bytes it gives; of a read the cells of its buffer.
+pub struct Asked {
+    pub second: bool,
+    pub request: Request,
+    pub count: usize,
+}
+
+pub enum Parsed {
+    Call(Asked),
+    Bad,
+}
+
+// The first line: window and maximum RU from end 1 to end 2, then from 2 to 1, then the two inbox lengths.
+pub struct Sizes {
+    pub window12: u16,
+    pub max12: u16,
+    pub window21: u16,
+    pub max21: u16,
+    pub inbox1: u16,
+    pub inbox2: u16,
+}
+
+pub enum FirstLine {
+    Ends(Sizes),
+    Bad,
+}
+
+// A number in a line.
+pub enum Number {
+    Is(u16),
+    Bad,
+}
+
+// Bytes in a line: how many they are.
+pub enum Hex {
+    Bytes(usize),
+    Bad,
+}

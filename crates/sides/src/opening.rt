@@ -1,0 +1,57 @@
+// What is asked before a session is opened.
+use crate::Session;
+use crate::sizes::max_good;
+use answers::numbers::BAD_BUFFER;
+use answers::numbers::BAD_MAXIMUM;
+use answers::numbers::BAD_ROLE;
+use answers::numbers::BAD_WINDOW;
+use answers::questions::ask;
+use control::Role;
+use pacing::size_good;
+use unit::weights::RU_START;
+ghost use mathlib.Core.Path.{_≡_};
+ghost use Prim.Native.Nat.{_*_};
+ghost use Rattle.sides.specs.Opening.{roleOf, buffersGood, openingRefusal};
+
+// The record keeps the inbox's length in 16 bits.
+const GREATEST_INBOX: usize = 65535;
+
+// First speaker 0, bidder 1.
+pub fn role_of(number: u8) -> Role
+    ensures { λ r. ⌜ r ≡ roleOf number ⌝ }
+{
+    if number == 0 {
+        Role::FirstSpeaker
+    } else {
+        Role::Bidder
+    }
+}
+
+// Room for a window of requests, each as long as it may be. Asked also of sizes that are refused, it fits all the same.
+fn window_room(window: u8, max: u32) -> usize
+    ensures { λ r. ⌜ r ≡ window * max ⌝ }
+{
+    (window as usize) * (max as usize)
+}
+
+fn buffers_good(s: Session, send: usize, unit: usize, inbox: usize) -> bool
+    ensures { λ r. ⌜ r ≡ buffersGood s send unit inbox ⌝ }
+{
+    let max = s.outmax as usize;
+    (max <= send)
+        & ((max + RU_START <= unit)
+            & ((window_room(s.inwindow, s.inmax) <= inbox) & (inbox <= GREATEST_INBOX)))
+}
+
+pub fn opening_refusal(s: Session, send: usize, unit: usize, inbox: usize) -> u8
+    ensures { λ r. ⌜ r ≡ openingRefusal s send unit inbox ⌝ }
+{
+    let buffers = ask(buffers_good(s, send, unit, inbox), BAD_BUFFER, 0);
+    let maxima = ask(max_good(s.outmax) & max_good(s.inmax), BAD_MAXIMUM, buffers);
+    let windows = ask(
+        size_good(s.outwindow) & size_good(s.inwindow),
+        BAD_WINDOW,
+        maxima,
+    );
+    ask((s.role == 0) | (s.role == 1), BAD_ROLE, windows)
+}

@@ -1,0 +1,93 @@
+/* One end of the session with the buffers lent to it and its line: what laboratory and blender have in common. */
+#ifndef SESSION_H
+#define SESSION_H
+
+#include "line.h"
+#include "lu62.h"
+
+enum {
+    /* What the laboratory sends: little units, so that most records are cut. */
+    LABORATORY_WINDOW = 3,
+    LABORATORY_MAXIMUM = 48,
+    /* What the blender sends. */
+    BLENDER_WINDOW = 2,
+    BLENDER_MAXIMUM = 16,
+    LARGEST_MAXIMUM = 48,
+    SMALLEST_MAXIMUM = 16,
+    LARGEST_INBOX = LU62_INBOX(3, 48)
+};
+
+/* A record being read. Its bytes begin with LL. */
+struct record {
+    uint8_t bytes[LU62_RECORD_MOST];
+    size_t length;
+};
+
+/* A record being given, part by part as credit allows. */
+struct outgoing {
+    uint8_t bytes[LU62_RECORD_MOST];
+    size_t length;
+    size_t given;
+};
+
+/* What one read found. */
+enum reading { READ_NOTHING, READ_PART, READ_RECORD, READ_MARK };
+
+struct session {
+    const char *name;    /* this program, for messages */
+    const char *partner; /* the other one */
+    bool failed;         /* the conversation was ended for a fault, and a message said so */
+    bool breach;         /* a unit was refused; the records before it are still to be read */
+    struct lu62_answer breach_answer;
+    struct line line;
+    struct record record;
+    bool record_whole;         /* the record has been read to its end */
+    struct lu62_answer answer; /* of the last call */
+    size_t parts;              /* parts given so far; makes the lengths of parts differ */
+    /* Counts for --counts. */
+    unsigned long units_made, units_taken, bids_refused, waits_for_credit, pacing_responses;
+    uint8_t image[LU62_IMAGE];
+    uint8_t send[LARGEST_MAXIMUM];
+    uint8_t unit[LU62_UNIT(LARGEST_MAXIMUM)];
+    uint8_t inbox[LARGEST_INBOX];
+    size_t inbox_length;
+};
+
+/* Opens the session of one program on its side of the socket pair. False, with a message, if that fails. */
+bool session_open_laboratory(struct session *session, int socket);
+bool session_open_blender(struct session *session, int socket);
+
+/* The calls that make units. Each puts its unit on the line and gives the refusal number. WRONG_STATE and NO_CREDIT mean 'not
+ * now'; for any other refusal the conversation is ended with a message. */
+uint32_t session_allocate(struct session *session);
+uint32_t session_flush(struct session *session);
+uint32_t session_confirm(struct session *session);
+uint32_t session_turn(struct session *session, bool confirm);
+uint32_t session_end(struct session *session, bool confirm);
+uint32_t session_confirmed(struct session *session);
+
+/* Begins a record of this kind and text: LL, one byte for the kind, the text. */
+void outgoing_set(struct outgoing *record, char kind, const char *text);
+
+/* Gives as much of the record as credit allows. True if all of it has been given. */
+bool session_give(struct session *session, struct outgoing *record);
+
+/* Reads once. With READ_RECORD, session->record holds a whole record, and the next read begins another; with READ_MARK,
+ * session->answer.mark is the mark. */
+enum reading session_read(struct session *session);
+
+/* Takes every unit that has come and may be taken, and makes a pacing response if one is due. True if anything was done. */
+bool session_exchange(struct session *session);
+
+/* What a program does when it has its turn to run. True if it did anything: then it is run again before the line is waited for. */
+typedef bool session_step(void *program);
+
+/* Runs a program until `*done`, until a fault, or until the partner closes the line. True if there was no fault. */
+bool session_run(struct session *session, session_step *step, void *program, const bool *done);
+
+/* Ends the conversation for a fault: says what it was, with the last answer's refusal number and sense. */
+void session_fail(struct session *session, const char *what);
+
+void session_print_counts(const struct session *session);
+
+#endif

@@ -1,0 +1,184 @@
+/* One end of a basic conversation of LU type 6.2, for hosts in C. Link with liblu62.a; the library needs nothing else.
+ *
+ * The end's record lies in an image of LU62_IMAGE bytes that the host keeps. Every call reads the image, does its work and
+ * writes the new record back. The host also lends the buffers that the call uses:
+ *
+ *   send    bytes given and not yet sent: at least the sending maximum M
+ *   unit    where a call writes the unit it makes: at least LU62_UNIT(M), with the sending M
+ *   inbox   bytes taken and not yet read: exactly as long as at opening, at least LU62_INBOX(W, M) of the receiving side and
+ *           at most LU62_INBOX_MOST
+ *
+ * Between calls nobody else may write to image, send or inbox. The unit buffer is free as soon as its unit has been copied away.
+ *
+ * Every pointer must point to as many bytes as the length after it says, and must not be null, even where the length is 0.
+ * No two buffers of one call may overlap, and none may overlap `answer`.
+ *
+ * A call returns its refusal number, LU62_ACCEPTED or one of the numbers below, and writes the whole answer to `answer`.
+ * A refused call changes nothing but `answer`; lu62_open alone writes an image of zeros when it refuses. If several refusals
+ * fit, the answer is the first in the order in which they are listed at the call. Every call but lu62_open also refuses, before
+ * all else, an image of a wrong length (LU62_BAD_BUFFER) and an image with a code or flag that no record has (LU62_BAD_RECORD).
+ *
+ * If `answer->unit` is not 0, a unit of that many bytes stands at the front of the unit buffer. The host must carry it to the
+ * partner, after all units made before it and before all made later. Nothing is allocated and no call waits. */
+#ifndef LU62_H
+#define LU62_H
+
+#include <stddef.h>
+#include <stdint.h>
+
+#ifdef __cplusplus
+extern "C" {
+#endif
+
+/* Sizes, in bytes. W is a window, 1 to 63; M is a maximum RU, 8 to 1,024. */
+#define LU62_IMAGE 41
+#define LU62_UNIT(m) ((m) + 5)
+#define LU62_INBOX(w, m) ((w) * (m))
+#define LU62_INBOX_MOST 65535
+
+/* Limits of a session's windows and maximum RUs, and of a logical record (its two LL bytes are counted). */
+#define LU62_WINDOW_LEAST 1
+#define LU62_WINDOW_MOST 63
+#define LU62_MAXIMUM_LEAST 8
+#define LU62_MAXIMUM_MOST 1024
+#define LU62_RECORD_LEAST 2
+#define LU62_RECORD_MOST 32767
+
+/* Roles. One end of a session is the first speaker, the other is the bidder. */
+#define LU62_FIRST_SPEAKER 0
+#define LU62_BIDDER 1
+
+/* Refusals of a call by this host's own doing, or because it is not yet the time for the call. */
+#define LU62_ACCEPTED 0
+#define LU62_BAD_ROLE 1           /* the role is neither of the two */
+#define LU62_BAD_WINDOW 2         /* a window is out of range */
+#define LU62_BAD_MAXIMUM 3        /* a maximum RU is out of range */
+#define LU62_BAD_BUFFER 4         /* image, send, unit or inbox has a wrong length */
+#define LU62_BAD_RECORD 5         /* the image holds no record that calls can leave */
+#define LU62_BAD_LENGTH 6         /* no bytes or more than M given; an empty buffer to read into */
+#define LU62_WRONG_STATE 7        /* the state, or a bid under way, does not allow the call */
+#define LU62_BAD_LL 8             /* a logical record's length is under 2 or over 32,767 */
+#define LU62_UNFINISHED_RECORD 9  /* the last record given is not whole */
+#define LU62_NO_CREDIT 10         /* a request must go and the partner has not made room for it */
+#define LU62_NOTHING_TO_PACE 11   /* no pacing response is owed, or the inbox has no room for a window yet */
+#define LU62_NOTHING_TO_READ 12   /* no byte is held and no mark stands */
+#define LU62_UNREAD_MARK 13       /* a mark stands: read up to it before the next unit is taken */
+
+/* Refusals of lu62_receive_unit: the partner's unit breaks the protocol. */
+#define LU62_SHORT_UNIT 20        /* under 5 bytes */
+#define LU62_BAD_HEADER 21        /* the header breaks rule H1 to H6; `rule` names one that it breaks */
+#define LU62_BAD_RU 22            /* the RU does not fit the header, or is too long */
+#define LU62_BAD_NUMBER 23        /* not the next sequence number */
+#define LU62_BAD_CHAIN 24         /* first in chain where a chain is open, or the reverse */
+#define LU62_BAD_BRACKET 25       /* begin bracket where none may begin, or missing where one must; a bid to a bidder */
+#define LU62_BAD_STATE 26         /* data where this end does not receive */
+#define LU62_BAD_PACING 27        /* more requests than the window allows, a wrong pacing bit, a pacing response unasked */
+#define LU62_BAD_RESPONSE 28      /* a response to nothing that this end has asked */
+#define LU62_BAD_RECORDS 29       /* a bad LL, or a record not whole where data says that it ends */
+
+/* From here on a refusal number is a breach of protocol by the partner. */
+#define LU62_FIRST_BREACH LU62_SHORT_UNIT
+
+/* Marks: what a unit says after its bytes. lu62_receive answers the mark when all bytes before it have been read. */
+#define LU62_MARK_NONE 0
+#define LU62_MARK_TURN 1          /* this end sends now */
+#define LU62_MARK_END 2           /* the conversation is over */
+#define LU62_MARK_CONFIRM 3       /* lu62_confirmed is due; then this end receives on */
+#define LU62_MARK_CONFIRM_TURN 4  /* lu62_confirmed is due; then this end sends */
+#define LU62_MARK_CONFIRM_END 5   /* lu62_confirmed is due; then the conversation is over */
+
+/* States, as lu62_state gives them. */
+#define LU62_RESET 0              /* no conversation */
+#define LU62_SEND 1               /* this end sends */
+#define LU62_RECEIVE 2            /* this end receives */
+#define LU62_CONFIRM_OWED 3       /* this end must call lu62_confirmed */
+#define LU62_CONFIRM_AWAITED 4    /* this end waits for the partner's confirmation */
+
+/* What a call answers. A refusal has zeros in the last four fields. */
+struct lu62_answer {
+    uint32_t refusal;   /* LU62_ACCEPTED, or the number of the refusal */
+    uint32_t sense;     /* sense data of the refusal, 0 where it has none */
+    uint32_t rule;      /* 1 to 6 for H1 to H6 with LU62_BAD_HEADER, else 0 */
+    uint32_t unit;      /* length of the unit made, 0 for none */
+    uint32_t copied;    /* lu62_receive: bytes copied to the caller's buffer */
+    uint32_t complete;  /* lu62_receive: 1 if the last byte copied ends a logical record, else 0 */
+    uint32_t mark;      /* lu62_receive: the mark answered, LU62_MARK_NONE for none */
+};
+
+/* Opens a session: writes the record of an end in LU62_RESET to `image`, whatever it held. `out_window` and `out_max` are W and M
+ * of what this end sends, `in_window` and `in_max` of what it receives; the partner must be opened with these exchanged and with
+ * the other role. The three lengths are those of the buffers that later calls will be lent; no buffer is touched here.
+ * Refusals: BAD_BUFFER for the image (which is then left as it was), BAD_ROLE, BAD_WINDOW, BAD_MAXIMUM, BAD_BUFFER. */
+uint32_t lu62_open(uint8_t role, uint8_t out_window, uint8_t in_window, uint32_t out_max, uint32_t in_max,
+                   size_t send_length, size_t unit_length, size_t inbox_length,
+                   uint8_t *image, size_t image_length, struct lu62_answer *answer);
+
+/* Begins a conversation. A first speaker is in LU62_SEND at once and no unit is made. A bidder makes a bid and must wait: the
+ * partner's answer puts it in LU62_SEND, or leaves it where it is, and then it may ask again.
+ * Lent: unit. Refusals: BAD_BUFFER, BAD_RECORD, WRONG_STATE, NO_CREDIT (bidder only). */
+uint32_t lu62_allocate(uint8_t *image, size_t image_length, uint8_t *unit, size_t unit_length, struct lu62_answer *answer);
+
+/* Gives 1 to M bytes of logical records to be sent. They need not begin or end where a record does. They are kept in `send` until
+ * it is over-full; then one unit of M bytes is made.
+ * Lent: the bytes (only read), send, unit. Refusals: BAD_BUFFER, BAD_RECORD, BAD_LENGTH, WRONG_STATE, BAD_LL, NO_CREDIT (only
+ * where a unit must go; give the same bytes again when a pacing response has been taken). */
+uint32_t lu62_send_data(uint8_t *image, size_t image_length, const uint8_t *bytes, size_t bytes_length,
+                        uint8_t *send, size_t send_length, uint8_t *unit, size_t unit_length, struct lu62_answer *answer);
+
+/* Sends the bytes kept in `send`, if any, without waiting for more. The record need not be whole.
+ * Lent: send (only read), unit. Refusals: BAD_BUFFER, BAD_RECORD, WRONG_STATE, NO_CREDIT (only if bytes are kept). */
+uint32_t lu62_flush(uint8_t *image, size_t image_length, const uint8_t *send, size_t send_length,
+                    uint8_t *unit, size_t unit_length, struct lu62_answer *answer);
+
+/* Sends the bytes kept and asks the partner to confirm that it has read everything. This end is then in LU62_CONFIRM_AWAITED, and
+ * in LU62_SEND again when the confirmation has been taken.
+ * Lent: send (only read), unit. Refusals: BAD_BUFFER, BAD_RECORD, WRONG_STATE, UNFINISHED_RECORD, NO_CREDIT. */
+uint32_t lu62_confirm(uint8_t *image, size_t image_length, const uint8_t *send, size_t send_length,
+                      uint8_t *unit, size_t unit_length, struct lu62_answer *answer);
+
+/* Sends the bytes kept and gives the turn to the partner: this end receives, at once if `confirm` is 0, else when the partner's
+ * confirmation has been taken.
+ * Lent: send (only read), unit. Refusals: BAD_BUFFER, BAD_RECORD, WRONG_STATE, UNFINISHED_RECORD, NO_CREDIT. */
+uint32_t lu62_prepare_to_receive(uint8_t *image, size_t image_length, uint8_t confirm, const uint8_t *send, size_t send_length,
+                                 uint8_t *unit, size_t unit_length, struct lu62_answer *answer);
+
+/* Sends the bytes kept and ends the conversation, at once if `confirm` is 0, else when the partner's confirmation has been taken.
+ * Lent: send (only read), unit. Refusals: BAD_BUFFER, BAD_RECORD, WRONG_STATE, UNFINISHED_RECORD, NO_CREDIT. */
+uint32_t lu62_deallocate(uint8_t *image, size_t image_length, uint8_t confirm, const uint8_t *send, size_t send_length,
+                         uint8_t *unit, size_t unit_length, struct lu62_answer *answer);
+
+/* Makes the confirmation that the mark last read asks for. What the mark said besides then holds: receive on, send, or the end.
+ * Lent: unit. Refusals: BAD_BUFFER, BAD_RECORD, WRONG_STATE. */
+uint32_t lu62_confirmed(uint8_t *image, size_t image_length, uint8_t *unit, size_t unit_length, struct lu62_answer *answer);
+
+/* Makes a pacing response: the partner may send one window more. Without it the partner runs out of credit, so a host calls this
+ * whenever it has read; NOTHING_TO_PACE then only says that it is not yet due.
+ * Lent: unit. Refusals: BAD_BUFFER, BAD_RECORD, NOTHING_TO_PACE. */
+uint32_t lu62_send_pacing_response(uint8_t *image, size_t image_length, uint8_t *unit, size_t unit_length,
+                                   struct lu62_answer *answer);
+
+/* Takes one unit that the partner made: the oldest that has not been taken. `taken` may hold any bytes. The data in it joins the
+ * inbox; the answer to a bid is made as a unit.
+ * Lent: the unit taken (only read), inbox, unit. Refusals: BAD_BUFFER, BAD_RECORD, UNREAD_MARK (keep the unit, read, take it
+ * again), SHORT_UNIT, BAD_HEADER, BAD_RU, BAD_PACING, BAD_NUMBER, BAD_CHAIN, BAD_BRACKET, BAD_STATE, BAD_RECORDS, BAD_RESPONSE. */
+uint32_t lu62_receive_unit(uint8_t *image, size_t image_length, const uint8_t *taken, size_t taken_length,
+                           uint8_t *inbox, size_t inbox_length, uint8_t *unit, size_t unit_length, struct lu62_answer *answer);
+
+/* Reads bytes of the current logical record, its LL included, never past its end, as many as are held and fit `buffer`; or, with
+ * all bytes read, the mark. It makes no unit.
+ * Lent: inbox, buffer (1 byte or more). Refusals: BAD_BUFFER, BAD_RECORD, BAD_LENGTH, BAD_LL (only if somebody has written to the
+ * inbox), NOTHING_TO_READ. */
+uint32_t lu62_receive(uint8_t *image, size_t image_length, uint8_t *inbox, size_t inbox_length,
+                      uint8_t *buffer, size_t buffer_length, struct lu62_answer *answer);
+
+/* The state in an image of LU62_IMAGE bytes, LU62_RESET to LU62_CONFIRM_AWAITED. */
+static inline uint32_t lu62_state(const uint8_t *image)
+{
+    return image[1];
+}
+
+#ifdef __cplusplus
+}
+#endif
+
+#endif

@@ -1,0 +1,596 @@
+//! Two joined ends, called in any order with anything their callers choose, units crossing on the line. After every call each
+//! sentence about joined ends is checked: never both in Send; no take refused as a breach; bytes accepted are those read, then in
+//! the inbox, on the line and in the send buffer; the credit count; and, for a part of the runs, the same outcome when the same
+//! calls of each end are made in another order between the ends.
+mod common;
+
+use common::{at, credit, word, Random};
+use lu62::{number, Answer, End, Mark, ReadAnswer, Refusal, Role, Session};
+use plain::{walk, Place};
+use std::collections::VecDeque;
+
+const SEED: u64 = 0x6C75_3632_0001;
+const CALLS: usize = 1_300_000;
+
+#[derive(Clone, Debug, PartialEq, Eq)]
+enum Call {
+    Allocate,
+    SendData(Vec<u8>),
+    Flush,
+    Confirm,
+    Turn(bool),
+    Deallocate(bool),
+    Confirmed,
+    Pace,
+    Take,
+    // The cells that the caller's buffer holds before the read.
+    Read(Vec<u8>),
+}
+
+#[derive(Clone, Debug, PartialEq, Eq)]
+enum Outcome {
+    Called(Result<Answer, Refusal>),
+    // A read's outcome with every cell of the caller's buffer after it.
+    Read(Result<ReadAnswer, Refusal>, Vec<u8>),
+}
+
+#[derive(Clone, Copy, Debug)]
+struct Sizes {
+    window: [u8; 2],
+    max: [u32; 2],
+    send: [usize; 2],
+    unit: [usize; 2],
+    inbox: [usize; 2],
+}
+
+// One end with the buffers lent to it, the line towards it, and what the test knows of its history.
+struct Side {
+    end: End,
+    send: Vec<u8>,
+    unit: Vec<u8>,
+    inbox: Vec<u8>,
+    // Units that the partner made and this end has not taken, oldest first.
+    line: VecDeque<Vec<u8>>,
+    // Bytes accepted here and not yet read at the partner.
+    unread: VecDeque<u8>,
+    // Data bytes on the line towards this end.
+    on_line: usize,
+    given: Place,
+    read: Place,
+    requests: usize,
+    pacing_taken: usize,
+    records_read: usize,
+}
+
+#[derive(Default)]
+struct Seen {
+    calls: usize,
+    accepted: [usize; 10],
+    refused: [usize; 30],
+    grants: usize,
+    bid_refusals: usize,
+    marks: [usize; 6],
+    records: usize,
+    units_a_record: usize,
+    whole_checks: usize,
+    compared: usize,
+    wrapped: usize,
+}
+
+struct Pair {
+    sides: [Side; 2],
+}
+
+fn data_ru(unit: &[u8]) -> &[u8] {
+    if unit[2] <= 3 {
+        &unit[5..]
+    } else {
+        &[]
+    }
+}
+
+fn session(sizes: &Sizes, who: usize) -> Session {
+    Session {
+        role: if who == 0 { Role::FirstSpeaker } else { Role::Bidder },
+        out_window: sizes.window[who],
+        in_window: sizes.window[1 - who],
+        out_max: sizes.max[who],
+        in_max: sizes.max[1 - who],
+    }
+}
+
+impl Pair {
+    // Both ends opened. The cells of the buffers come from a generator of their own, so that two pairs can start alike.
+    fn open(sizes: &Sizes, cells: u64) -> Pair {
+        let mut random = Random(cells);
+        let mut side = |who: usize| {
+            let mut send = vec![0; sizes.send[who]];
+            let mut unit = vec![0; sizes.unit[who]];
+            let mut inbox = vec![0; sizes.inbox[who]];
+            random.fill(&mut send);
+            random.fill(&mut unit);
+            random.fill(&mut inbox);
+            let end = End::open(session(sizes, who), &send, &unit, &inbox).expect("these sizes are in range");
+            Side {
+                end,
+                send,
+                unit,
+                inbox,
+                line: VecDeque::new(),
+                unread: VecDeque::new(),
+                on_line: 0,
+                given: Place::Between,
+                read: Place::Between,
+                requests: 0,
+                pacing_taken: 0,
+                records_read: 0,
+            }
+        };
+        Pair { sides: [side(0), side(1)] }
+    }
+
+    // One call at one end. A take needs a unit on the line.
+    fn call(&mut self, who: usize, call: &Call) -> Outcome {
+        let side = &mut self.sides[who];
+        let result = match call {
+            Call::Allocate => side.end.allocate(&mut side.unit),
+            Call::SendData(bytes) => side.end.send_data(bytes, &mut side.send, &mut side.unit),
+            Call::Flush => side.end.flush(&side.send, &mut side.unit),
+            Call::Confirm => side.end.confirm(&side.send, &mut side.unit),
+            Call::Turn(confirm) => side.end.prepare_to_receive(*confirm, &side.send, &mut side.unit),
+            Call::Deallocate(confirm) => side.end.deallocate(*confirm, &side.send, &mut side.unit),
+            Call::Confirmed => side.end.confirmed(&mut side.unit),
+            Call::Pace => side.end.send_pacing_response(&mut side.unit),
+            Call::Take => {
+                let unit = side.line.front().expect("a take is made only where a unit waits");
+                side.end.receive_unit(unit, &mut side.inbox, &mut side.unit)
+            }
+            Call::Read(cells) => {
+                let mut buffer = cells.clone();
+                let result = side.end.receive(&mut side.inbox, &mut buffer);
+                return Outcome::Read(result, buffer);
+            }
+        };
+        if let Ok(answer) = result {
+            if *call == Call::Take {
+                let taken = side.line.pop_front().unwrap_or_default();
+                side.on_line -= data_ru(&taken).len();
+                if taken[2..5] == [0x83, 0x01, 0x00] {
+                    side.pacing_taken += 1;
+                }
+            }
+            if answer.unit > 0 {
+                let unit = side.unit[..answer.unit].to_vec();
+                if unit[2] & 0x80 == 0 {
+                    side.requests += 1;
+                }
+                let other = &mut self.sides[1 - who];
+                other.on_line += data_ru(&unit).len();
+                other.line.push_back(unit);
+            }
+        }
+        Outcome::Called(result)
+    }
+
+    // What the outcome adds to the histories, with the checks that belong to this one call.
+    fn note(&mut self, who: usize, call: &Call, outcome: &Outcome, seen: &mut Seen) {
+        seen.calls += 1;
+        let place = match call {
+            Call::Allocate => 0,
+            Call::SendData(_) => 1,
+            Call::Flush => 2,
+            Call::Confirm => 3,
+            Call::Turn(_) => 4,
+            Call::Deallocate(_) => 5,
+            Call::Confirmed => 6,
+            Call::Pace => 7,
+            Call::Take => 8,
+            Call::Read(_) => 9,
+        };
+        let refusal = match outcome {
+            Outcome::Called(Err(refusal)) | Outcome::Read(Err(refusal), _) => Some(*refusal),
+            _ => None,
+        };
+        if let Some(refusal) = refusal {
+            assert!(!refusal.is_breach(), "a take between joined ends was refused: {refusal}");
+            assert_ne!(refusal.number, number::BAD_BUFFER, "the buffers are those of opening");
+            assert_ne!(refusal.number, number::BAD_RECORD, "calls left a record out of range");
+            seen.refused[refusal.number as usize] += 1;
+        } else {
+            seen.accepted[place] += 1;
+        }
+        match (call, outcome) {
+            (Call::SendData(bytes), Outcome::Called(result)) => {
+                let side = &mut self.sides[who];
+                let after = walk(side.given, bytes);
+                match result {
+                    Ok(_) => {
+                        side.given = after.expect("an accepted LL is in range");
+                        side.unread.extend(bytes);
+                    }
+                    Err(refusal) => {
+                        let image = side.end.image();
+                        let fits = (1..=word(image, at::OUT_MAX)).contains(&bytes.len());
+                        assert_eq!(
+                            refusal.number == number::BAD_LL,
+                            fits && image[at::STATE] == 1 && after.is_none(),
+                            "8 is for a bad LL given in Send: {refusal}"
+                        );
+                    }
+                }
+            }
+            (Call::Read(cells), Outcome::Read(result, buffer)) => {
+                let (one, two) = self.sides.split_at_mut(1);
+                let (reader, giver) = if who == 0 { (&mut one[0], &mut two[0]) } else { (&mut two[0], &mut one[0]) };
+                let copied = result.map_or(0, |answer| answer.copied);
+                assert_eq!(buffer[copied..], cells[copied..], "cells past the bytes copied keep what they had");
+                if let Ok(answer) = result {
+                    for (i, byte) in buffer[..copied].iter().enumerate() {
+                        let next = giver.unread.pop_front();
+                        assert_eq!(Some(*byte), next, "byte {i} read is not the next byte accepted");
+                        let place = walk(reader.read, &[*byte]).expect("an LL read is in range");
+                        reader.read = place;
+                        let last = i + 1 == copied;
+                        assert!(last || place != Place::Between, "a read went past the end of a record");
+                    }
+                    assert_eq!(answer.complete, copied > 0 && reader.read == Place::Between);
+                    assert_eq!(answer.mark != Mark::None, copied == 0);
+                    if answer.complete {
+                        reader.records_read += 1;
+                        seen.records += 1;
+                    }
+                    seen.marks[answer.mark as usize] += 1;
+                } else {
+                    assert_eq!(buffer, cells);
+                    assert!(matches!(result, Err(r) if r.number == number::NOTHING_TO_READ || r.number == number::BAD_LENGTH));
+                }
+            }
+            (Call::Take, Outcome::Called(Ok(answer))) if answer.unit > 0 => match self.sides[who].unit[2] {
+                0xCB => seen.grants += 1,
+                0xCF => seen.bid_refusals += 1,
+                other => panic!("a take made a unit of kind {other:02X}"),
+            },
+            _ => {}
+        }
+    }
+
+    // What must hold after every call. The bytes themselves are compared where `whole` says so, their number always.
+    fn check(&self, sizes: &Sizes, whole: bool) {
+        let images = [self.sides[0].end.image(), self.sides[1].end.image()];
+        assert!(!(images[0][at::STATE] == 1 && images[1][at::STATE] == 1), "both ends are in Send");
+        for who in 0..2 {
+            let (giver, taker) = (&self.sides[who], &self.sides[1 - who]);
+            let window = usize::from(sizes.window[who]);
+            assert_eq!(
+                giver.requests + credit(images[who], at::OUT_WINDOW),
+                window * (1 + giver.pacing_taken),
+                "requests made and credit left are not the windows allowed"
+            );
+            let inbox = word(images[1 - who], at::IN_HELD);
+            let held = word(images[who], at::OUT_HELD);
+            assert_eq!(giver.unread.len(), inbox + taker.on_line + held, "bytes were lost or made");
+            if whole {
+                let mut rest = giver.unread.iter();
+                let mut same = |bytes: &[u8]| bytes.iter().all(|byte| rest.next() == Some(byte));
+                assert!(same(&taker.inbox[..inbox]), "bytes in the inbox");
+                assert!(taker.line.iter().all(|unit| same(data_ru(unit))), "bytes on the line");
+                assert!(same(&giver.send[..held]), "bytes in the send buffer");
+            }
+        }
+    }
+}
+
+// How the callers of one run behave.
+struct Habits {
+    // How often, of 16, a call is one that the state does not suggest.
+    odd: usize,
+    // How often, of 16, the end that called last calls again.
+    stay: usize,
+    // How often, of 16, a suggested call is a take, or a read.
+    take: usize,
+    read: usize,
+    // How often, of 16, an end in Send with a whole record closes in one of the ways.
+    close: usize,
+    longest_record: usize,
+    longest_read: usize,
+    largest_gift: usize,
+}
+
+fn habits(random: &mut Random, sizes: &Sizes) -> Habits {
+    let largest = sizes.max[0].max(sizes.max[1]) as usize;
+    let longest_record = match random.below(4) {
+        0 => random.range(2, 12),
+        1 => random.range(2, largest + 10),
+        2 => (largest * random.range(2, 20)).min(32767),
+        _ => 32767,
+    };
+    Habits {
+        odd: random.range(0, 4),
+        stay: random.range(0, 15),
+        take: random.range(2, 14),
+        read: random.range(2, 14),
+        close: random.range(1, 12),
+        longest_record,
+        longest_read: if random.chance(1, 2) { random.range(1, 20) } else { random.range(1, 3000) },
+        largest_gift: if random.chance(1, 3) { 9 } else { 1024 },
+    }
+}
+
+// Bytes of records that go on from `place`. With `bad`, an LL among them is out of range.
+fn gift(random: &mut Random, mut place: Place, length: usize, longest: usize, bad: bool) -> Vec<u8> {
+    let mut bytes = vec![0; length];
+    random.fill(&mut bytes);
+    let mut i = 0;
+    while i < length {
+        match place {
+            Place::Between => {
+                let ll = match random.below(4) {
+                    0 => 2,
+                    1 => random.range(2, longest.min(9)),
+                    _ => random.range(2, longest),
+                };
+                let ll = if bad { random.pick(&[0, 1, 0x8000, 0xFFFF]) } else { ll };
+                let [high, low] = (ll as u16).to_be_bytes();
+                bytes[i] = high;
+                i += 1;
+                place = Place::AfterFirst(high);
+                if i < length {
+                    bytes[i] = low;
+                    i += 1;
+                    place = match ll {
+                        0..=2 => Place::Between,
+                        _ => Place::Left((ll as u16 - 2).min(32765)),
+                    };
+                }
+            }
+            Place::AfterFirst(high) => {
+                // LL 00 00 and 00 01 are bad; with any other first byte up to 7F every second byte is good.
+                let low = match (high, bad) {
+                    (0, true) => random.below(2) as u8,
+                    (0, false) => random.range(2, 255) as u8,
+                    _ => random.byte(),
+                };
+                bytes[i] = low;
+                i += 1;
+                let ll = u16::from_be_bytes([high, low]);
+                place = if ll <= 2 { Place::Between } else { Place::Left(ll - 2) };
+            }
+            Place::Left(left) => {
+                let skipped = (length - i).min(usize::from(left));
+                i += skipped;
+                place = if skipped == usize::from(left) { Place::Between } else { Place::Left(left - skipped as u16) };
+            }
+        }
+    }
+    bytes
+}
+
+fn send_data(random: &mut Random, side: &Side, max: usize, habits: &Habits) -> Call {
+    let length = match (side.given, random.below(8)) {
+        (_, 0) => max,
+        // Often exactly to the end of the record, so that it can be closed.
+        (Place::Left(left), 1..=3) if usize::from(left) <= max => usize::from(left),
+        _ => random.range(1, max.min(habits.largest_gift)),
+    };
+    let bytes = gift(random, side.given, length, habits.longest_record, false);
+    // An end whose last byte given is a first LL byte of 80 or more could never send again.
+    match walk(side.given, &bytes) {
+        Some(Place::AfterFirst(0x80..)) | None => Call::Flush,
+        Some(_) => Call::SendData(bytes),
+    }
+}
+
+fn read(random: &mut Random, habits: &Habits) -> Call {
+    let length = random.range(1, habits.longest_read);
+    let mut cells = vec![0; length];
+    random.fill(&mut cells);
+    Call::Read(cells)
+}
+
+fn odd_call(random: &mut Random, side: &Side, max: usize, habits: &Habits) -> Call {
+    match random.below(13) {
+        0 => Call::Allocate,
+        1 => Call::Flush,
+        2 => Call::Confirm,
+        3 => Call::Turn(random.chance(1, 2)),
+        4 => Call::Deallocate(random.chance(1, 2)),
+        5 => Call::Confirmed,
+        6 => Call::Pace,
+        7 => Call::Take,
+        8 => Call::Read(Vec::new()),
+        9 => Call::SendData(vec![0; if random.chance(1, 2) { 0 } else { max + 1 }]),
+        10 => {
+            let bytes = gift(random, side.given, max.min(64), habits.longest_record.min(40), true);
+            if walk(side.given, &bytes).is_none() {
+                Call::SendData(bytes)
+            } else {
+                Call::Flush
+            }
+        }
+        11 => send_data(random, side, max, habits),
+        _ => read(random, habits),
+    }
+}
+
+// The next call of an end: mostly one that its state suggests.
+fn choose(random: &mut Random, side: &Side, max: usize, habits: &Habits) -> Call {
+    if random.chance(habits.odd, 16) {
+        return odd_call(random, side, max, habits);
+    }
+    let image = side.end.image();
+    if random.chance(habits.take, 16) && !side.line.is_empty() && (image[at::MARK] == 0 || random.chance(1, 8)) {
+        return Call::Take;
+    }
+    if random.chance(habits.read, 16) && (word(image, at::IN_HELD) > 0 || image[at::MARK] != 0) {
+        return read(random, habits);
+    }
+    if image[at::IN_WINDOW + 2] == 1 && random.chance(4, 16) {
+        return Call::Pace;
+    }
+    match image[at::STATE] {
+        0 => Call::Allocate,
+        1 if side.given == Place::Between && random.chance(habits.close, 16) => match random.below(4) {
+            0 => Call::Confirm,
+            1 => Call::Deallocate(random.chance(1, 2)),
+            2 => Call::Flush,
+            _ => Call::Turn(random.chance(1, 2)),
+        },
+        1 if random.chance(1, 16) => Call::Flush,
+        1 => send_data(random, side, max, habits),
+        3 => Call::Confirmed,
+        _ => Call::Take,
+    }
+}
+
+fn sizes(random: &mut Random) -> Sizes {
+    let mut window = [0; 2];
+    let mut max = [0; 2];
+    for who in 0..2 {
+        window[who] = if random.chance(1, 2) { random.range(1, 4) } else { random.range(1, 63) } as u8;
+        max[who] = match random.below(3) {
+            0 => random.range(8, 16),
+            1 => random.range(8, 100),
+            _ => random.range(8, 1024),
+        } as u32;
+    }
+    let mut sizes = Sizes { window, max, send: [0; 2], unit: [0; 2], inbox: [0; 2] };
+    for who in 0..2 {
+        let spare = if random.chance(1, 2) { 0 } else { random.below(20) };
+        sizes.send[who] = max[who] as usize + spare;
+        sizes.unit[who] = max[who] as usize + 5 + spare;
+        let least = usize::from(window[1 - who]) * max[1 - who] as usize;
+        sizes.inbox[who] = if random.chance(1, 2) { least } else { random.range(least, 65535.min(3 * least)) };
+    }
+    sizes
+}
+
+// Everything that must be the same after two orders: records, every lent cell, lines, and each end's answers in order.
+fn same_outcome(first: &Pair, second: &Pair, answers: &[Vec<Outcome>; 2], others: &[Vec<Outcome>; 2]) {
+    for who in 0..2 {
+        let (one, two) = (&first.sides[who], &second.sides[who]);
+        assert_eq!(one.end, two.end, "records differ after another order");
+        assert!(one.send == two.send && one.unit == two.unit && one.inbox == two.inbox, "lent cells differ");
+        assert_eq!(one.line, two.line, "lines differ after another order");
+        assert!(answers[who] == others[who], "answers differ after another order");
+    }
+}
+
+// The same calls of each end in another order between the ends. A take waits until there is a unit.
+fn replay(random: &mut Random, sizes: &Sizes, cells: u64, calls: &[Vec<Call>; 2], stay: usize) -> (Pair, [Vec<Outcome>; 2]) {
+    let mut pair = Pair::open(sizes, cells);
+    let mut answers = [Vec::new(), Vec::new()];
+    let mut who = random.below(2);
+    loop {
+        let ready = |w: usize| match calls[w].get(answers[w].len()) {
+            None => false,
+            Some(Call::Take) => !pair.sides[w].line.is_empty(),
+            Some(_) => true,
+        };
+        if !random.chance(stay, 16) {
+            who = 1 - who;
+        }
+        if !ready(who) {
+            who = 1 - who;
+        }
+        if !ready(who) {
+            break;
+        }
+        let outcome = pair.call(who, &calls[who][answers[who].len()]);
+        answers[who].push(outcome);
+    }
+    for w in 0..2 {
+        assert_eq!(answers[w].len(), calls[w].len(), "another order of the same calls stands still");
+    }
+    (pair, answers)
+}
+
+fn run(random: &mut Random, sizes: &Sizes, habits: &Habits, calls: usize, compare: bool, seen: &mut Seen) {
+    let cells = random.next();
+    let mut pair = Pair::open(sizes, cells);
+    let mut lists: [Vec<Call>; 2] = [Vec::new(), Vec::new()];
+    let mut answers: [Vec<Outcome>; 2] = [Vec::new(), Vec::new()];
+    let mut who = 0;
+    let mut until_whole = 0;
+    for _ in 0..calls {
+        if !random.chance(habits.stay, 16) {
+            who = 1 - who;
+        }
+        let call = choose(random, &pair.sides[who], sizes.max[who] as usize, habits);
+        // A take with nothing waiting is no call of the end.
+        if call == Call::Take && pair.sides[who].line.is_empty() {
+            continue;
+        }
+        let outcome = pair.call(who, &call);
+        pair.note(who, &call, &outcome, seen);
+        let whole = until_whole == 0;
+        pair.check(sizes, whole);
+        if whole {
+            seen.whole_checks += 1;
+            // Comparing all bytes after every call would make runs with large inboxes slow.
+            until_whole = (pair.sides[0].unread.len() + pair.sides[1].unread.len()) / 256;
+        } else {
+            until_whole -= 1;
+        }
+        if compare {
+            lists[who].push(call);
+            answers[who].push(outcome);
+        }
+    }
+    pair.check(sizes, true);
+    for (side, other) in [(0, 1), (1, 0)] {
+        let units = pair.sides[side].requests.checked_div(pair.sides[other].records_read);
+        seen.units_a_record = seen.units_a_record.max(units.unwrap_or(0));
+        if pair.sides[side].requests > 65_536 {
+            seen.wrapped += 1;
+        }
+    }
+    if compare {
+        for stay in [15, 2, 9] {
+            let (other, others) = replay(random, sizes, cells, &lists, stay);
+            same_outcome(&pair, &other, &answers, &others);
+            seen.compared += 1;
+        }
+    }
+}
+
+#[test]
+fn joined_ends() {
+    let mut random = Random(SEED);
+    let mut seen = Seen::default();
+    // Two long runs with little units, so that sequence numbers pass 65,535 both ways.
+    for window in [7, 63] {
+        let least = usize::from(window) * 8;
+        let little = Sizes { window: [window, window], max: [8, 8], send: [8, 8], unit: [13, 13], inbox: [2 * least, 2 * least] };
+        let eager =
+            Habits { odd: 1, stay: 8, take: 10, read: 9, close: 3, longest_record: 40, longest_read: 64, largest_gift: 1024 };
+        run(&mut random, &little, &eager, 1_000_000, false, &mut seen);
+    }
+    assert!(seen.wrapped >= 2, "the sequence numbers did not wrap");
+    let mut runs = 0;
+    let long_runs = seen.calls;
+    while seen.calls < long_runs + CALLS {
+        let sizes = sizes(&mut random);
+        let habits = habits(&mut random, &sizes);
+        let calls = random.range(20, 3000);
+        run(&mut random, &sizes, &habits, calls, runs % 4 == 0, &mut seen);
+        runs += 1;
+    }
+    println!(
+        "joined: seed {SEED:#x}, {} calls in {} runs, {} records read, {} compared orders, {} comparisons of all bytes",
+        seen.calls,
+        runs + 2,
+        seen.records,
+        seen.compared,
+        seen.whole_checks
+    );
+    println!("joined: accepted by call {:?}", seen.accepted);
+    println!("joined: refused by number {:?}", seen.refused);
+    println!("joined: bids granted {}, refused {}; marks read {:?}", seen.grants, seen.bid_refusals, seen.marks);
+    // Runs that never reach a rule would show nothing about it.
+    assert!(seen.calls >= 1_000_000 && seen.compared >= 100);
+    assert!(seen.accepted.iter().all(|&n| n >= 1000));
+    assert!([6, 7, 8, 9, 10, 11, 12, 13].iter().all(|&n: &usize| seen.refused[n] >= 1000));
+    assert!(seen.grants >= 1000 && seen.bid_refusals >= 1000);
+    assert!(seen.marks[1..].iter().all(|&n| n >= 1000));
+    assert!(seen.records >= 10_000 && seen.units_a_record >= 20);
+}
