@@ -7,7 +7,8 @@ pub mod walk;
 
 // A record place: where a stream of logical records stands after its bytes so far.
 // Any value may come in, also one that no stream leads to: `is_position` tells the paper's record places from those.
-// Other crates go by this one's functions and definitions and not by the variants, so that a record place may come to hold more.
+// Other crates go by this one's functions and definitions and not by the variants, so that a record place may come to hold more;
+// only `image`, which lays a record out in bytes, names them.
 pub enum Position {
     // Between records.
     Between,
