@@ -6,10 +6,10 @@ use crate::numbers::BAD_HEADER;
 use crate::questions::ask;
 use control::Control;
 use control::WhatReceived;
-use unit::Rule;
+use header::Rule;
 ghost use mathlib.Core.Path.{_≡_};
 ghost use mathlib.Core.Bool.{false};
-ghost use Rattle.unit.specs.Rules.{ruleNumber};
+ghost use Rattle.header.specs.Rules.{ruleNumber};
 ghost use Rattle.answers.specs.Answers.{senseOf, accepted, refused, refusedNaming, readRefused, readAccepted};
 
 // The refusal number, 0 if accepted; its sense; the rule for 21, else 0; and the length of the unit made, 0 for none.

@@ -11,13 +11,13 @@ use lib.ListN.{length, length-append, length-take}
 use Rattle.cells.specs.Cells.{front}
 use Rattle.unit.specs.Ru.{bidRu, fixedRu}
 use Rattle.unit.specs.Unit.{unitOf, numberIn}
-use Rattle.unit.specs.declared.Follows.{Follows}
-use Rattle.unit.specs.declared.Follows.the-variants.{Stay, ChangeDirection, EndBracket}
-use Rattle.unit.specs.declared.Header.{Header}
-use Rattle.unit.specs.declared.Header.the-variants.{Data, Bid, PositiveBidResponse, NegativeBidResponse, Confirmation, PacingResponse}
+use Rattle.header.specs.declared.Follows.{Follows}
+use Rattle.header.specs.declared.Follows.the-variants.{Stay, ChangeDirection, EndBracket}
+use Rattle.header.specs.declared.Header.{Header}
+use Rattle.header.specs.declared.Header.the-variants.{Data, Bid, PositiveBidResponse, NegativeBidResponse, Confirmation, PacingResponse}
 use Rattle.unit.proofs.Units.{unit-length}
 use Rattle.pacing.specs.Pacing.{windowGood}
-use Rattle.control.specs.Transitions.{bidAnswer}
+use Rattle.transitions.specs.Transitions.{bidAnswer}
 use Rattle.sides.specs.Shared.{maxGood}
 use Rattle.sides.specs.Sending.{sendingGood}
 use Rattle.end.specs.Record.{recordGood}

@@ -3,7 +3,7 @@ use check::same;
 use end::Done;
 use end::End;
 use end::Session;
-use end::opening::open_session;
+use session::open_session;
 
 // Window 3 and maximum RU 64 both ways.
 fn opened(role: u8) -> Done {

@@ -1,4 +1,4 @@
 pub mod Tests
 pub mod Within
 pub mod Questions
-pub mod Transitions
+pub mod Parts

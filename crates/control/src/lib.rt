@@ -1,9 +1,8 @@
-// The finite part of an end's record: role, state, what follows a confirmation, the mark, the flags and the open chains,
-// with every transition of it. Numbers, windows and bytes are left to the end.
+// The finite part of an end's record: role, state, what follows a confirmation, the mark, the flags and the open chains. Numbers, windows and bytes are left to the end.
 
+mod parts;
 pub mod questions;
 pub mod tests;
-pub mod transitions;
 
 // Document 01's role.
 pub enum Role {
@@ -35,7 +34,7 @@ pub enum WhatReceived {
 pub struct Control {
     pub role: Role,
     pub state: State,
-    pub follows: unit::Follows,
+    pub follows: header::Follows,
     pub mark: WhatReceived,
     pub due: bool,
     pub bid: bool,

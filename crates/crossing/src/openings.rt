@@ -3,8 +3,8 @@ use crate::SEND_BUFFER;
 use crate::UNIT_BUFFER;
 use end::Done;
 use end::Session;
-use end::opening::open_session;
 use script::Sizes;
+use session::open_session;
 
 // A window that a byte cannot hold is out of range like 255, and is refused like it.
 fn window(n: u16) -> u8 {

@@ -1,4 +1,3 @@
-mod Openings
 mod Within
 mod Rooms
 mod Spills

@@ -5,7 +5,7 @@ use mathlib.Core.Path.{_≡_}
 use mathlib.Core.Bool.{Bool, true}
 use native.Mathlib.Omega.{arith}
 use borrow.Author.Tests.{leb-true}
-use Rattle.unit.specs.declared.Follows.{Follows}
+use Rattle.header.specs.declared.Follows.{Follows}
 use Rattle.answers.proofs.Rows.{both, yes}
 use Rattle.end.specs.Record.{recordGood, sendLent, unitLent}
 use Rattle.end.specs.Allocate.{allocateQuestions, allocateRefusal}

@@ -10,12 +10,12 @@ use lib.Dec.{leb}
 use lib.ListN.{length}
 use borrow.Author.Tests.{leb-true, eqb-true}
 use Rattle.unit.specs.Ru.{marks, ruGood, fixedRu}
-use Rattle.unit.specs.declared.DataHeader.{DataHeader}
-use Rattle.unit.specs.declared.Header.{Header}
-use Rattle.unit.specs.declared.Header.the-variants.{Data, PositiveBidResponse, NegativeBidResponse}
+use Rattle.header.specs.declared.DataHeader.{DataHeader}
+use Rattle.header.specs.declared.Header.{Header}
+use Rattle.header.specs.declared.Header.the-variants.{Data, PositiveBidResponse, NegativeBidResponse}
 use Rattle.pacing.specs.Pacing.{credit, hasCredit, paced}
 use Rattle.control.specs.Tests.{isReset, agree}
-use Rattle.control.specs.Transitions.{bidAnswer}
+use Rattle.transitions.specs.Transitions.{bidAnswer}
 use Rattle.control.specs.declared.Control.{Control}
 use Rattle.answers.specs.Questions.{firstNo}
 use Rattle.answers.proofs.Rows.{both, yes}

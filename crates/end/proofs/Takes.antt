@@ -8,10 +8,10 @@ use native.Mathlib.Omega.{arith}
 use lib.Dec.{eqb, leb}
 use lib.ListN.{length}
 use borrow.Author.Tests.{ne-eqb}
-use Rattle.unit.specs.Rules.{headerGood}
+use Rattle.header.specs.Rules.{headerGood}
 use Rattle.unit.specs.Unit.{RU-START, numberIn, headerIn}
-use Rattle.unit.specs.declared.Header.{Header}
-use Rattle.unit.specs.declared.Header.the-variants.{Data, Bid, PositiveBidResponse, NegativeBidResponse, Confirmation, PacingResponse}
+use Rattle.header.specs.declared.Header.{Header}
+use Rattle.header.specs.declared.Header.the-variants.{Data, Bid, PositiveBidResponse, NegativeBidResponse, Confirmation, PacingResponse}
 use Rattle.answers.specs.Questions.{firstNo}
 use Rattle.answers.specs.Answers.{SHORT-UNIT, BAD-HEADER, refused}
 use Rattle.answers.proofs.Rows.{yes}

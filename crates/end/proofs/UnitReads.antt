@@ -7,10 +7,10 @@ use mathlib.Core.List.{List}
 use native.Mathlib.Omega.{arith}
 use lib.Dec.{leb}
 use lib.ListN.{length}
-use Rattle.unit.specs.Rules.{headerGood}
+use Rattle.header.specs.Rules.{headerGood}
 use Rattle.unit.specs.Unit.{RU-START, numberIn, headerIn, headingOf, unitReadAs}
 use Rattle.unit.specs.declared.Heading.{Heading}
-use Rattle.unit.specs.declared.Rule.{Rule}
+use Rattle.header.specs.declared.Rule.{Rule}
 use Rattle.unit.specs.declared.UnitRead.the-variants as unitRead
 use Rattle.end.specs.ReceiveUnit.{headerTaken}
 

@@ -5,11 +5,11 @@ use mathlib.Core.Bool.{Bool, cond, _||_}
 use mathlib.Core.List.{List, [], _∷_}
 use lib.ListN.{length}
 use Rattle.unit.specs.Ru.{bidRu}
-use Rattle.unit.specs.declared.Header.the-variants.{Bid}
+use Rattle.header.specs.declared.Header.the-variants.{Bid}
 use Rattle.pacing.specs.Pacing.{paced, hasCredit}
 use Rattle.control.specs.Tests.{isFirstSpeaker}
 use Rattle.control.specs.Questions.{mayAllocate}
-use Rattle.control.specs.Transitions.{allocated}
+use Rattle.transitions.specs.Transitions.{allocated}
 use Rattle.answers.specs.Questions.{firstNo}
 use Rattle.answers.specs.Answers.{BAD-BUFFER, BAD-RECORD, WRONG-STATE, NO-CREDIT}
 use Rattle.sides.specs.Shared.{nextNumber}

@@ -4,9 +4,9 @@ use Prim.Native.Nat.{ℕ}
 use mathlib.Core.Bool.{Bool}
 use mathlib.Core.List.{List, [], _∷_}
 use lib.ListN.{length}
-use Rattle.unit.specs.declared.Header.the-variants.{Confirmation}
+use Rattle.header.specs.declared.Header.the-variants.{Confirmation}
 use Rattle.control.specs.Questions.{mayConfirm}
-use Rattle.control.specs.Transitions.{confirmationMade}
+use Rattle.transitions.specs.Transitions.{confirmationMade}
 use Rattle.answers.specs.Questions.{firstNo}
 use Rattle.answers.specs.Answers.{BAD-BUFFER, BAD-RECORD, WRONG-STATE}
 use Rattle.end.specs.Record.{recordGood, unitLent}

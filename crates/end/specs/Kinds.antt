@@ -4,7 +4,7 @@ use Prim.Native.Nat.{ℕ}
 use mathlib.Core.Bool.{cond}
 use mathlib.Core.List.{List}
 use lib.Dec.{eqb}
-use Rattle.unit.specs.declared.Header.{Header}
+use Rattle.header.specs.declared.Header.{Header}
 use Rattle.answers.specs.Questions.{firstNo}
 use Rattle.answers.specs.Answers.{refusedNaming}
 use Rattle.end.specs.Outcome.{cellsOut, doneOf, Taken}

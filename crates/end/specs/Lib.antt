@@ -1,7 +1,6 @@
 pub mod Record
 pub mod Requests
 pub mod Outcome
-pub mod Opening
 pub mod Allocate
 pub mod SendData
 pub mod Close

@@ -7,7 +7,7 @@ use lib.Dec.{eqb}
 use lib.ListN.{length}
 use Rattle.cells.specs.Cells.{front}
 use Rattle.unit.specs.Unit.{RU-START, unitOf}
-use Rattle.unit.specs.declared.Header.{Header}
+use Rattle.header.specs.declared.Header.{Header}
 use Rattle.control.specs.declared.Control.{Control}
 use Rattle.answers.specs.Answers.{accepted, refused}
 use Rattle.answers.specs.declared.Answer.{Answer}

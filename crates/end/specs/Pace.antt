@@ -4,7 +4,7 @@ use Prim.Native.Nat.{ℕ}
 use mathlib.Core.Bool.{Bool}
 use mathlib.Core.List.{List, [], _∷_}
 use lib.ListN.{length}
-use Rattle.unit.specs.declared.Header.the-variants.{PacingResponse}
+use Rattle.header.specs.declared.Header.the-variants.{PacingResponse}
 use Rattle.answers.specs.Questions.{firstNo}
 use Rattle.answers.specs.Answers.{BAD-BUFFER, BAD-RECORD, NOTHING-TO-PACE}
 use Rattle.sides.specs.Receiving.{mayPace, windowAnswered}

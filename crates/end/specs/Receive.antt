@@ -12,11 +12,11 @@ use Rattle.logical_record.specs.Reading.{rest}
 use Rattle.logical_record.specs.declared.Position.{Position}
 use Rattle.logical_record.specs.declared.Rest.{Rest}
 use Rattle.control.specs.Tests.{isNothing}
-use Rattle.control.specs.Transitions.{markAnswered}
+use Rattle.transitions.specs.Transitions.{markAnswered}
 use Rattle.control.specs.declared.WhatReceived.the-variants as mark
 use Rattle.answers.specs.Questions.{firstNo}
 use Rattle.answers.specs.Answers.{BAD-BUFFER, BAD-RECORD, BAD-LENGTH, BAD-LL, NOTHING-TO-READ, readRefused, readAccepted}
-use Rattle.sides.specs.Reading.{restBytes, restGood, bytesGone}
+use Rattle.reading.specs.Reading.{restBytes, restGood, bytesGone}
 use Rattle.end.specs.Record.{recordGood, inboxLent}
 use Rattle.end.specs.Outcome.{Copied, withControl, withReceiving}
 use Rattle.end.specs.declared.End.{End}

@@ -7,22 +7,22 @@ use lib.Dec.{eqb, leb}
 use lib.ListN.{length, drop}
 use Rattle.cells.specs.Cells.{written}
 use Rattle.logical_record.specs.Walk.{walk, placeOr}
-use Rattle.unit.specs.Rules.{headerGood}
-use Rattle.unit.specs.Header.{fieldsOf, confirms}
+use Rattle.header.specs.Rules.{headerGood}
+use Rattle.header.specs.Header.{fieldsOf, confirms}
 use Rattle.unit.specs.Ru.{fixedRu}
 use Rattle.unit.specs.Unit.{RU-START, numberIn, headerIn}
-use Rattle.unit.specs.declared.DataHeader.{DataHeader}
-use Rattle.unit.specs.declared.Header.{Header}
-use Rattle.unit.specs.declared.Header.the-variants.{Data, Bid, PositiveBidResponse, NegativeBidResponse, Confirmation, PacingResponse}
+use Rattle.header.specs.declared.DataHeader.{DataHeader}
+use Rattle.header.specs.declared.Header.{Header}
+use Rattle.header.specs.declared.Header.the-variants.{Data, Bid, PositiveBidResponse, NegativeBidResponse, Confirmation, PacingResponse}
 use Rattle.control.specs.Tests.{isNothing}
 use Rattle.control.specs.Questions.{grantFits, refusalFits, confirmationFits}
-use Rattle.control.specs.Transitions.{dataTaken, bidTaken, bidAnswer, grantTaken, refusalTaken, confirmationTaken}
+use Rattle.transitions.specs.Transitions.{dataTaken, bidTaken, bidAnswer, grantTaken, refusalTaken, confirmationTaken}
 use Rattle.answers.specs.Questions.{firstNo}
 use Rattle.answers.specs.Answers.{BAD-BUFFER, BAD-RECORD, UNREAD-MARK, SHORT-UNIT, BAD-HEADER, accepted, refusedNaming}
 use Rattle.answers.specs.declared.Answer.{Answer}
 use Rattle.sides.specs.Sending.{creditAnswered}
 use Rattle.sides.specs.Receiving.{requestTaken}
-use Rattle.sides.specs.Taking.{dataQuestions, bidQuestions, responseQuestions, pacingQuestions}
+use Rattle.taking.specs.Taking.{dataQuestions, bidQuestions, responseQuestions, pacingQuestions}
 use Rattle.end.specs.Record.{recordGood, inboxLent, unitLent}
 use Rattle.end.specs.Outcome.{nothing, aUnit, lengthOut, cellsOut, Decision, accept, decided, Taken, withControl, withSending, withReceiving, withOwed}
 use Rattle.end.specs.declared.End.{End}

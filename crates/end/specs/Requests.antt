@@ -1,10 +1,10 @@
 -- Requests, made and taken: numbers and windows; and the data units that an end makes.
 -- Assumes nothing.
-use Rattle.unit.specs.declared.ChainEnd.{ChainEnd}
-use Rattle.unit.specs.declared.Header.{Header}
-use Rattle.unit.specs.declared.Header.the-variants.{Data}
+use Rattle.header.specs.declared.ChainEnd.{ChainEnd}
+use Rattle.header.specs.declared.Header.{Header}
+use Rattle.header.specs.declared.Header.the-variants.{Data}
 use Rattle.pacing.specs.Pacing.{paced}
-use Rattle.control.specs.Transitions.{beginOf}
+use Rattle.transitions.specs.Transitions.{beginOf}
 use Rattle.end.specs.declared.End.{End}
 
 -- the header of a data unit that an end makes next

@@ -3,9 +3,9 @@
 use mathlib.Core.Path.{_≡_}
 use Prim.Native.Nat.{ℕ}
 use mathlib.Core.Bool.{true}
-use Rattle.unit.specs.Rules.{breaks, ruleNumber}
-use Rattle.unit.specs.declared.HeaderBytes.{HeaderBytes}
-use Rattle.unit.specs.declared.Rule.{Rule}
+use Rattle.header.specs.Rules.{breaks, ruleNumber}
+use Rattle.header.specs.declared.HeaderBytes.{HeaderBytes}
+use Rattle.header.specs.declared.Rule.{Rule}
 
 -- n is the paper's number of a rule that these three bytes break
 pub record NamesBroken (n : ℕ) (h : HeaderBytes) : Type 0 where

@@ -9,10 +9,10 @@ use lib.ListN.{length, take, drop}
 use Rattle.cells.specs.Cells.{front, written}
 use Rattle.logical_record.specs.Walk.{walk, isGood, placeOr}
 use Rattle.logical_record.specs.declared.Position.{Position}
-use Rattle.unit.specs.declared.ChainEnd.the-variants.{Continues}
+use Rattle.header.specs.declared.ChainEnd.the-variants.{Continues}
 use Rattle.pacing.specs.Pacing.{hasCredit}
 use Rattle.control.specs.Questions.{maySend}
-use Rattle.control.specs.Transitions.{spilled}
+use Rattle.transitions.specs.Transitions.{spilled}
 use Rattle.answers.specs.Questions.{firstNo}
 use Rattle.answers.specs.Answers.{BAD-BUFFER, BAD-RECORD, BAD-LENGTH, WRONG-STATE, BAD-LL, NO-CREDIT}
 use Rattle.sides.specs.Shared.{nextNumber}

@@ -9,8 +9,9 @@ use answers::numbers::BAD_RECORD;
 use answers::numbers::NO_CREDIT;
 use answers::numbers::WRONG_STATE;
 use answers::questions::ask;
+use header::Header;
 use sides::outgoing::request_sent;
-use unit::Header;
+use transitions::allocated;
 ghost use mathlib.Core.Path.{_≡_};
 ghost use Prim.Native.Nat.{_≤_};
 ghost use lib.ListN.{length};
@@ -38,9 +39,9 @@ impl End {
         requires { ⌜ 10 ≤ length (now unit) ⌝ }
         ensures { λ r. ⌜ madeBy r (now (unit .exit)) ≡ made (bidMade self) (now (unit .entry)) ⌝ }
     {
-        let bidding = self.control.allocated();
+        let control = allocated(self.control);
         let next = request_sent(self.sending, self.sending.held);
-        let mut end = self.with_control(bidding).with_sending(next);
+        let mut end = self.with_control(control).with_sending(next);
         end.bidding = next.number;
         make_fixed(
             end,
@@ -59,7 +60,7 @@ impl End {
             return refused(q, self);
         }
         if self.control.speaks_first() {
-            return accepted(0, self.with_control(self.control.allocated()));
+            return accepted(0, self.with_control(allocated(self.control)));
         }
         self.bid(unit)
     }

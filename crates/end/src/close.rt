@@ -10,12 +10,13 @@ use answers::numbers::NO_CREDIT;
 use answers::numbers::UNFINISHED_RECORD;
 use answers::numbers::WRONG_STATE;
 use answers::questions::ask;
-use sides::giving::send_held;
+use giving::send_held;
+use header::ChainEnd;
+use header::Follows;
 use sides::outgoing::given_whole;
 use sides::outgoing::nothing_goes;
 use sides::outgoing::request_sent;
-use unit::ChainEnd;
-use unit::Follows;
+use transitions::closed;
 use unit::ru::marks;
 ghost use mathlib.Core.Path.{_≡_};
 ghost use Prim.Native.Nat.{_+_, _≤_};
@@ -55,10 +56,10 @@ impl End {
         ensures { λ r. ⌜ madeBy r (now (unit .exit)) ≡ made (lastMade self follows confirm (now (send .entry))) (now (unit .entry)) ⌝ }
     {
         let header = self.data_header(ChainEnd::Last { follows, confirm });
-        let closed = self.control.closed(follows, confirm);
+        let control = closed(self.control, follows, confirm);
         let next = request_sent(self.sending, 0);
         let n = send_held(next.number, header, self.sending.held, send, unit);
-        accepted(n, self.with_control(closed).with_sending(next))
+        accepted(n, self.with_control(control).with_sending(next))
     }
 
     fn close(self, follows: Follows, confirm: bool, send: &[u8], unit: &mut [u8]) -> Done

@@ -7,7 +7,8 @@ use answers::numbers::BAD_BUFFER;
 use answers::numbers::BAD_RECORD;
 use answers::numbers::WRONG_STATE;
 use answers::questions::ask;
-use unit::Header;
+use header::Header;
+use transitions::confirmation_made;
 ghost use mathlib.Core.Path.{_≡_};
 ghost use Rattle.end.specs.Confirmed.{confirmedRefusal, confirmed};
 ghost use Rattle.end.specs.Results.{madeBy};
@@ -29,7 +30,7 @@ impl End {
         if q != 0 {
             return refused(q, self);
         }
-        let next = self.control.confirmation_made();
+        let next = confirmation_made(self.control);
         make_fixed(
             self.with_control(next),
             self.owed,

@@ -2,14 +2,13 @@
 mod allocate;
 mod close;
 mod confirmed;
-pub mod opening;
 mod pace;
 mod parts;
 mod receive;
 mod receive_unit;
 mod record;
 mod requests;
-mod results;
+pub mod results;
 mod send_data;
 mod unit_effects;
 mod unit_questions;

@@ -12,11 +12,12 @@ use answers::numbers::NOTHING_TO_READ;
 use answers::questions::ask;
 use logical_record::Rest;
 use logical_record::positions::is_between;
-use sides::reading::copy_count;
-use sides::reading::read_bytes;
-use sides::reading::record_rest;
-use sides::reading::rest_good;
-use sides::reading::some_held;
+use reading::copy_count;
+use reading::read_bytes;
+use reading::record_rest;
+use reading::rest_good;
+use reading::some_held;
+use transitions::mark_answered;
 ghost use mathlib.Core.Path.{_≡_};
 ghost use Prim.Native.Nat.{_≤_};
 ghost use lib.ListN.{length};
@@ -59,7 +60,7 @@ impl End {
     {
         ReadDone {
             answer: mark_read(self.control),
-            end: self.with_control(self.control.mark_answered()),
+            end: self.with_control(mark_answered(self.control)),
         }
     }
 

@@ -28,7 +28,7 @@ impl End {
         ensures { λ r. ⌜ r ≡ unitLent self n ⌝ }
     {
         let max = self.sending.max as usize;
-        max + unit::weights::RU_START <= n
+        max + unit::RU_START <= n
     }
 
     // The inbox is exactly as long as the record says.

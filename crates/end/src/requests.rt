@@ -3,9 +3,10 @@
 use crate::Done;
 use crate::End;
 use crate::results::accepted;
-use unit::ChainEnd;
-use unit::DataHeader;
-use unit::Header;
+use header::ChainEnd;
+use header::DataHeader;
+use header::Header;
+use transitions::begin_of;
 use unit::write::write_fixed;
 ghost use mathlib.Core.Path.{_≡_};
 ghost use Prim.Native.Nat.{_+_, _≤_};
@@ -29,7 +30,7 @@ impl End {
     pub(crate) fn data_header(self, ends: ChainEnd) -> Header
         ensures { λ r. ⌜ r ≡ dataHeader self ends ⌝ }
     {
-        let begins = self.control.begin_of();
+        let begins = begin_of(self.control);
         let data = DataHeader {
             begins,
             ends,

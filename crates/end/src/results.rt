@@ -9,7 +9,7 @@ ghost use mathlib.Core.Path.{_≡_};
 ghost use Rattle.answers.specs.Answers.{accepted, refused, readRefused};
 
 // Accepted, with the length of the unit made, 0 for none.
-pub(crate) fn accepted(unit: usize, end: End) -> Done
+pub fn accepted(unit: usize, end: End) -> Done
     ensures { λ r. ⌜ r ≡ record { answer = accepted unit; end = end } ⌝ }
 {
     Done {
@@ -18,7 +18,7 @@ pub(crate) fn accepted(unit: usize, end: End) -> Done
     }
 }
 
-pub(crate) fn refused(number: u8, end: End) -> Done
+pub fn refused(number: u8, end: End) -> Done
     ensures { λ r. ⌜ r ≡ record { answer = refused number; end = end } ⌝ }
 {
     Done {

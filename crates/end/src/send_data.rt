@@ -10,15 +10,16 @@ use answers::numbers::BAD_RECORD;
 use answers::numbers::NO_CREDIT;
 use answers::numbers::WRONG_STATE;
 use answers::questions::ask;
+use giving::keep;
+use giving::keeps;
+use giving::length_fits;
+use giving::send_full;
+use giving::walk_given;
+use header::ChainEnd;
 use logical_record::Walked;
 use logical_record::walk::is_good;
-use sides::giving::keep;
-use sides::giving::keeps;
-use sides::giving::length_fits;
-use sides::giving::send_full;
-use sides::giving::walk_given;
 use sides::outgoing::bytes_sent;
-use unit::ChainEnd;
+use transitions::spilled;
 ghost use mathlib.Core.Path.{_≡_};
 ghost use Prim.Native.Nat.{_+_, _≤_, _<_};
 ghost use lib.ListN.{length, drop};
@@ -61,10 +62,10 @@ impl End {
         let gone = (self.sending.max - self.sending.held) as usize;
         let rest = (bytes.len() - gone) as u16;
         let header = self.data_header(ChainEnd::Continues);
-        let spilled = self.control.spilled();
+        let control = spilled(self.control);
         let next = bytes_sent(self.sending, rest, walked);
         let n = send_full(next.number, header, held, gone, bytes, send, unit);
-        accepted(n, self.with_control(spilled).with_sending(next))
+        accepted(n, self.with_control(control).with_sending(next))
     }
 
     // Gives bytes to the conversation. They are kept until more than M are held; then one unit goes.

@@ -4,21 +4,27 @@ use crate::End;
 use crate::requests::make_fixed;
 use crate::results::accepted;
 use control::Control;
+use header::DataHeader;
+use header::Header;
+use header::build::confirms;
 use logical_record::Walked;
 use sides::incoming::request_counted;
 use sides::outgoing::credit_answered;
-use sides::taking::join;
-use sides::taking::owed_after;
-use unit::DataHeader;
-use unit::Header;
-use unit::build::confirms;
+use taking::join;
+use taking::owed_after;
+use transitions::bid_answer;
+use transitions::bid_taken;
+use transitions::confirmation_taken;
+use transitions::data_taken;
+use transitions::grant_taken;
+use transitions::refusal_taken;
 ghost use mathlib.Core.Path.{_≡_};
 ghost use mathlib.Core.Bool.{true, _&&_};
 ghost use Prim.Native.Nat.{_+_, _≤_};
 ghost use lib.ListN.{length};
 ghost use Rattle.cells.specs.Cells.{written};
 ghost use Rattle.logical_record.specs.Walk.{walk};
-ghost use Rattle.sides.specs.Taking.{walkedFor};
+ghost use Rattle.taking.specs.Taking.{walkedFor};
 ghost use Rattle.end.specs.Record.{recordGood, inboxLent, unitLent};
 ghost use Rattle.end.specs.Outcome.{accept, nothing, doneOf, made, withControl};
 ghost use Rattle.end.specs.Results.{madeBy, takenBy};
@@ -41,7 +47,7 @@ impl End {
     {
         let ends = d.ends;
         let joined = join(self.receiving, walked, ru, inbox);
-        let marked = self.control.data_taken(ends);
+        let marked = data_taken(self.control, ends);
         let mut end = self.with_control(marked).with_receiving(joined);
         end.owed = owed_after(confirms(ends), number, self.owed);
         accepted(0, end)
@@ -52,8 +58,8 @@ impl End {
         requires { ⌜ 10 ≤ length (now unit) ⌝ }
         ensures { λ r. ⌜ madeBy r (now (unit .exit)) ≡ made (bidAnswered self number) (now (unit .entry)) ⌝ }
     {
-        let answer = self.control.bid_answer();
-        let next = self.control.bid_taken();
+        let answer = bid_answer(self.control);
+        let next = bid_taken(self.control);
         let counted = request_counted(self.receiving);
         make_fixed(
             self.with_control(next).with_receiving(counted),
@@ -93,9 +99,9 @@ impl End {
         match header {
             Header::Data(d) => self.join_data(d, number, walked, ru, inbox),
             Header::Bid(_) => self.answer_bid(number, unit),
-            Header::PositiveBidResponse => self.settle(self.control.grant_taken()),
-            Header::NegativeBidResponse => self.settle(self.control.refusal_taken()),
-            Header::Confirmation => self.settle(self.control.confirmation_taken()),
+            Header::PositiveBidResponse => self.settle(grant_taken(self.control)),
+            Header::NegativeBidResponse => self.settle(refusal_taken(self.control)),
+            Header::Confirmation => self.settle(confirmation_taken(self.control)),
             Header::PacingResponse => self.raise_credit(),
         }
     }

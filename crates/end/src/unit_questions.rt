@@ -4,14 +4,14 @@ use answers::numbers::BAD_BUFFER;
 use answers::numbers::BAD_RECORD;
 use answers::numbers::UNREAD_MARK;
 use answers::questions::ask;
+use header::Header;
 use logical_record::Walked;
-use sides::taking::bid_refusal;
-use sides::taking::data_refusal;
-use sides::taking::pacing_response_refusal;
-use sides::taking::response_refusal;
-use unit::Header;
+use taking::bid_refusal;
+use taking::data_refusal;
+use taking::pacing_response_refusal;
+use taking::response_refusal;
 ghost use mathlib.Core.Path.{_≡_};
-ghost use Rattle.sides.specs.Taking.{walkedFor};
+ghost use Rattle.taking.specs.Taking.{walkedFor};
 ghost use Rattle.end.specs.Kinds.{endRefusal, kindRefusal};
 
 impl End {

@@ -1,9 +1,9 @@
 // The laboratory gives one record and ends; the blender takes the unit, reads the record and prints its data. Both make their calls
 // as the host does, on a record that is changed in place.
 use end::Session;
-use end::opening::open;
 use host::by_value;
 use libc::STDOUT_FILENO;
+use session::open;
 
 // Window 3 and maximum RU 64 both ways; the role is 0 for the first speaker, 1 for the bidder.
 fn session(role: u8) -> Session {

@@ -3,7 +3,7 @@
 use control::Role;
 use control::State;
 use control::WhatReceived;
-use unit::Follows;
+use header::Follows;
 ghost use mathlib.Core.Path.{_≡_};
 ghost use Rattle.control.specs.Tests.{roleNumber, stateNumber, markNumber};
 ghost use Rattle.sides.specs.Opening.{roleOf};

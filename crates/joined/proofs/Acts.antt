@@ -16,18 +16,18 @@ use Rattle.logical_record.specs.Reading.{rest}
 use Rattle.logical_record.specs.declared.Position.{Position}
 use Rattle.logical_record.specs.declared.Walked.{Walked}
 use Rattle.logical_record.specs.declared.Walked.the-variants.{At, BadLength}
-use Rattle.unit.specs.Rules.{headerGood}
+use Rattle.header.specs.Rules.{headerGood}
 use Rattle.unit.specs.Ru.{marks, bidRu, fixedRu}
 use Rattle.unit.specs.Unit.{RU-START, unitOf, numberIn, headerIn}
-use Rattle.unit.specs.declared.Follows.{Follows}
-use Rattle.unit.specs.declared.ChainEnd.the-variants.{Continues, Last}
-use Rattle.unit.specs.declared.Header.{Header}
-use Rattle.unit.specs.declared.Header.the-variants.{Data, Bid, PositiveBidResponse, NegativeBidResponse, Confirmation, PacingResponse}
+use Rattle.header.specs.declared.Follows.{Follows}
+use Rattle.header.specs.declared.ChainEnd.the-variants.{Continues, Last}
+use Rattle.header.specs.declared.Header.{Header}
+use Rattle.header.specs.declared.Header.the-variants.{Data, Bid, PositiveBidResponse, NegativeBidResponse, Confirmation, PacingResponse}
 use Rattle.unit.proofs.Units.{unit-length}
 use Rattle.pacing.specs.Pacing.{hasCredit, paced}
 use Rattle.control.specs.Tests.{isFirstSpeaker, isNothing}
 use Rattle.control.specs.Questions.{mayAllocate, maySend, mayConfirm}
-use Rattle.control.specs.Transitions.{allocated, spilled, closed, confirmationMade, markAnswered, bidAnswer, grantTaken, refusalTaken, confirmationTaken}
+use Rattle.transitions.specs.Transitions.{allocated, spilled, closed, confirmationMade, markAnswered, bidAnswer, grantTaken, refusalTaken, confirmationTaken}
 use Rattle.answers.specs.Answers.{accepted, refused, refusedNaming, readRefused}
 use Rattle.end.specs.Record.{recordGood, sendLent, unitLent, inboxLent}
 use Rattle.sides.specs.Shared.{nextNumber}
@@ -42,7 +42,7 @@ use Rattle.end.specs.Close.{nothingGoes, closeQuestions, closeRefusal, lastMade
 use Rattle.end.specs.Confirmed.{confirmedQuestions, confirmedRefusal, confirmedDecision, confirmed}
 use Rattle.end.specs.ReceiveUnit.{headQuestions, kindQuestions, headerTaken, ruTaken, takeRefusal, dataJoined, bidAnswered, creditRaised, kindTaken, takeDecision, kindJoined, inboxCells, answerNaming, receiveUnit}
 use Rattle.end.specs.Receive.{inboxBytes, recordRest, someHeld, readQuestions, readRefusal, copyCount, bytesRead, markRead, readDecision, inboxMoved, receive}
-use Rattle.sides.specs.Reading.{restGood}
+use Rattle.reading.specs.Reading.{restGood}
 use Rattle.sides.specs.Receiving.{mayPace, windowAnswered}
 use Rattle.end.specs.Pace.{paceQuestions, paceRefusal, paceDecision, pace}
 use Rattle.end.specs.declared.End.{End}

@@ -7,21 +7,21 @@ use mathlib.Core.List.{List, [], _∷_}
 use native.Mathlib.Omega.{arith}
 use lib.Dec.{eqb}
 use lib.ListN.{length, take, drop}
-use Rattle.unit.specs.Header.{confirms}
+use Rattle.header.specs.Header.{confirms}
 use Rattle.unit.specs.Ru.{bidRu, fixedRu}
 use Rattle.unit.specs.Unit.{RU-START, unitOf, numberIn}
-use Rattle.unit.specs.declared.Follows.{Follows}
-use Rattle.unit.specs.declared.Follows.the-variants.{Stay, ChangeDirection, EndBracket}
-use Rattle.unit.specs.declared.ChainEnd.the-variants.{Continues, Last}
-use Rattle.unit.specs.declared.Header.{Header}
-use Rattle.unit.specs.declared.Header.the-variants.{Data, Bid, PositiveBidResponse, NegativeBidResponse, Confirmation, PacingResponse}
+use Rattle.header.specs.declared.Follows.{Follows}
+use Rattle.header.specs.declared.Follows.the-variants.{Stay, ChangeDirection, EndBracket}
+use Rattle.header.specs.declared.ChainEnd.the-variants.{Continues, Last}
+use Rattle.header.specs.declared.Header.{Header}
+use Rattle.header.specs.declared.Header.the-variants.{Data, Bid, PositiveBidResponse, NegativeBidResponse, Confirmation, PacingResponse}
 use Rattle.pacing.specs.Pacing.{paced}
-use Rattle.control.specs.Transitions.{bidAnswer}
+use Rattle.transitions.specs.Transitions.{bidAnswer}
 use Rattle.end.specs.Record.{recordGood}
 use Rattle.sides.specs.Shared.{nextNumber}
 use Rattle.end.specs.Requests.{dataHeader}
 use Rattle.sides.specs.Opening.{openingRefusal}
-use Rattle.end.specs.Opening.{opened}
+use Rattle.session.specs.Opening.{opened}
 use Rattle.end.specs.Allocate.{bidMade}
 use Rattle.end.specs.SendData.{heldBytes, gone, bytesKept, bytesSpilled}
 use Rattle.end.specs.Close.{lastMade, close}

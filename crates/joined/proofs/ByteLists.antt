@@ -7,12 +7,12 @@ use native.Mathlib.Omega.{arith}
 use lib.ListN.{length, take, drop, getD}
 use lib.Seq.{getD-drop}
 use Rattle.cells.specs.Cells.{front, written}
-use Rattle.unit.specs.Weights.{FIRST, LAST, EXCEPTION, CONFIRM, PACING, BB, CD, CEB, bit}
-use Rattle.unit.specs.Header.{headerBytes, isFirst, beginsBracket, isLast, confirms, followsOf, turns, endsBracket}
+use Rattle.header.specs.Weights.{FIRST, LAST, EXCEPTION, CONFIRM, PACING, BB, CD, CEB, bit}
+use Rattle.header.specs.Header.{headerBytes, isFirst, beginsBracket, isLast, confirms, followsOf, turns, endsBracket}
 use Rattle.unit.specs.Ru.{fixedRu}
 use Rattle.unit.specs.Unit.{unitBytes, unitOf, numberIn}
-use Rattle.unit.specs.declared.Header.{Header}
-use Rattle.unit.specs.declared.Header.the-variants.{Data, Bid, PositiveBidResponse, NegativeBidResponse, Confirmation, PacingResponse}
+use Rattle.header.specs.declared.Header.{Header}
+use Rattle.header.specs.declared.Header.the-variants.{Data, Bid, PositiveBidResponse, NegativeBidResponse, Confirmation, PacingResponse}
 use Rattle.sides.specs.Shared.{nextNumber}
 
 abbrev pub AllBytes : List ℕ → Type 0

@@ -12,9 +12,9 @@ use lib.Seq.{take-take, length-take-le}
 use Rattle.cells.specs.Cells.{front, written}
 use Rattle.cells.proofs.Fronts.{front-bytes, written-bytes}
 use Rattle.unit.specs.Unit.{unitOf}
-use Rattle.unit.specs.declared.DataHeader.{DataHeader}
-use Rattle.unit.specs.declared.Header.{Header}
-use Rattle.unit.specs.declared.Header.the-variants.{Data}
+use Rattle.header.specs.declared.DataHeader.{DataHeader}
+use Rattle.header.specs.declared.Header.{Header}
+use Rattle.header.specs.declared.Header.the-variants.{Data}
 use Rattle.end.specs.ReceiveUnit.{headerTaken, ruTaken}
 use Rattle.joined.specs.Histories.{bytesOnLine, dataRu}
 use Rattle.joined.proofs.Units.{dataOf, data-ru, line-more}

@@ -12,16 +12,16 @@ use lib.ListN.{length, take, drop, length-drop, take-append-drop}
 use Rattle.cells.specs.Cells.{front, written}
 use Rattle.unit.specs.Ru.{fixedRu, bidRu}
 use Rattle.unit.specs.Unit.{unitOf, numberIn}
-use Rattle.unit.specs.declared.Follows.{Follows}
-use Rattle.unit.specs.declared.Follows.the-variants.{Stay, ChangeDirection, EndBracket}
-use Rattle.unit.specs.declared.ChainEnd.{ChainEnd}
-use Rattle.unit.specs.declared.ChainEnd.the-variants.{Continues, Last}
-use Rattle.unit.specs.declared.DataHeader.{DataHeader}
-use Rattle.unit.specs.declared.Header.{Header}
-use Rattle.unit.specs.declared.Header.the-variants.{Data, Bid, PositiveBidResponse, NegativeBidResponse, Confirmation, PacingResponse}
+use Rattle.header.specs.declared.Follows.{Follows}
+use Rattle.header.specs.declared.Follows.the-variants.{Stay, ChangeDirection, EndBracket}
+use Rattle.header.specs.declared.ChainEnd.{ChainEnd}
+use Rattle.header.specs.declared.ChainEnd.the-variants.{Continues, Last}
+use Rattle.header.specs.declared.DataHeader.{DataHeader}
+use Rattle.header.specs.declared.Header.{Header}
+use Rattle.header.specs.declared.Header.the-variants.{Data, Bid, PositiveBidResponse, NegativeBidResponse, Confirmation, PacingResponse}
 use Rattle.pacing.specs.Pacing.{paced}
 use Rattle.control.specs.Tests.{isReset}
-use Rattle.control.specs.Transitions.{beginOf, bidAnswer}
+use Rattle.transitions.specs.Transitions.{beginOf, bidAnswer}
 use Rattle.control.specs.declared.Control.{Control}
 use Rattle.sides.specs.Shared.{nextNumber}
 use Rattle.sides.specs.Sending.{requestMade}
@@ -31,7 +31,7 @@ use Rattle.end.specs.Allocate.{bidMade}
 use Rattle.end.specs.SendData.{heldBytes, gone, bytesKept, bytesSpilled}
 use Rattle.end.specs.Close.{lastMade, close}
 use Rattle.end.specs.ReceiveUnit.{headerTaken, ruTaken, dataJoined, bidAnswered, creditRaised}
-use Rattle.sides.specs.Reading.{restBytes}
+use Rattle.reading.specs.Reading.{restBytes}
 use Rattle.end.specs.Receive.{recordRest, copyCount, bytesRead, inboxMoved, someHeld}
 use Rattle.end.specs.Receive as R
 use Rattle.joined.specs.Joined.{Acted, Took, acted, took}

@@ -2,15 +2,16 @@
 -- Assumes nothing.
 use mathlib.Core.Path.{_≡_, refl}
 use mathlib.Core.Bool.{Bool, true, false, not, cond}
-use Rattle.unit.specs.Header.{isFirst}
-use Rattle.unit.specs.declared.Follows.{Follows}
+use Rattle.header.specs.Header.{isFirst}
+use Rattle.header.specs.declared.Follows.{Follows}
 use Rattle.control.specs.Tests.{isFirstSpeaker, isReset}
-use Rattle.control.specs.Transitions.{setState, setFollows, setDue, setBid, allocated, beginOf, closed, afterLast, afterMark, markAnswered, bidTaken}
+use Rattle.control.specs.Parts.{setState, setFollows, setDue, setBid}
+use Rattle.transitions.specs.Transitions.{allocated, beginOf, closed, afterLast, afterMark, markAnswered, bidTaken}
 use Rattle.control.specs.declared.Control.{Control}
 use Rattle.control.specs.declared.State.the-variants.{Send, Receive, ConfirmAwaited}
 use Rattle.control.specs.declared.WhatReceived.{WhatReceived}
 use Rattle.control.specs.declared.WhatReceived.the-variants as mark
-use Rattle.unit.specs.declared.ChainBegin.the-variants.{Continued, First, FirstWithBracket}
+use Rattle.header.specs.declared.ChainBegin.the-variants.{Continued, First, FirstWithBracket}
 
 -- the chains of one of two records, which are the same in both
 chosen-out : (b : Bool) (x y c : Control) → x .outchain ≡ c .outchain → y .outchain ≡ c .outchain → cond b x y .outchain ≡ c .outchain

@@ -2,13 +2,13 @@
 -- Assumes nothing.
 use mathlib.Core.Path.{_≡_, refl, sym, subst}
 use mathlib.Core.Bool.{Bool, true, false, not, cond, _&&_, _||_}
-use Rattle.unit.specs.declared.Follows.{Follows}
-use Rattle.unit.specs.declared.Follows.the-variants.{Stay, ChangeDirection, EndBracket}
-use Rattle.unit.specs.declared.ChainEnd.{ChainEnd}
-use Rattle.unit.specs.declared.ChainEnd.the-variants.{Continues, Last}
+use Rattle.header.specs.declared.Follows.{Follows}
+use Rattle.header.specs.declared.Follows.the-variants.{Stay, ChangeDirection, EndBracket}
+use Rattle.header.specs.declared.ChainEnd.{ChainEnd}
+use Rattle.header.specs.declared.ChainEnd.the-variants.{Continues, Last}
 use Rattle.control.specs.Tests.{isSend, isNothing}
 use Rattle.control.specs.Questions.{mayAllocate, maySend, mayConfirm, grantFits, refusalFits, confirmationFits}
-use Rattle.control.specs.Transitions.{fresh, allocated, spilled, closed, confirmationMade, markAnswered, dataTaken, bidTaken, grantTaken, refusalTaken, confirmationTaken}
+use Rattle.transitions.specs.Transitions.{fresh, allocated, spilled, closed, confirmationMade, markAnswered, dataTaken, bidTaken, grantTaken, refusalTaken, confirmationTaken}
 use Rattle.control.specs.Within.{controlGood}
 use Rattle.control.specs.declared.Role.{Role}
 use Rattle.control.specs.declared.Role.the-variants.{FirstSpeaker, Bidder}

@@ -8,18 +8,18 @@ use native.Mathlib.Omega.{arith}
 use borrow.Author.Tests.{eqb-true, eqb-false, leb-true, leb-false, le-leb, ne-eqb, lt-ltb}
 use lib.Dec.{eqb, leb, ltb}
 use lib.ListN.{length, take}
-use Rattle.unit.specs.Header.{beginsBracket}
+use Rattle.header.specs.Header.{beginsBracket}
 use Rattle.unit.specs.Ru.{marks, ruGood}
 use Rattle.unit.specs.Unit.{RU-START, numberIn}
-use Rattle.unit.specs.declared.Follows.{Follows}
-use Rattle.unit.specs.declared.Follows.the-variants.{Stay, ChangeDirection, EndBracket}
-use Rattle.unit.specs.declared.DataHeader.{DataHeader}
-use Rattle.unit.specs.declared.Header.{Header}
-use Rattle.unit.specs.declared.Header.the-variants.{Data, Bid, PositiveBidResponse, NegativeBidResponse, Confirmation, PacingResponse}
+use Rattle.header.specs.declared.Follows.{Follows}
+use Rattle.header.specs.declared.Follows.the-variants.{Stay, ChangeDirection, EndBracket}
+use Rattle.header.specs.declared.DataHeader.{DataHeader}
+use Rattle.header.specs.declared.Header.{Header}
+use Rattle.header.specs.declared.Header.the-variants.{Data, Bid, PositiveBidResponse, NegativeBidResponse, Confirmation, PacingResponse}
 use Rattle.pacing.specs.Pacing.{sizeGood, windowGood, freshWindow, credit, hasCredit, paced}
 use Rattle.control.specs.Tests.{isReset, isSend, isReceive, agree}
 use Rattle.control.specs.Questions.{grantFits, refusalFits, confirmationFits}
-use Rattle.control.specs.Transitions.{allocated, spilled, confirmationMade, markAnswered, grantTaken, refusalTaken, confirmationTaken}
+use Rattle.transitions.specs.Transitions.{allocated, spilled, confirmationMade, markAnswered, grantTaken, refusalTaken, confirmationTaken}
 use Rattle.control.specs.declared.Control.{Control}
 use Rattle.control.specs.declared.Role.{Role}
 use Rattle.control.specs.declared.State.{State}
@@ -31,7 +31,7 @@ use Rattle.end.specs.Record.{recordGood}
 use Rattle.sides.specs.Sending.{requestMade}
 use Rattle.sides.specs.Receiving.{requestTaken}
 use Rattle.sides.specs.Opening.{roleOf, openingQuestions, openingRefusal}
-use Rattle.end.specs.Opening.{freshEnd, zeroEnd, opened}
+use Rattle.session.specs.Opening.{freshEnd, zeroEnd, opened}
 use Rattle.end.specs.Outcome.{withControl, withReceiving}
 use Rattle.end.specs.Allocate.{bidMade}
 use Rattle.end.specs.SendData.{given, gone, bytesKept, bytesSpilled}

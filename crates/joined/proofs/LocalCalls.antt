@@ -23,16 +23,17 @@ use Rattle.logical_record.specs.declared.Rest.{Rest}
 use Rattle.logical_record.specs.declared.Rest.the-variants as restIs
 use Rattle.unit.specs.Ru.{marks, fixedRu, bidRu}
 use Rattle.unit.specs.Unit.{unitOf, numberIn, RU-START}
-use Rattle.unit.specs.declared.Follows.{Follows}
-use Rattle.unit.specs.declared.Follows.the-variants.{Stay, ChangeDirection, EndBracket}
-use Rattle.unit.specs.declared.ChainEnd.{ChainEnd}
-use Rattle.unit.specs.declared.ChainEnd.the-variants.{Continues, Last}
-use Rattle.unit.specs.declared.Header.{Header}
-use Rattle.unit.specs.declared.Header.the-variants.{Data, Bid, PositiveBidResponse, NegativeBidResponse, Confirmation, PacingResponse}
+use Rattle.header.specs.declared.Follows.{Follows}
+use Rattle.header.specs.declared.Follows.the-variants.{Stay, ChangeDirection, EndBracket}
+use Rattle.header.specs.declared.ChainEnd.{ChainEnd}
+use Rattle.header.specs.declared.ChainEnd.the-variants.{Continues, Last}
+use Rattle.header.specs.declared.Header.{Header}
+use Rattle.header.specs.declared.Header.the-variants.{Data, Bid, PositiveBidResponse, NegativeBidResponse, Confirmation, PacingResponse}
 use Rattle.pacing.specs.Pacing.{hasCredit, paced, credit, advanced, answered}
 use Rattle.control.specs.Tests.{isFirstSpeaker, isReset, isSend, isReceive, isConfirmOwed, isConfirmAwaited, isNothing}
 use Rattle.control.specs.Questions.{mayAllocate, maySend, mayConfirm, stateFits, confirmationFits}
-use Rattle.control.specs.Transitions.{setState, setDue, setBid, allocated, spilled, closed, afterLast, confirmationMade, markAnswered, dataTaken, bidTaken, bidAnswer, grantTaken, refusalTaken, confirmationTaken}
+use Rattle.control.specs.Parts.{setState, setDue, setBid}
+use Rattle.transitions.specs.Transitions.{allocated, spilled, closed, afterLast, confirmationMade, markAnswered, dataTaken, bidTaken, bidAnswer, grantTaken, refusalTaken, confirmationTaken}
 use Rattle.control.specs.Within.{markInReceive}
 use Rattle.control.specs.declared.Control.{Control}
 use Rattle.control.specs.declared.State.{State}
@@ -52,7 +53,7 @@ use Rattle.end.specs.Close.{nothingGoes, lastMade, close}
 use Rattle.end.specs.ReceiveUnit.{kindQuestions, headerTaken, ruTaken, dataJoined, bidAnswered, creditRaised, takeRefusal}
 use Rattle.sides.specs.Receiving.{recordsFit}
 use Rattle.end.specs.Receive.{inboxBytes, recordRest, someHeld, readRefusal, copyCount, bytesRead, markRead}
-use Rattle.sides.specs.Reading.{restGood, restBytes}
+use Rattle.reading.specs.Reading.{restGood, restBytes}
 use Rattle.end.specs.declared.End.{End}
 use Rattle.joined.specs.Joined.{Acted, Took, acted, took}
 use Rattle.joined.specs.Ends.{Station, Verb, Reply, makes, acts, takes}

@@ -7,12 +7,12 @@ use mathlib.Core.List.{List, [], _∷_, _++_}
 use lib.Dec.{eqb, leb}
 use lib.ListN.{length}
 use Rattle.logical_record.specs.Walk.{walk}
-use Rattle.unit.specs.Header.{isFirst, beginsBracket}
-use Rattle.unit.specs.Rules.{headerGood}
+use Rattle.header.specs.Header.{isFirst, beginsBracket}
+use Rattle.header.specs.Rules.{headerGood}
 use Rattle.unit.specs.Ru.{ruGood}
 use Rattle.unit.specs.Unit.{RU-START, numberIn, headerIn}
-use Rattle.unit.specs.declared.Header.{Header}
-use Rattle.unit.specs.declared.Header.the-variants.{Data, Bid, PositiveBidResponse, NegativeBidResponse, Confirmation, PacingResponse}
+use Rattle.header.specs.declared.Header.{Header}
+use Rattle.header.specs.declared.Header.the-variants.{Data, Bid, PositiveBidResponse, NegativeBidResponse, Confirmation, PacingResponse}
 use Rattle.pacing.specs.Pacing.{hasCredit, paced}
 use Rattle.control.specs.Tests.{isNothing, agree}
 use Rattle.control.specs.Questions.{chainFits, bracketFits, bidFits, stateFits}

@@ -6,19 +6,20 @@ use mathlib.Core.Bool.{Bool, true, false, not, cond, _&&_, _||_, false≢true}
 use mathlib.Core.List.{List, [], _∷_, _++_}
 use borrow.Author.Tests.{eq-eqb}
 use lib.Dec.{eqb}
-use Rattle.unit.specs.Header.{beginsBracket}
+use Rattle.header.specs.Header.{beginsBracket}
 use Rattle.unit.specs.Ru.{bidRu, fixedRu}
 use Rattle.unit.specs.Unit.{unitOf, numberIn}
-use Rattle.unit.specs.declared.Follows.{Follows}
-use Rattle.unit.specs.declared.ChainEnd.{ChainEnd}
-use Rattle.unit.specs.declared.ChainEnd.the-variants.{Continues, Last}
-use Rattle.unit.specs.declared.DataHeader.{DataHeader}
-use Rattle.unit.specs.declared.Header.{Header}
-use Rattle.unit.specs.declared.Header.the-variants.{Data, Bid, PositiveBidResponse, NegativeBidResponse, Confirmation, PacingResponse}
+use Rattle.header.specs.declared.Follows.{Follows}
+use Rattle.header.specs.declared.ChainEnd.{ChainEnd}
+use Rattle.header.specs.declared.ChainEnd.the-variants.{Continues, Last}
+use Rattle.header.specs.declared.DataHeader.{DataHeader}
+use Rattle.header.specs.declared.Header.{Header}
+use Rattle.header.specs.declared.Header.the-variants.{Data, Bid, PositiveBidResponse, NegativeBidResponse, Confirmation, PacingResponse}
 use Rattle.control.specs.Tests.{isFirstSpeaker, isBidder, isReset, isSend, isReceive, isConfirmAwaited, isNothing}
 use Rattle.control.specs.Within.{markInReceive, dueInSend, bidAtBidder, chainInSend, controlGood}
 use Rattle.control.specs.Questions.{mayAllocate, maySend, mayConfirm, bracketFits, bidFits, stateFits, grantFits, refusalFits, confirmationFits}
-use Rattle.control.specs.Transitions.{setState, setBid, setDue, setMark, allocated, beginOf, spilled, closed, afterLast, afterOwed, confirmationMade, afterMark, markAnswered, markOf, dataTaken, bidTaken, bidAnswer, grantTaken, refusalTaken, confirmationTaken}
+use Rattle.control.specs.Parts.{setState, setBid, setDue, setMark}
+use Rattle.transitions.specs.Transitions.{allocated, beginOf, spilled, closed, afterLast, afterOwed, confirmationMade, afterMark, markAnswered, markOf, dataTaken, bidTaken, bidAnswer, grantTaken, refusalTaken, confirmationTaken}
 use Rattle.control.specs.declared.Control.{Control}
 use Rattle.control.specs.declared.Role.{Role}
 use Rattle.control.specs.declared.Role.the-variants.{FirstSpeaker, Bidder}
@@ -34,7 +35,7 @@ use Rattle.sides.specs.Sending.{requestMade}
 use Rattle.sides.specs.Receiving.{requestTaken}
 use Rattle.end.specs.Requests.{dataHeader}
 use Rattle.end.specs.Outcome.{withControl, withSending, withReceiving, withBidding}
-use Rattle.end.specs.Opening.{freshEnd}
+use Rattle.session.specs.Opening.{freshEnd}
 use Rattle.end.specs.Allocate.{bidMade}
 use Rattle.end.specs.SendData.{bytesKept, bytesSpilled}
 use Rattle.end.specs.Close.{lastMade}

@@ -5,10 +5,10 @@ use mathlib.Core.Path.{_≡_, refl, sym, subst}
 use mathlib.Core.Bool.{Bool, true, false, cond}
 use mathlib.Core.List.{List, [], _∷_, _++_, append-nil}
 use Rattle.unit.specs.Unit.{numberIn}
-use Rattle.unit.specs.declared.Follows.{Follows}
-use Rattle.unit.specs.declared.Follows.the-variants.{Stay, ChangeDirection, EndBracket}
-use Rattle.unit.specs.declared.Header.{Header}
-use Rattle.unit.specs.declared.Header.the-variants.{Data, Bid, PositiveBidResponse, NegativeBidResponse, Confirmation, PacingResponse}
+use Rattle.header.specs.declared.Follows.{Follows}
+use Rattle.header.specs.declared.Follows.the-variants.{Stay, ChangeDirection, EndBracket}
+use Rattle.header.specs.declared.Header.{Header}
+use Rattle.header.specs.declared.Header.the-variants.{Data, Bid, PositiveBidResponse, NegativeBidResponse, Confirmation, PacingResponse}
 use Rattle.pacing.specs.Pacing.{paced}
 use Rattle.control.specs.declared.Role.{Role}
 use Rattle.end.specs.SendData.{heldBytes}

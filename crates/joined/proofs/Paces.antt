@@ -9,8 +9,8 @@ use borrow.Author.Tests.{eqb-true, eqb-false, leb-true, ltb-true, le-leb, eq-eqb
 use lib.Dec.{eqb, leb, ltb}
 use Rattle.unit.specs.Unit.{unitOf}
 use Rattle.unit.specs.Ru.{fixedRu}
-use Rattle.unit.specs.declared.Header.{Header}
-use Rattle.unit.specs.declared.Header.the-variants.{Data, Bid, PositiveBidResponse, NegativeBidResponse, Confirmation, PacingResponse}
+use Rattle.header.specs.declared.Header.{Header}
+use Rattle.header.specs.declared.Header.the-variants.{Data, Bid, PositiveBidResponse, NegativeBidResponse, Confirmation, PacingResponse}
 use Rattle.pacing.specs.Pacing.{leastWindow, greatestWindow, windowGood, whole, credit, hasCredit, paced}
 use Rattle.pacing.specs.Pacing as W
 use Rattle.pacing.specs.declared.Window.{Window}

@@ -8,16 +8,16 @@ use lib.Dec.{eqb, leb}
 use lib.ListN.{length}
 use Rattle.unit.specs.Ru.{fixedRu, ruGood, bidRu}
 use Rattle.unit.specs.Unit.{unitOf, numberIn}
-use Rattle.unit.specs.declared.Follows.{Follows}
-use Rattle.unit.specs.declared.Follows.the-variants.{Stay, ChangeDirection, EndBracket}
-use Rattle.unit.specs.declared.ChainEnd.{ChainEnd}
-use Rattle.unit.specs.declared.ChainEnd.the-variants.{Continues, Last}
-use Rattle.unit.specs.declared.Header.{Header}
-use Rattle.unit.specs.declared.Header.the-variants.{Data, Bid, PositiveBidResponse, NegativeBidResponse, Confirmation, PacingResponse}
+use Rattle.header.specs.declared.Follows.{Follows}
+use Rattle.header.specs.declared.Follows.the-variants.{Stay, ChangeDirection, EndBracket}
+use Rattle.header.specs.declared.ChainEnd.{ChainEnd}
+use Rattle.header.specs.declared.ChainEnd.the-variants.{Continues, Last}
+use Rattle.header.specs.declared.Header.{Header}
+use Rattle.header.specs.declared.Header.the-variants.{Data, Bid, PositiveBidResponse, NegativeBidResponse, Confirmation, PacingResponse}
 use Rattle.pacing.specs.Pacing.{hasCredit, paced, advanced, answered, credit}
 use Rattle.pacing.specs.declared.Window.{Window}
 use Rattle.control.specs.Tests.{isReset, agree}
-use Rattle.control.specs.Transitions.{bidAnswer}
+use Rattle.transitions.specs.Transitions.{bidAnswer}
 use Rattle.control.specs.declared.Control.{Control}
 use Rattle.answers.specs.Questions.{firstNo}
 use Rattle.sides.specs.Shared.{nextNumber}

@@ -20,7 +20,7 @@ use Rattle.control.specs.declared.Role.the-variants.{FirstSpeaker, Bidder}
 use Rattle.control.specs.declared.State.{State}
 use Rattle.control.specs.declared.State.the-variants.{Reset, Send, Receive, ConfirmOwed, ConfirmAwaited}
 use Rattle.sides.specs.Opening.{roleOf, openingRefusal}
-use Rattle.end.specs.Opening.{freshEnd, zeroEnd, opened}
+use Rattle.session.specs.Opening.{freshEnd, zeroEnd, opened}
 use Rattle.answers.specs.Answers.{accepted, refused}
 use Rattle.sides.specs.declared.Session.{Session}
 use Rattle.end.specs.declared.End.{End}

@@ -15,15 +15,15 @@ use Rattle.logical_record.proofs.Walks.{walk-append, walk-prefix, Through, same
 use Rattle.logical_record.specs.declared.Position.{Position}
 use Rattle.logical_record.specs.declared.Walked.{Walked}
 use Rattle.logical_record.specs.declared.Walked.the-variants.{At, BadLength}
-use Rattle.unit.specs.Rules.{headerGood}
-use Rattle.unit.specs.Header.{headerBytes, fieldsOf, isFirst, isLast}
+use Rattle.header.specs.Rules.{headerGood}
+use Rattle.header.specs.Header.{headerBytes, fieldsOf, isFirst, isLast}
 use Rattle.unit.specs.Ru.{marks, fixedRu, ruGood, sameBytes}
 use Rattle.unit.specs.Unit.{RU-START, unitOf, numberIn, headerIn}
-use Rattle.unit.specs.declared.ChainEnd.{ChainEnd}
-use Rattle.unit.specs.declared.DataHeader.{DataHeader}
-use Rattle.unit.specs.declared.Header.{Header}
-use Rattle.unit.specs.declared.Header.the-variants.{Data, Bid, PositiveBidResponse, NegativeBidResponse, Confirmation, PacingResponse}
-use Rattle.unit.proofs.RoundTrip.{built-good, built-fields}
+use Rattle.header.specs.declared.ChainEnd.{ChainEnd}
+use Rattle.header.specs.declared.DataHeader.{DataHeader}
+use Rattle.header.specs.declared.Header.{Header}
+use Rattle.header.specs.declared.Header.the-variants.{Data, Bid, PositiveBidResponse, NegativeBidResponse, Confirmation, PacingResponse}
+use Rattle.header.proofs.RoundTrip.{built-good, built-fields}
 use Rattle.unit.proofs.Units.{unit-length, unit-number, unit-header, unit-ru}
 use Rattle.pacing.specs.Pacing.{nextPosition}
 use Rattle.control.specs.Tests.{agree}

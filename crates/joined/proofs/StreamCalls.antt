@@ -16,20 +16,20 @@ use Rattle.logical_record.proofs.Walks.{same-position}
 use Rattle.logical_record.specs.declared.Position.{Position}
 use Rattle.logical_record.specs.declared.Walked.{Walked}
 use Rattle.logical_record.specs.declared.Walked.the-variants.{At, BadLength}
-use Rattle.unit.specs.Header.{isFirst, isLast}
+use Rattle.header.specs.Header.{isFirst, isLast}
 use Rattle.unit.specs.Ru.{marks, bidRu, fixedRu, dataRuGood, ruGood}
 use Rattle.unit.specs.Unit.{unitOf, numberIn}
-use Rattle.unit.specs.declared.Follows.{Follows}
-use Rattle.unit.specs.declared.Follows.the-variants.{Stay, ChangeDirection, EndBracket}
-use Rattle.unit.specs.declared.ChainEnd.{ChainEnd}
-use Rattle.unit.specs.declared.ChainEnd.the-variants.{Continues, Last}
-use Rattle.unit.specs.declared.DataHeader.{DataHeader}
-use Rattle.unit.specs.declared.Header.{Header}
-use Rattle.unit.specs.declared.Header.the-variants.{Data, Bid, PositiveBidResponse, NegativeBidResponse, Confirmation, PacingResponse}
+use Rattle.header.specs.declared.Follows.{Follows}
+use Rattle.header.specs.declared.Follows.the-variants.{Stay, ChangeDirection, EndBracket}
+use Rattle.header.specs.declared.ChainEnd.{ChainEnd}
+use Rattle.header.specs.declared.ChainEnd.the-variants.{Continues, Last}
+use Rattle.header.specs.declared.DataHeader.{DataHeader}
+use Rattle.header.specs.declared.Header.{Header}
+use Rattle.header.specs.declared.Header.the-variants.{Data, Bid, PositiveBidResponse, NegativeBidResponse, Confirmation, PacingResponse}
 use Rattle.pacing.specs.Pacing.{paced, advanced, answered, nextPosition}
 use Rattle.control.specs.Tests.{isReset, isSend}
 use Rattle.control.specs.Questions.{mayAllocate}
-use Rattle.control.specs.Transitions.{beginOf, allocated, spilled, closed, confirmationMade, markAnswered, dataTaken, bidTaken, bidAnswer, grantTaken, refusalTaken, confirmationTaken}
+use Rattle.transitions.specs.Transitions.{beginOf, allocated, spilled, closed, confirmationMade, markAnswered, dataTaken, bidTaken, bidAnswer, grantTaken, refusalTaken, confirmationTaken}
 use Rattle.control.specs.declared.Control.{Control}
 use Rattle.end.specs.Record.{recordGood}
 use Rattle.sides.specs.Shared.{nextNumber}

@@ -6,14 +6,14 @@ use mathlib.Core.Bool.{Bool, true, false, not, cond, _&&_, _||_}
 use mathlib.Core.List.{List, [], _∷_, _++_, append-nil, append-assoc}
 use lib.Dec.{eqb, leb}
 use lib.ListN.{drop}
-use Rattle.unit.specs.Weights.{on, bit, FIRST, LAST}
-use Rattle.unit.specs.Rules.{bytes, isData, sameHeader, headerGood}
-use Rattle.unit.specs.Header.{headerBytes, fieldsOf, dataFields, dataBytes, isFirst, isLast}
+use Rattle.header.specs.Weights.{on, bit, FIRST, LAST}
+use Rattle.header.specs.Rules.{bytes, isData, sameHeader, headerGood}
+use Rattle.header.specs.Header.{headerBytes, fieldsOf, dataFields, dataBytes, isFirst, isLast}
 use Rattle.unit.specs.Unit.{RU-START, unitOf, headerIn}
-use Rattle.unit.specs.declared.HeaderBytes.{HeaderBytes}
-use Rattle.unit.specs.declared.Header.{Header}
-use Rattle.unit.specs.declared.Header.the-variants.{Data, Bid, PositiveBidResponse, NegativeBidResponse, Confirmation, PacingResponse}
-use Rattle.unit.proofs.RoundTrip.{built-good, built-fields, read-bytes}
+use Rattle.header.specs.declared.HeaderBytes.{HeaderBytes}
+use Rattle.header.specs.declared.Header.{Header}
+use Rattle.header.specs.declared.Header.the-variants.{Data, Bid, PositiveBidResponse, NegativeBidResponse, Confirmation, PacingResponse}
+use Rattle.header.proofs.RoundTrip.{built-good, built-fields, read-bytes}
 use Rattle.unit.proofs.Units.{unit-header, unit-ru}
 use Rattle.end.specs.ReceiveUnit.{headerTaken, ruTaken}
 use Rattle.joined.specs.Histories.{dataRu, bytesOnLine, isRequest, isPacingResponse, requestsAmong, count}

@@ -7,7 +7,7 @@ use mathlib.Core.Path.{_≡_}
 use lib.Dec.{eqb}
 use lib.ListN.{length, take}
 use Rattle.control.specs.declared.WhatReceived.the-variants as mark
-use Rattle.end.specs.Opening as O
+use Rattle.session.specs.Opening as O
 use Rattle.end.specs.Allocate as A
 use Rattle.end.specs.SendData as S
 use Rattle.end.specs.Close as C

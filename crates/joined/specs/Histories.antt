@@ -9,8 +9,8 @@ use mathlib.Core.Path.{_≡_}
 use Rattle.logical_record.specs.Positions.{start}
 use Rattle.logical_record.specs.Walk.{walk}
 use Rattle.logical_record.specs.Records.{ended}
-use Rattle.unit.specs.Weights.{on}
-use Rattle.unit.specs.Rules.{isData, bytes, sameHeader}
+use Rattle.header.specs.Weights.{on}
+use Rattle.header.specs.Rules.{isData, bytes, sameHeader}
 use Rattle.unit.specs.Unit.{RU-START, headerIn}
 use Rattle.answers.specs.Answers.{BAD-LL}
 use Rattle.joined.specs.Joined.{Event, acted, took}

@@ -4,7 +4,7 @@ use mathlib.Core.Path.{_≡_, sym, ap, subst, _∙_}
 use mathlib.Core.List.{List}
 use Prim.Native.Nat.{ℕ, _<_}
 use lib.ListN.{length}
-use Rattle.unit.specs.declared.HeaderBytes.{HeaderBytes}
+use Rattle.header.specs.declared.HeaderBytes.{HeaderBytes}
 use Rattle.end.specs.Outcome.{Made, Sent, Taken, Copied}
 use Rattle.end.specs.RuleNamed.{NamesBroken}
 use Rattle.end.specs.Results.{madeBy, sentBy, takenBy, copiedBy}

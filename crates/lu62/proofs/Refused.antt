@@ -8,10 +8,10 @@ use lib.Dec.{eqb}
 use lib.ListN.{length, take}
 use Rattle.cells.specs.Cells.{front}
 use Rattle.unit.specs.Unit.{numberIn}
-use Rattle.unit.specs.declared.Follows.{Follows}
-use Rattle.unit.specs.declared.Follows.the-variants.{Stay, ChangeDirection, EndBracket}
-use Rattle.unit.specs.declared.Header.{Header}
-use Rattle.unit.specs.declared.Header.the-variants.{Data, Bid, PositiveBidResponse, NegativeBidResponse, Confirmation, PacingResponse}
+use Rattle.header.specs.declared.Follows.{Follows}
+use Rattle.header.specs.declared.Follows.the-variants.{Stay, ChangeDirection, EndBracket}
+use Rattle.header.specs.declared.Header.{Header}
+use Rattle.header.specs.declared.Header.the-variants.{Data, Bid, PositiveBidResponse, NegativeBidResponse, Confirmation, PacingResponse}
 use Rattle.control.specs.Tests.{isFirstSpeaker}
 use Rattle.end.specs.Outcome.{Decision, made, doneOf, cellsOut}
 use Rattle.end.specs.Allocate.{allocateRefusal, bidMade, allocateDecision, allocate}

@@ -9,15 +9,15 @@ use lib.Dec.{eqb}
 use lib.ListN.{length, take, length-take, length-append}
 use Rattle.unit.specs.Ru.{fixedRu}
 use Rattle.unit.specs.Unit.{numberIn}
-use Rattle.unit.specs.declared.Follows.{Follows}
-use Rattle.unit.specs.declared.Header.{Header}
-use Rattle.unit.specs.declared.Header.the-variants.{Data, Bid, PositiveBidResponse, NegativeBidResponse, Confirmation, PacingResponse}
+use Rattle.header.specs.declared.Follows.{Follows}
+use Rattle.header.specs.declared.Header.{Header}
+use Rattle.header.specs.declared.Header.the-variants.{Data, Bid, PositiveBidResponse, NegativeBidResponse, Confirmation, PacingResponse}
 use Rattle.control.specs.Tests.{isFirstSpeaker}
-use Rattle.control.specs.Transitions.{bidAnswer}
+use Rattle.transitions.specs.Transitions.{bidAnswer}
 use Rattle.answers.specs.Answers.{accepted, refused, refusedNaming}
 use Rattle.end.specs.Outcome.{Decision, lengthOut, answerOf}
 use Rattle.sides.specs.Opening.{openingRefusal}
-use Rattle.end.specs.Opening.{opened}
+use Rattle.session.specs.Opening.{opened}
 use Rattle.end.specs.Allocate.{allocateRefusal, bidMade, allocateDecision, allocate}
 use Rattle.sides.specs.Sending.{keeps}
 use Rattle.end.specs.SendData.{heldBytes, gone, sendRefusal, bytesKept, bytesSpilled, sendDecision, sendData}
@@ -25,7 +25,7 @@ use Rattle.end.specs.Close.{nothingGoes, closeRefusal, lastMade, closeDecision,
 use Rattle.end.specs.Confirmed.{confirmedRefusal, confirmedDecision, confirmed}
 use Rattle.end.specs.Pace.{paceRefusal, paceDecision, pace}
 use Rattle.end.specs.ReceiveUnit.{headerTaken, ruTaken, takeRefusal, dataJoined, bidAnswered, creditRaised, kindTaken, takeDecision, answerNaming, receiveUnit}
-use Rattle.sides.specs.Reading.{restBytes}
+use Rattle.reading.specs.Reading.{restBytes}
 use Rattle.end.specs.Receive.{someHeld, recordRest, readRefusal, copyCount, bytesRead, markRead, readDecision, receive}
 use Rattle.sides.specs.declared.Session.{Session}
 use Rattle.end.specs.declared.End.{End}

@@ -7,7 +7,7 @@ use lib.Dec.{eqb}
 use lib.ListN.{length, getD}
 use Rattle.answers.specs.Answers.{BAD-BUFFER}
 use Rattle.end.specs.Outcome.{Made, Sent, Taken, Copied}
-use Rattle.end.specs.Opening.{opened}
+use Rattle.session.specs.Opening.{opened}
 use Rattle.end.specs.Allocate.{allocate}
 use Rattle.end.specs.SendData.{sendData}
 use Rattle.end.specs.Close.{flush, confirm, prepareToReceive, deallocate}

@@ -9,7 +9,7 @@ use Rattle.logical_record.specs.declared.Walked.{Walked}
 use Rattle.logical_record.specs.declared.Walked.the-variants.{At, BadLength}
 use Rattle.logical_record.specs.declared.Rest.the-variants.{BadLength}
 use Rattle.unit.specs.Ru.{marks}
-use Rattle.unit.specs.declared.ChainEnd.{ChainEnd}
+use Rattle.header.specs.declared.ChainEnd.{ChainEnd}
 use Rattle.pacing.specs.Pacing.{windowGood, credit, advanced, hasCredit, paced, answered, freshWindow}
 use Rattle.control.specs.Tests.{agree}
 use Rattle.sides.specs.Shared.{maxGood, nextNumber}

@@ -43,7 +43,7 @@ pub fn fresh_receiving(window: u8, max: u16, inbox: u16) -> Receiving
 }
 
 // A request has been taken: its number, one less open. The bytes held and the record place taken are then these.
-pub(crate) fn request_taken(r: Receiving, held: u16, taken: Position) -> Receiving
+pub fn request_taken(r: Receiving, held: u16, taken: Position) -> Receiving
     ensures { λ s. ⌜ s ≡ requestTaken held taken r ⌝ }
 {
     let before = r.window;

@@ -1,11 +1,8 @@
 // The two sides of an end: what each keeps, what is asked of it and what changes it. Nothing here knows the whole end.
-pub mod giving;
 pub mod incoming;
 pub mod opening;
 pub mod outgoing;
-pub mod reading;
 pub mod sizes;
-pub mod taking;
 
 use logical_record::Position;
 use pacing::Window;

@@ -8,7 +8,7 @@ use answers::numbers::BAD_WINDOW;
 use answers::questions::ask;
 use control::Role;
 use pacing::size_good;
-use unit::weights::RU_START;
+use unit::RU_START;
 ghost use mathlib.Core.Path.{_≡_};
 ghost use Prim.Native.Nat.{_*_};
 ghost use Rattle.sides.specs.Opening.{roleOf, buffersGood, openingRefusal};

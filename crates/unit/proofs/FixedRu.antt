@@ -8,9 +8,9 @@ use native.Mathlib.Omega.{arith}
 use types.Run.{OneOf}
 use denote.Enum.Declared.{tagOf}
 use Rattle.unit.specs.Ru.{fixedRu, sameBytes, ruGood}
-use Rattle.unit.specs.declared.Header.{Header}
-use Rattle.unit.specs.declared.Header.the-variants.{Data, Bid, PositiveBidResponse, NegativeBidResponse, Confirmation, PacingResponse}
-use Rattle.unit.proofs.Header.{the-type}
+use Rattle.header.specs.declared.Header.{Header}
+use Rattle.header.specs.declared.Header.the-variants.{Data, Bid, PositiveBidResponse, NegativeBidResponse, Confirmation, PacingResponse}
+use Rattle.header.proofs.Header.{the-type}
 
 no-tag : {P : Type 0} (n : ℕ) → 0 < n → n < 4 → OneOf (0 ∷ 4 ∷ 5 ∷ []) n → P
 no-tag n l h k = absurd (⊎-elim (λ e. omega arith) (⊎-elim (λ e. omega arith) (λ e. omega arith)) k)

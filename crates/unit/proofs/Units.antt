@@ -1,6 +1,6 @@
 -- Laws of units and headers, for the crates above; the round trip of headers and `sameBytes` are passed on from their own files.
 -- Assumes nothing.
-pub use Rattle.unit.proofs.RoundTrip.{built-good, built-fields, read-bytes}
+pub use Rattle.header.proofs.RoundTrip.{built-good, built-fields, read-bytes}
 pub use Rattle.unit.proofs.Same.{same-equal, equal-same, same-self}
 use mathlib.Core.Path.{_≡_, refl, sym}
 use mathlib.Core.Bool.{Bool, true, false, not}
@@ -13,15 +13,15 @@ use lib.Dec.{leb}
 use lib.ListN.{length, take, drop}
 use Rattle.cells.specs.Cells.{front}
 use Rattle.cells.proofs.Fronts.{front-bytes}
-use Rattle.unit.specs.Weights.{FIRST, LAST, bit}
-use Rattle.unit.specs.Header.{isFirst, isLast, headerBytes}
+use Rattle.header.specs.Weights.{FIRST, LAST, bit}
+use Rattle.header.specs.Header.{isFirst, isLast, headerBytes}
 use Rattle.unit.specs.Ru.{fixedRu, sameBytes, ruGood}
 use Rattle.unit.specs.Unit.{RU-START, unitBytes, unitOf, lengthMade, cellsMade, numberIn, headerIn, headingOf, unitReadAs}
-use Rattle.unit.specs.declared.Header.{Header}
-use Rattle.unit.specs.declared.Header.the-variants.{Data, Bid, PositiveBidResponse, NegativeBidResponse, Confirmation, PacingResponse}
-use Rattle.unit.specs.declared.Rule.{Rule}
+use Rattle.header.specs.declared.Header.{Header}
+use Rattle.header.specs.declared.Header.the-variants.{Data, Bid, PositiveBidResponse, NegativeBidResponse, Confirmation, PacingResponse}
+use Rattle.header.specs.declared.Rule.{Rule}
 use Rattle.unit.specs.declared.UnitRead.the-variants as unitRead
-use Rattle.unit.proofs.Finite.{never}
+use Rattle.header.proofs.Finite.{never}
 
 -- ---- what a unit holds
 

@@ -12,10 +12,10 @@ use borrow.Rule.Slice.PartMut.{midOf, putMid}
 use Rattle.cells.specs.Cells.{front}
 use Rattle.cells.proofs.Fronts.{front-then}
 use Rattle.cells.proofs.Parts.{part-is, part-back}
-use Rattle.unit.specs.Header.{headerBytes}
+use Rattle.header.specs.Header.{headerBytes}
 use Rattle.unit.specs.Unit.{RU-START, unitBytes, unitOf, lengthMade, cellsMade}
-use Rattle.unit.specs.declared.HeaderBytes.{HeaderBytes}
-use Rattle.unit.specs.declared.Header.{Header}
+use Rattle.header.specs.declared.HeaderBytes.{HeaderBytes}
+use Rattle.header.specs.declared.Header.{Header}
 
 -- two copies, one right behind the other: the second is made into the part that starts at n
 pub two-copies : (a b cells one two : List ℕ) (n : ℕ) → n ≡ length a → one ≡ take (length a) a ++ drop (length a) cells

@@ -1,44 +1,13 @@
--- What is claimed of headers and units, for a reader to find. Proved in proofs/, and promised by the function `theorems::headers_and_units`.
+-- What is claimed of units, for a reader to find. Proved in proofs/, and promised by the function `theorems::units`.
 -- Assumes nothing.
 use mathlib.Core.Path.{_≡_}
-use mathlib.Core.Bool.{true, cond}
 use mathlib.Core.List.{List}
-use Prim.Native.Nat.{ℕ, zero, suc, _+_, _<_}
+use Prim.Native.Nat.{ℕ, _<_}
 use lib.ListN.{drop}
-use Rattle.unit.specs.Rules.{bytes, breaks, headerGood}
-use Rattle.unit.specs.Header.{headerBytes, readAs}
+use Rattle.header.specs.declared.Header.{Header}
+use Rattle.header.specs.declared.Rule.{Rule}
 use Rattle.unit.specs.Unit.{RU-START, unitOf, unitReadAs}
-use Rattle.unit.specs.declared.HeaderBytes.{HeaderBytes}
-use Rattle.unit.specs.declared.Header.{Header}
-use Rattle.unit.specs.declared.HeaderRead.the-variants as headerRead
-use Rattle.unit.specs.declared.Rule.{Rule}
-use Rattle.unit.specs.declared.Rule.the-variants.{H1}
 use Rattle.unit.specs.declared.UnitRead.the-variants as unitRead
-
--- every header built is read back as the same fields
-abbrev pub BuiltIsRead : Type 0
-BuiltIsRead = (r : Rule) (f : Header) → readAs r (headerBytes f) ≡ headerRead.Good f
-
--- every header accepted is rebuilt as the same bytes
-abbrev pub ReadIsBuilt : Type 0
-ReadIsBuilt = (r : Rule) (h : HeaderBytes) (f : Header) → readAs r h ≡ headerRead.Good f → headerBytes f ≡ h
-
--- a header that breaks H1 breaks only H1
-abbrev pub OnlyH1 : Type 0
-OnlyH1 = (h : HeaderBytes) → breaks H1 h ≡ true → (r : Rule) → breaks r h ≡ true → r ≡ H1
-
--- how many numbers below n pass, and how much they count for
-abbrev pub sumBelow : (ℕ → ℕ) → ℕ → ℕ
-sumBelow f zero = 0
-sumBelow f (suc n) = f n + sumBelow f n
-
--- how many of the 256 × 256 × 256 headers are good
-unfoldable pub goodHeaders : ℕ
-goodHeaders = sumBelow (λ x. sumBelow (λ y. sumBelow (λ z. cond (headerGood (bytes x y z)) 1 0) 256) 256) 256
-
--- exactly 48 of them
-abbrev pub FortyEight : Type 0
-FortyEight = goodHeaders ≡ 48
 
 -- a unit written is read back as its number, its fields and its RU
 abbrev pub WrittenIsRead : Type 0

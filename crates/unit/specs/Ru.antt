@@ -5,11 +5,11 @@ use mathlib.Core.Bool.{Bool, true, false, _&&_, _||_}
 use mathlib.Core.List.{List, [], _∷_}
 use lib.Dec.{eqb, leb}
 use lib.ListN.{length}
-use Rattle.unit.specs.Header.{confirms, followsOf, turns, endsBracket}
-use Rattle.unit.specs.declared.ChainEnd.{ChainEnd}
-use Rattle.unit.specs.declared.DataHeader.{DataHeader}
-use Rattle.unit.specs.declared.Header.{Header}
-use Rattle.unit.specs.declared.Header.the-variants.{Data, Bid, PositiveBidResponse, NegativeBidResponse, Confirmation, PacingResponse}
+use Rattle.header.specs.Header.{confirms, followsOf, turns, endsBracket}
+use Rattle.header.specs.declared.ChainEnd.{ChainEnd}
+use Rattle.header.specs.declared.DataHeader.{DataHeader}
+use Rattle.header.specs.declared.Header.{Header}
+use Rattle.header.specs.declared.Header.the-variants.{Data, Bid, PositiveBidResponse, NegativeBidResponse, Confirmation, PacingResponse}
 
 -- a bid is LUSTAT 04 00 06 00 00
 abbrev pub bidRu : List ℕ

@@ -6,12 +6,12 @@ use mathlib.Core.List.{List, _∷_}
 use lib.Dec.{leb}
 use lib.ListN.{length, getD}
 use Rattle.cells.specs.Cells.{front}
-use Rattle.unit.specs.Rules.{bytes, headerGood}
-use Rattle.unit.specs.Header.{headerBytes, fieldsOf}
-use Rattle.unit.specs.declared.HeaderBytes.{HeaderBytes}
-use Rattle.unit.specs.declared.Header.{Header}
+use Rattle.header.specs.Rules.{bytes, headerGood}
+use Rattle.header.specs.Header.{headerBytes, fieldsOf}
+use Rattle.header.specs.declared.HeaderBytes.{HeaderBytes}
+use Rattle.header.specs.declared.Header.{Header}
 use Rattle.unit.specs.declared.Heading.{Heading}
-use Rattle.unit.specs.declared.Rule.{Rule}
+use Rattle.header.specs.declared.Rule.{Rule}
 use Rattle.unit.specs.declared.UnitRead.{UnitRead}
 use Rattle.unit.specs.declared.UnitRead.the-variants as unitRead
 

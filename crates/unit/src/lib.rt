@@ -1,73 +1,14 @@
-// The lower layer: the 3-byte request/response header, and the unit that it heads.
-// A unit is a 2-byte sequence number, high byte first, the header, and the RU from byte 5 on.
-pub mod build;
+// The unit: a 2-byte sequence number, high byte first, the header, and the RU from byte 5 on.
 pub mod read;
 pub mod ru;
 pub mod theorems;
-pub mod weights;
 pub mod write;
 
-// What comes after a chain, or after its confirmation (document 01: stay, turn or end): nothing, change direction (CD),
-// or end bracket (CEB). CD and CEB never stand together, so they are one field.
-pub enum Follows {
-    Stay,
-    ChangeDirection,
-    EndBracket,
-}
+use header::Header;
+use header::Rule;
 
-// A unit's place at the begin of its chain. BB, begin bracket, stands only on the first in a chain.
-pub enum ChainBegin {
-    Continued,
-    First,
-    FirstWithBracket,
-}
-
-// A unit's place at the end of its chain. Only the last in a chain says what follows or requests a confirmation.
-pub enum ChainEnd {
-    Continues,
-    Last { follows: Follows, confirm: bool },
-}
-
-// The fields of a data header: 42 values, each of them good.
-pub struct DataHeader {
-    pub begins: ChainBegin,
-    pub ends: ChainEnd,
-    pub pacing: bool,
-}
-
-// The fields of a header: 48 values, each of them good. No other header can be written down.
-// A bid carries its pacing bit; the positive bid response is document 01's grant, the negative one its bid refusal,
-// the pacing response its pacing answer.
-pub enum Header {
-    Data(DataHeader),
-    Bid(bool),
-    PositiveBidResponse,
-    NegativeBidResponse,
-    Confirmation,
-    PacingResponse,
-}
-
-pub struct HeaderBytes {
-    pub b0: u8,
-    pub b1: u8,
-    pub b2: u8,
-}
-
-// The rules of document 01 for the three bytes of a header.
-pub enum Rule {
-    H1,
-    H2,
-    H3,
-    H4,
-    H5,
-    H6,
-}
-
-// What three bytes say: the fields, or a rule that they break.
-pub enum HeaderRead {
-    Good(Header),
-    Breaks(Rule),
-}
+// Where the RU starts in a unit.
+pub const RU_START: usize = 5;
 
 // What stands before a unit's RU, and where the RU starts.
 pub struct Heading {

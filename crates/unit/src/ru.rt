@@ -1,11 +1,11 @@
 // RUs: those that are fixed, compared; and the rule of a data RU.
-use crate::ChainEnd;
-use crate::DataHeader;
-use crate::Header;
-use crate::build::confirms;
-use crate::build::ends_bracket;
-use crate::build::follows_of;
-use crate::build::turns;
+use header::ChainEnd;
+use header::DataHeader;
+use header::Header;
+use header::build::confirms;
+use header::build::ends_bracket;
+use header::build::follows_of;
+use header::build::turns;
 ghost use mathlib.Core.Path.{_≡_};
 ghost use Prim.Native.Nat.{_≤_};
 ghost use lib.ListN.{length, take};

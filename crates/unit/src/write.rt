@@ -1,9 +1,9 @@
 // A unit written at the front of a lent buffer. Cells past it keep what they had.
-use crate::Header;
-use crate::HeaderBytes;
-use crate::build::build_header;
+use crate::RU_START;
 use crate::ru::fixed_ru;
-use crate::weights::RU_START;
+use header::Header;
+use header::HeaderBytes;
+use header::build::build_header;
 ghost use mathlib.Core.Path.{_≡_};
 ghost use mathlib.Core.List.{[], _++_};
 ghost use Prim.Native.Nat.{_+_, _≤_};

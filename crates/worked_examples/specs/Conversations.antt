@@ -7,13 +7,13 @@ use mathlib.Core.List.{List, [], _∷_, _++_}
 use Rattle.cells.specs.Cells.{front, written}
 use Rattle.logical_record.specs.Walk.{thenWalk}
 use Rattle.logical_record.specs.Records.{wholeRecords, recordsFrom}
-use Rattle.unit.specs.Rules.{headerGood}
-use Rattle.unit.specs.Header.{headerBytes, fieldsOf}
+use Rattle.header.specs.Rules.{headerGood}
+use Rattle.header.specs.Header.{headerBytes, fieldsOf}
 use Rattle.unit.specs.Ru.{sameBytes, ruGood}
 use Rattle.unit.specs.Unit.{unitBytes, unitOf}
 use Rattle.pacing.specs.Pacing.{credit, advanced, answered}
 use Rattle.control.specs.Within.{controlGood}
-use Rattle.control.specs.Transitions.{allocated, spilled, closed, confirmationMade, markAnswered, dataTaken, bidTaken, grantTaken, refusalTaken, confirmationTaken}
+use Rattle.transitions.specs.Transitions.{allocated, spilled, closed, confirmationMade, markAnswered, dataTaken, bidTaken, grantTaken, refusalTaken, confirmationTaken}
 use Rattle.control.specs.declared.State.{State}
 use Rattle.control.specs.declared.State.the-variants.{Reset, Send, Receive, ConfirmOwed, ConfirmAwaited}
 use Rattle.sides.specs.Sending.{sendingGood}
@@ -23,7 +23,7 @@ use Rattle.sides.specs.Sending.{requestMade}
 use Rattle.sides.specs.Receiving.{requestTaken}
 use Rattle.end.specs.Requests.{dataHeader}
 use Rattle.sides.specs.Opening.{openingRefusal}
-use Rattle.end.specs.Opening.{opened}
+use Rattle.session.specs.Opening.{opened}
 use Rattle.end.specs.Allocate.{allocateRefusal, bidMade, allocateDecision, allocate}
 use Rattle.end.specs.SendData.{sendRefusal, bytesKept, bytesSpilled, sendDecision, sendCells, sendData}
 use Rattle.end.specs.Close.{closeRefusal, lastMade, closeDecision, close}

@@ -7,15 +7,16 @@ use mathlib.Core.List.{List, [], _∷_}
 use lib.ListN.{take}
 use Rattle.cells.specs.Cells.{front, written}
 use Rattle.logical_record.specs.Walk.{thenWalk}
-use Rattle.unit.specs.Rules.{bytes, keeps, headerGood}
-use Rattle.unit.specs.Header.{headerBytes, fieldsOf}
+use Rattle.header.specs.Rules.{bytes, keeps, headerGood}
+use Rattle.header.specs.Header.{headerBytes, fieldsOf}
 use Rattle.unit.specs.Ru.{sameBytes, ruGood}
 use Rattle.unit.specs.Unit.{unitBytes, unitOf}
-use Rattle.unit.specs.declared.Rule.the-variants.{H1, H2, H3, H4, H5, H6}
-use Rattle.unit.specs.declared.Follows.the-variants.{Stay}
+use Rattle.header.specs.declared.Rule.the-variants.{H1, H2, H3, H4, H5, H6}
+use Rattle.header.specs.declared.Follows.the-variants.{Stay}
 use Rattle.pacing.specs.Pacing.{credit, advanced, answered}
 use Rattle.control.specs.Within.{controlGood}
-use Rattle.control.specs.Transitions.{setState, allocated, spilled, closed, confirmationMade, markAnswered, dataTaken, bidTaken, grantTaken, refusalTaken, confirmationTaken}
+use Rattle.control.specs.Parts.{setState}
+use Rattle.transitions.specs.Transitions.{allocated, spilled, closed, confirmationMade, markAnswered, dataTaken, bidTaken, grantTaken, refusalTaken, confirmationTaken}
 use Rattle.control.specs.declared.State.the-variants.{ConfirmOwed}
 use Rattle.sides.specs.Sending.{sendingGood}
 use Rattle.sides.specs.Receiving.{receivingGood}
@@ -25,7 +26,7 @@ use Rattle.sides.specs.Receiving.{requestTaken}
 use Rattle.end.specs.Requests.{dataHeader}
 use Rattle.end.specs.Outcome.{withControl, withOwed}
 use Rattle.sides.specs.Opening.{openingRefusal}
-use Rattle.end.specs.Opening.{opened}
+use Rattle.session.specs.Opening.{opened}
 use Rattle.end.specs.Allocate.{allocateRefusal, bidMade, allocateDecision, allocate}
 use Rattle.end.specs.SendData as S
 use Rattle.end.specs.SendData.{sendRefusal, bytesKept, bytesSpilled, sendDecision, sendCells, sendData}

@@ -1,7 +1,7 @@
 -- `unit::read::read_unit` meets its contract. What a unit says follows from what its header says, by the laws of `Reading`.
 -- Assumes nothing.
 use denote.Ref.{now}
-use Rattle.unit.specs.declared.Rule.the-variants.{H1}
+use Rattle.header.specs.declared.Rule.the-variants.{H1}
 use Rattle.unit.proofs.Reading.{unit-short, unit-good, unit-breaks, short-names, good-names, unit-names}
 use borrow.Author.Needs.{needs}
 use Rattle.unit.proofs.read.read_unit.Statement.{statement}

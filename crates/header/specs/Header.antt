@@ -1,0 +1,122 @@
+-- The fields of a header, and its bytes.
+-- Assumes nothing.
+use Prim.Native.Nat.{_+_}
+use mathlib.Core.Bool.{Bool, true, false, cond}
+use lib.Dec.{eqb}
+use Rattle.header.specs.Weights.{FIRST, LAST, EXCEPTION, CONFIRM, PACING, BB, CD, CEB, on, bit}
+use Rattle.header.specs.Rules.{bytes, isData, requestsConfirmation, keepsH1, keepsH2, keepsH3, keepsH4, keepsH5, keepsH6, headerGood}
+use Rattle.header.specs.declared.HeaderBytes.{HeaderBytes}
+use Rattle.header.specs.declared.Rule.{Rule}
+use Rattle.header.specs.declared.Rule.the-variants.{H1, H2, H3, H4, H5, H6}
+use Rattle.header.specs.declared.Follows.{Follows}
+use Rattle.header.specs.declared.Follows.the-variants.{Stay, ChangeDirection, EndBracket}
+use Rattle.header.specs.declared.ChainBegin.{ChainBegin}
+use Rattle.header.specs.declared.ChainBegin.the-variants.{Continued, First, FirstWithBracket}
+use Rattle.header.specs.declared.ChainEnd.{ChainEnd}
+use Rattle.header.specs.declared.ChainEnd.the-variants.{Continues, Last}
+use Rattle.header.specs.declared.DataHeader.{DataHeader}
+use Rattle.header.specs.declared.Header.{Header}
+use Rattle.header.specs.declared.Header.the-variants.{Data, Bid, PositiveBidResponse, NegativeBidResponse, Confirmation, PacingResponse}
+use Rattle.header.specs.declared.HeaderRead.{HeaderRead}
+use Rattle.header.specs.declared.HeaderRead.the-variants as headerRead
+
+-- ---- what a data header says
+
+abbrev pub isFirst : ChainBegin → Bool
+isFirst Continued = false
+isFirst First = true
+isFirst FirstWithBracket = true
+
+abbrev pub beginsBracket : ChainBegin → Bool
+beginsBracket Continued = false
+beginsBracket First = false
+beginsBracket FirstWithBracket = true
+
+abbrev pub isLast : ChainEnd → Bool
+isLast Continues = false
+isLast (Last f c) = true
+
+-- a confirmation is requested
+abbrev pub confirms : ChainEnd → Bool
+confirms Continues = false
+confirms (Last f c) = c
+
+abbrev pub followsOf : ChainEnd → Follows
+followsOf Continues = Stay
+followsOf (Last f c) = f
+
+abbrev pub turns : Follows → Bool
+turns Stay = false
+turns ChangeDirection = true
+turns EndBracket = false
+
+abbrev pub endsBracket : Follows → Bool
+endsBracket Stay = false
+endsBracket ChangeDirection = false
+endsBracket EndBracket = true
+
+-- ---- the bytes of a header
+
+abbrev pub dataBytes : DataHeader → HeaderBytes
+dataBytes d =
+    bytes (bit (isFirst (d .begins)) FIRST + bit (isLast (d .ends)) LAST)
+    (cond (confirms (d .ends)) CONFIRM EXCEPTION + bit (d .pacing) PACING)
+    (bit (beginsBracket (d .begins)) BB + bit (turns (followsOf (d .ends))) CD + bit (endsBracket (followsOf (d .ends))) CEB)
+
+unfoldable pub headerBytes : Header → HeaderBytes
+headerBytes (Data d) = dataBytes d
+headerBytes (Bid p) = bytes 0x4B (0x80 + bit p PACING) 0x80
+headerBytes PositiveBidResponse = bytes 0xCB 0x80 0x00
+headerBytes NegativeBidResponse = bytes 0xCF 0x90 0x00
+headerBytes Confirmation = bytes 0x83 0x20 0x00
+headerBytes PacingResponse = bytes 0x83 0x01 0x00
+
+-- ---- the fields of a header that is good
+
+abbrev pub beginOf : Bool → Bool → ChainBegin
+beginOf first bb = cond first (cond bb FirstWithBracket First) Continued
+
+abbrev pub followOf : Bool → Bool → Follows
+followOf cd ceb = cond cd ChangeDirection (cond ceb EndBracket Stay)
+
+abbrev pub endOf : Bool → Follows → Bool → ChainEnd
+endOf last f confirm = cond last (Last f confirm) Continues
+
+abbrev pub dataFields : HeaderBytes → DataHeader
+dataFields h =
+    record {
+      begins = beginOf (on FIRST (h .b0)) (on BB (h .b2));
+      ends = endOf (on LAST (h .b0)) (followOf (on CD (h .b2)) (on CEB (h .b2))) (requestsConfirmation (h .b1));
+      pacing = on PACING (h .b1);
+    }
+
+unfoldable pub fieldsOf : HeaderBytes → Header
+fieldsOf h =
+    cond (isData h) (Data (dataFields h))
+    (cond (eqb (h .b0) 0x4B) (Bid (on PACING (h .b1)))
+    (cond (eqb (h .b0) 0x83) (cond (on PACING (h .b1)) PacingResponse Confirmation)
+    (cond (eqb (h .b0) 0xCB) PositiveBidResponse NegativeBidResponse)))
+
+-- ---- reading
+
+-- what is read of three bytes, if it is this rule that is named where one is broken
+unfoldable pub readAs : Rule → HeaderBytes → HeaderRead
+readAs r h = cond (headerGood h) (headerRead.Good (fieldsOf h)) (headerRead.Breaks r)
+
+-- the lowest rule that is broken is named
+unfoldable pub readLowest : HeaderBytes → HeaderRead
+readLowest h =
+    cond (keepsH1 h)
+    (cond (keepsH2 h)
+    (cond (keepsH3 h)
+    (cond (keepsH4 h)
+    (cond (keepsH5 h) (cond (keepsH6 h) (headerRead.Good (fieldsOf h)) (headerRead.Breaks H6)) (headerRead.Breaks H5))
+    (headerRead.Breaks H4))
+    (headerRead.Breaks H3))
+    (headerRead.Breaks H2))
+    (headerRead.Breaks H1)
+
+-- the rule that is named; of good bytes none is, and H1 stands in
+abbrev pub ruleNamed : HeaderRead → Rule
+ruleNamed (headerRead.Good f) = H1
+ruleNamed (headerRead.Breaks r) = r

@@ -1,0 +1,38 @@
+-- Opening.
+-- Assumes nothing.
+use Prim.Native.Nat.{ℕ}
+use mathlib.Core.Bool.{cond, _||_}
+use lib.Dec.{eqb}
+use Rattle.transitions.specs.Transitions.{fresh}
+use Rattle.control.specs.declared.Role.{Role}
+use Rattle.control.specs.declared.Role.the-variants.{FirstSpeaker}
+use Rattle.answers.specs.Answers.{accepted, refused}
+use Rattle.sides.specs.Opening.{openingRefusal, roleOf}
+use Rattle.sides.specs.Sending.{freshSending}
+use Rattle.sides.specs.Receiving.{freshReceiving}
+use Rattle.sides.specs.declared.Session.{Session}
+use Rattle.end.specs.declared.End.{End}
+use Rattle.end.specs.declared.Done.{Done}
+
+-- Reset, stay, no mark, chains closed, record places between records, counts and numbers 0, credit and open equal to their W, flags off
+abbrev pub freshEnd : Role → ℕ → ℕ → ℕ → ℕ → ℕ → End
+freshEnd role outwindow outmax inwindow inmax inbox =
+    record {
+      control = fresh role;
+      sending = freshSending outwindow outmax;
+      receiving = freshReceiving inwindow inmax inbox;
+      bidding = 0;
+      owed = 0;
+    }
+
+-- a record of zeros
+abbrev pub zeroEnd : End
+zeroEnd = freshEnd FirstSpeaker 0 0 0 0 0
+
+-- opening by the lengths of the three buffers lent, in no cell of which it writes
+unfoldable pub opened : Session → ℕ → ℕ → ℕ → Done
+opened s send unit inbox =
+    let q : ℕ = openingRefusal s send unit inbox in
+    cond (eqb q 0)
+    (record { answer = accepted 0; end = freshEnd (roleOf (s .role)) (s .outwindow) (s .outmax) (s .inwindow) (s .inmax) inbox })
+    (record { answer = refused q; end = zeroEnd })

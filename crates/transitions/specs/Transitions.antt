@@ -1,0 +1,109 @@
+-- Every transition of the finite part. Fields not named keep what they had.
+-- Assumes nothing.
+use mathlib.Core.Bool.{Bool, true, false, not, cond}
+use Rattle.header.specs.Header.{isLast}
+use Rattle.header.specs.declared.Follows.{Follows}
+use Rattle.header.specs.declared.Follows.the-variants.{Stay, ChangeDirection, EndBracket}
+use Rattle.header.specs.declared.ChainBegin.{ChainBegin}
+use Rattle.header.specs.declared.ChainBegin.the-variants.{Continued, First, FirstWithBracket}
+use Rattle.header.specs.declared.ChainEnd.{ChainEnd}
+use Rattle.header.specs.declared.ChainEnd.the-variants.{Continues, Last}
+use Rattle.header.specs.declared.Header.{Header}
+use Rattle.header.specs.declared.Header.the-variants.{PositiveBidResponse, NegativeBidResponse}
+use Rattle.control.specs.Parts.{setState, setFollows, setMark, setDue, setBid, setOutchain, setInchain}
+use Rattle.control.specs.Tests.{isFirstSpeaker, isReset}
+use Rattle.control.specs.declared.Role.{Role}
+use Rattle.control.specs.declared.Role.the-variants.{FirstSpeaker, Bidder}
+use Rattle.control.specs.declared.State.{State}
+use Rattle.control.specs.declared.State.the-variants.{Reset, Send, Receive, ConfirmOwed, ConfirmAwaited}
+use Rattle.control.specs.declared.WhatReceived.{WhatReceived}
+use Rattle.control.specs.declared.WhatReceived.the-variants as mark
+use Rattle.control.specs.declared.Control.{Control}
+
+-- ---- opening
+
+-- Reset, stay, no mark, flags off, chains closed
+abbrev pub fresh : Role → Control
+fresh r =
+    record { role = r; state = Reset; follows = Stay; mark = mark.Nothing; due = false; bid = false; outchain = false; inchain = false }
+
+-- ---- calls
+
+-- allocate: a first speaker sends, BB-due; a bidder has its flag on
+unfoldable pub allocated : Control → Control
+allocated c = cond (isFirstSpeaker (c .role)) (setDue true (setState Send c)) (setBid true c)
+
+-- where a data unit stands at the begin of its chain: the first after BB-due carries BB
+abbrev pub beginOf : Control → ChainBegin
+beginOf c = cond (c .outchain) Continued (cond (c .due) FirstWithBracket First)
+
+-- a data unit that is not last in its chain has gone out; BB-due is cleared
+unfoldable pub spilled : Control → Control
+spilled c = setOutchain true (setDue false c)
+
+-- the state after a last unit, without confirmation: stay, turn, end
+abbrev pub afterLast : Follows → State
+afterLast Stay = Send
+afterLast ChangeDirection = Receive
+afterLast EndBracket = Reset
+
+-- a last unit has gone out; with confirmation the end waits, noting what follows
+unfoldable pub closed : Follows → Bool → Control → Control
+closed f confirm c =
+    setOutchain false (setDue false (cond confirm (setState ConfirmAwaited (setFollows f c)) (setState (afterLast f) c)))
+
+-- confirmed: stay gives Receive, turn gives Send, end gives Reset
+abbrev pub afterOwed : Follows → State
+afterOwed Stay = Receive
+afterOwed ChangeDirection = Send
+afterOwed EndBracket = Reset
+
+unfoldable pub confirmationMade : Control → Control
+confirmationMade c = setState (afterOwed (c .follows)) c
+
+-- a mark read: turn gives Send, end Reset, the others Owes, noting what follows
+abbrev pub afterMark : WhatReceived → Control → Control
+afterMark mark.Nothing c = c
+afterMark mark.Turn c = setState Send c
+afterMark mark.End c = setState Reset c
+afterMark mark.Confirm c = setState ConfirmOwed (setFollows Stay c)
+afterMark mark.ConfirmTurn c = setState ConfirmOwed (setFollows ChangeDirection c)
+afterMark mark.ConfirmEnd c = setState ConfirmOwed (setFollows EndBracket c)
+
+unfoldable pub markAnswered : Control → Control
+markAnswered c = setMark mark.Nothing (afterMark (c .mark) c)
+
+-- ---- take
+
+-- the mark of a last unit
+abbrev pub markOfLast : Follows → Bool → WhatReceived
+markOfLast Stay confirm = cond confirm mark.Confirm mark.Nothing
+markOfLast ChangeDirection confirm = cond confirm mark.ConfirmTurn mark.Turn
+markOfLast EndBracket confirm = cond confirm mark.ConfirmEnd mark.End
+
+abbrev pub markOf : ChainEnd → WhatReceived
+markOf Continues = mark.Nothing
+markOf (Last f confirm) = markOfLast f confirm
+
+-- data: a bidder in Reset becomes Receive, as all others are; the mark is left, and the chain is open unless this was its last
+unfoldable pub dataTaken : ChainEnd → Control → Control
+dataTaken ends c = setInchain (not (isLast ends)) (setMark (markOf ends) (setState Receive c))
+
+-- a bid: in Reset it makes a grant and becomes Receive, in any other state it makes a bid refusal
+unfoldable pub bidTaken : Control → Control
+bidTaken c = cond (isReset (c .state)) (setState Receive c) c
+
+abbrev pub bidAnswer : Control → Header
+bidAnswer c = cond (isReset (c .state)) PositiveBidResponse NegativeBidResponse
+
+-- a grant: Send, flag off
+unfoldable pub grantTaken : Control → Control
+grantTaken c = setBid false (setState Send c)
+
+-- a bid refusal: flag off
+unfoldable pub refusalTaken : Control → Control
+refusalTaken c = setBid false c
+
+-- a confirmation: stay gives Send, turn Receive, end Reset
+unfoldable pub confirmationTaken : Control → Control
+confirmationTaken c = setState (afterLast (c .follows)) c
