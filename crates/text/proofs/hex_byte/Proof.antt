@@ -1,8 +1,8 @@
 -- `report::text::hex_byte` meets its contract. Its two digits are one text.
 -- Assumes nothing.
 use borrow.Author.Needs.{needs}
-use Rattle.report.proofs.text.hex_byte.Statement.{statement}
-use Rattle.report.proofs.text.hex_byte.Tie as tie
+use Rattle.text.proofs.hex_byte.Statement.{statement}
+use Rattle.text.proofs.hex_byte.Tie as tie
 
 hex-digit-requires : tie.Need-hex-digit-requires
 hex-digit-requires c κs = search needs

@@ -5,11 +5,11 @@ use mathlib.Core.List.{_++_, append-nil}
 use Prim.Native.Nat.{_+_, _-_, _^_, _<_}
 use native.Mathlib.Omega.{arith}
 use lib.ListN.{length, drop, set, length-set}
-use Rattle.report.specs.Numerals.{decimalOf}
-use Rattle.report.proofs.Numerals.{more-left, digit-stored, first-stored, rest-is}
+use Rattle.text.specs.Numerals.{decimalOf}
+use Rattle.text.proofs.Numerals.{more-left, digit-stored, first-stored, rest-is}
 use borrow.Author.Needs.{needs}
-use Rattle.report.proofs.text.decimal.Statement.{statement}
-use Rattle.report.proofs.text.decimal.Tie as tie
+use Rattle.text.proofs.decimal.Statement.{statement}
+use Rattle.text.proofs.decimal.Tie as tie
 
 abbrev Inv-loop : tie.InvT-loop
 Inv-loop out at n digits₀ i₀ rest₀ digits i rest =

@@ -6,12 +6,12 @@ use Prim.Native.Nat.{_≤_, _+_, _-_}
 use native.Mathlib.Omega.{arith}
 use lib.ListN.{length, drop, getD, drop-of-length-le}
 use denote.Ref.{now}
-use Rattle.report.specs.Numerals.{hexByte, hexOf}
-use Rattle.report.proofs.Numerals.{length-hex, hex-more}
-use Rattle.report.proofs.Puts.{not-put, Left, left-all, left-none, left-less}
+use Rattle.text.specs.Numerals.{hexByte, hexOf}
+use Rattle.text.proofs.Numerals.{length-hex, hex-more}
+use Rattle.text.proofs.Puts.{not-put, Left, left-all, left-none, left-less}
 use borrow.Author.Needs.{needs}
-use Rattle.report.proofs.text.hex_bytes.Statement.{statement}
-use Rattle.report.proofs.text.hex_bytes.Tie as tie
+use Rattle.text.proofs.hex_bytes.Statement.{statement}
+use Rattle.text.proofs.hex_bytes.Tie as tie
 
 abbrev Inv-loop : tie.InvT-loop
 Inv-loop out₀ at bytes next₀ i₀ out next i = (i ≤ length bytes) × Left (hexOf bytes) at out₀ (hexOf (drop i bytes)) next out

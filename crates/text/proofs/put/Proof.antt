@@ -3,10 +3,10 @@
 use mathlib.Core.Path.{sym}
 use native.Mathlib.Omega.{arith}
 use denote.Ref.{now}
-use Rattle.report.proofs.Puts.{not-put, put-copied}
+use Rattle.text.proofs.Puts.{not-put, put-copied}
 use borrow.Author.Needs.{needs}
-use Rattle.report.proofs.text.put.Statement.{statement}
-use Rattle.report.proofs.text.put.Tie as tie
+use Rattle.text.proofs.put.Statement.{statement}
+use Rattle.text.proofs.put.Tie as tie
 
 returns : tie.Need-returns
 returns c = let a = c .before .before .before .args in sym (not-put (now (a .text)) (a .at) (now (a .out)) (omega arith))

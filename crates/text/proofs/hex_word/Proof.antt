@@ -1,9 +1,9 @@
 -- `report::text::hex_word` meets its contract. It is the text of its four bytes.
 -- Assumes nothing.
-use Rattle.report.specs.Numerals.{hexWordOf}
+use Rattle.text.specs.Numerals.{hexWordOf}
 use borrow.Author.Needs.{needs}
-use Rattle.report.proofs.text.hex_word.Statement.{statement}
-use Rattle.report.proofs.text.hex_word.Tie as tie
+use Rattle.text.proofs.hex_word.Statement.{statement}
+use Rattle.text.proofs.hex_word.Tie as tie
 
 cast-t6 : tie.Need-cast-t6
 cast-t6 c = search needs

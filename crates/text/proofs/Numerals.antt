@@ -11,7 +11,7 @@ use lib.Dec.{ltb}
 use lib.ListN.{length, take, drop, getD, set, length-set, length-drop}
 use lib.Seq.{take-all, drop-cons, getD-set-same, drop-set-lt}
 use borrow.Author.Tests.{lt-ltb, le-ltb, ltb-true, ltb-false}
-use Rattle.report.specs.Numerals.{decimalIn, decimalOf, hexByte, hexOf}
+use Rattle.text.specs.Numerals.{decimalIn, decimalOf, hexByte, hexOf}
 
 -- ---- decimal
 

@@ -3,8 +3,8 @@
 // the answer is the place to start at.
 ghost use mathlib.Core.Path.{_≡_};
 ghost use Prim.Native.Nat.{_<_};
-ghost use Rattle.report.specs.Put.{putAt};
-ghost use Rattle.report.specs.Numerals.{hexDigit, hexByte, hexOf, hexWordOf, decimalOf};
+ghost use Rattle.text.specs.Put.{putAt};
+ghost use Rattle.text.specs.Numerals.{hexDigit, hexByte, hexOf, hexWordOf, decimalOf};
 
 pub fn put(out: &mut [u8], at: usize, text: &[u8]) -> usize
     ensures { λ r. ⌜ (r, now (out .exit)) ≡ putAt (now (text .entry)) at (now (out .entry)) ⌝ }

@@ -11,7 +11,7 @@ use borrow.Rule.Slice.PartMut.{midOf, putMid}
 use Rattle.cells.specs.Cells.{front, written}
 use Rattle.cells.proofs.Fronts.{front-then, written-bytes, written-length}
 use Rattle.cells.proofs.Parts.{part-is, part-back}
-use Rattle.report.specs.Put.{putAt}
+use Rattle.text.specs.Put.{putAt}
 
 module _ (text : List ℕ) (at : ℕ) (cells : List ℕ) where
   pub not-put : length cells < at + length text → putAt text at cells ≡ (at, cells)
