@@ -1,7 +1,5 @@
 pub mod Counts
-mod Digits
 mod Givens
 mod Lines
-mod Pairs
 mod Parts
 mod Same

@@ -6,7 +6,7 @@ ghost use mathlib.Core.Bool.{true};
 ghost use Prim.Native.Nat.{_≤_};
 ghost use lib.ListN.{length};
 ghost use Rattle.cells.specs.Cells.{front};
-ghost use Rattle.script.specs.Hexadecimal.{isLetter, digitOf, isPair, byteOf, arePairs, bytesOf, hexOf, hexAnswer, hexBytes};
+ghost use Rattle.numerals.specs.Hexadecimal.{isLetter, digitOf, isPair, byteOf, arePairs, bytesOf, hexOf, hexAnswer, hexBytes};
 
 // A to F.
 fn is_letter(b: u8) -> bool

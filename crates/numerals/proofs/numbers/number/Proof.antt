@@ -2,10 +2,10 @@
 -- Assumes nothing.
 use mathlib.Core.Path.{sym, _∙_}
 use denote.Ref.{now}
-use Rattle.script.proofs.Digits.{number-none, number-leading-zero, number-digits}
+use Rattle.numerals.proofs.Digits.{number-none, number-leading-zero, number-digits}
 use borrow.Author.Needs.{needs}
-use Rattle.script.proofs.numbers.number.Statement.{statement}
-use Rattle.script.proofs.numbers.number.Tie as tie
+use Rattle.numerals.proofs.numbers.number.Statement.{statement}
+use Rattle.numerals.proofs.numbers.number.Tie as tie
 
 returns : tie.Need-returns
 returns c = sym (number-none (now (c .before .before .args .text)) (c .if1 .taken))

@@ -10,9 +10,9 @@ use lib.Dec.{eqb, leb, ltb}
 use lib.ListN.{length, getD, drop, drop-of-length-le}
 use lib.Seq.{drop-cons}
 use borrow.Author.Tests.{leb-true, le-leb, lt-leb, lt-ltb}
-use Rattle.script.proofs.Same.{both}
-use Rattle.script.specs.Numbers.{isDecimal, withDigit, readOn, numberOf}
-use Rattle.script.specs.declared.Number.the-variants.{Is, Bad}
+use Rattle.numerals.proofs.Halves.{both}
+use Rattle.numerals.specs.Numbers.{isDecimal, withDigit, readOn, numberOf}
+use Rattle.numerals.specs.declared.Number.the-variants.{Is, Bad}
 
 pub decimal-bounds : (b : ℕ) → isDecimal b ≡ true → (0x30 ≤ b) × (b ≤ 0x39)
 decimal-bounds b e =

@@ -1,7 +1,7 @@
 // Numbers: decimal, without leading zeros, 0 to 65,535.
 use crate::Number;
 ghost use mathlib.Core.Path.{_≡_};
-ghost use Rattle.script.specs.Numbers.{isDecimal, readOn, numberOf};
+ghost use Rattle.numerals.specs.Numbers.{isDecimal, readOn, numberOf};
 
 const ZERO: u8 = 0x30;
 

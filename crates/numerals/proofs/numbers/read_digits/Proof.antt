@@ -8,10 +8,10 @@ use lib.ListN.{length, getD, drop}
 use denote.Ref.{now}
 use borrow.Author.Needs.{needs}
 use borrow.Author.Tests.{not-true, not-false}
-use Rattle.script.specs.Numbers.{readOn}
-use Rattle.script.proofs.Digits.{decimal-bounds, read-more, read-other, read-past, read-end}
-use Rattle.script.proofs.numbers.read_digits.Statement.{statement}
-use Rattle.script.proofs.numbers.read_digits.Tie as tie
+use Rattle.numerals.specs.Numbers.{readOn}
+use Rattle.numerals.proofs.Digits.{decimal-bounds, read-more, read-other, read-past, read-end}
+use Rattle.numerals.proofs.numbers.read_digits.Statement.{statement}
+use Rattle.numerals.proofs.numbers.read_digits.Tie as tie
 
 abbrev Inv-loop : tie.InvT-loop
 Inv-loop text value₀ i₀ value i = (i ≤ length text) × (value ≤ 65535) × (readOn value (drop i text) ≡ readOn 0 text)

@@ -8,10 +8,10 @@ use lib.ListN.{length, drop}
 use denote.Ref.{now}
 use borrow.Author.Needs.{needs}
 use borrow.Author.Tests.{not-true, not-false}
-use Rattle.script.specs.Hexadecimal.{arePairs}
-use Rattle.script.proofs.Pairs.{pairs-more, pairs-other, pairs-odd, pairs-end}
-use Rattle.script.proofs.hexadecimal.are_pairs.Statement.{statement}
-use Rattle.script.proofs.hexadecimal.are_pairs.Tie as tie
+use Rattle.numerals.specs.Hexadecimal.{arePairs}
+use Rattle.numerals.proofs.Pairs.{pairs-more, pairs-other, pairs-odd, pairs-end}
+use Rattle.numerals.proofs.hexadecimal.are_pairs.Statement.{statement}
+use Rattle.numerals.proofs.hexadecimal.are_pairs.Tie as tie
 
 abbrev Inv-loop : tie.InvT-loop
 Inv-loop text i₀ i = (i ≤ length text) × (arePairs (drop i text) ≡ arePairs text)

@@ -6,9 +6,9 @@ use mathlib.Core.List.{List, [], _∷_}
 use mathlib.Core.Option.{Option, none, some}
 use lib.Dec.{leb}
 use lib.ListN.{length}
-use Rattle.script.specs.Numbers.{isDecimal}
-use Rattle.script.specs.declared.Hex.{Hex}
-use Rattle.script.specs.declared.Hex.the-variants.{Bytes, Bad}
+use Rattle.numerals.specs.Numbers.{isDecimal}
+use Rattle.numerals.specs.declared.Hex.{Hex}
+use Rattle.numerals.specs.declared.Hex.the-variants.{Bytes, Bad}
 
 -- A to F
 abbrev pub isLetter : ℕ → Bool

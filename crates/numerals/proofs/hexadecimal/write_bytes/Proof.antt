@@ -8,11 +8,11 @@ use lib.ListN.{length, length-set}
 use lib.Seq.{paste, paste-zero}
 use denote.Ref.{now}
 use borrow.Author.Needs.{needs}
-use Rattle.script.specs.Hexadecimal.{bytesOf}
-use Rattle.script.proofs.Givens.{half}
-use Rattle.script.proofs.Pairs.{byte-at, written-more, written-all}
-use Rattle.script.proofs.hexadecimal.write_bytes.Statement.{statement}
-use Rattle.script.proofs.hexadecimal.write_bytes.Tie as tie
+use Rattle.numerals.specs.Hexadecimal.{bytesOf}
+use Rattle.numerals.proofs.Givens.{half}
+use Rattle.numerals.proofs.Pairs.{byte-at, written-more, written-all}
+use Rattle.numerals.proofs.hexadecimal.write_bytes.Statement.{statement}
+use Rattle.numerals.proofs.hexadecimal.write_bytes.Tie as tie
 
 abbrev Inv-loop : tie.InvT-loop
 Inv-loop text into₀ n i₀ into i = (i ≤ n) × (n ≡ length (bytesOf text)) × (n + n ≤ length text) × (length into ≡ length into₀) × (into ≡ paste into₀ 0 (bytesOf text) i)

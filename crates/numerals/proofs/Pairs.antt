@@ -12,10 +12,10 @@ use lib.ListN.{length, getD, set, drop, drop-of-length-le}
 use lib.Seq.{drop-cons, paste, paste-suc, take-length}
 use borrow.Author.Tests.{leb-true}
 use Rattle.cells.specs.Cells.{front}
-use Rattle.script.proofs.Digits.{decimal-bounds}
-use Rattle.script.proofs.Same.{both}
-use Rattle.script.specs.Numbers.{isDecimal}
-use Rattle.script.specs.Hexadecimal.{isLetter, digitOf, isPair, byteOf, arePairs, bytesOf}
+use Rattle.numerals.proofs.Digits.{decimal-bounds}
+use Rattle.numerals.proofs.Halves.{both}
+use Rattle.numerals.specs.Numbers.{isDecimal}
+use Rattle.numerals.specs.Hexadecimal.{isLetter, digitOf, isPair, byteOf, arePairs, bytesOf}
 
 -- ---- one digit
 

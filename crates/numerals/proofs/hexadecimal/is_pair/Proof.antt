@@ -1,8 +1,8 @@
 -- `script::hexadecimal::is_pair` meets its contract. It is the rule, of the four tests.
 -- Assumes nothing.
 use borrow.Author.Needs.{needs}
-use Rattle.script.proofs.hexadecimal.is_pair.Statement.{statement}
-use Rattle.script.proofs.hexadecimal.is_pair.Tie as tie
+use Rattle.numerals.proofs.hexadecimal.is_pair.Statement.{statement}
+use Rattle.numerals.proofs.hexadecimal.is_pair.Tie as tie
 
 is-decimal-requires : tie.Need-is-decimal-requires
 is-decimal-requires c κs = search needs

@@ -3,10 +3,10 @@
 use lib.ListN.{length}
 use denote.Ref.{now}
 use Rattle.cells.proofs.Fronts.{front-none}
-use Rattle.script.proofs.Givens.{hex-given, hex-none, hex-fits}
+use Rattle.numerals.proofs.Givens.{hex-given, hex-none, hex-fits}
 use borrow.Author.Needs.{needs}
-use Rattle.script.proofs.hexadecimal.hex.Statement.{statement}
-use Rattle.script.proofs.hexadecimal.hex.Tie as tie
+use Rattle.numerals.proofs.hexadecimal.hex.Statement.{statement}
+use Rattle.numerals.proofs.hexadecimal.hex.Tie as tie
 
 are-pairs-requires : tie.Need-are-pairs-requires
 are-pairs-requires c κs = search needs

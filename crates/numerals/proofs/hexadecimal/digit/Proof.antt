@@ -2,10 +2,10 @@
 -- Assumes nothing.
 use mathlib.Core.Path.{sym, _∙_}
 use native.Mathlib.Omega.{arith}
-use Rattle.script.proofs.Pairs.{decimal-digit, letter-digit, no-digit}
+use Rattle.numerals.proofs.Pairs.{decimal-digit, letter-digit, no-digit}
 use borrow.Author.Needs.{needs}
-use Rattle.script.proofs.hexadecimal.digit.Statement.{statement}
-use Rattle.script.proofs.hexadecimal.digit.Tie as tie
+use Rattle.numerals.proofs.hexadecimal.digit.Statement.{statement}
+use Rattle.numerals.proofs.hexadecimal.digit.Tie as tie
 
 is-decimal-requires : tie.Need-is-decimal-requires
 is-decimal-requires c κs = search needs
