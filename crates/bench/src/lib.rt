@@ -9,17 +9,15 @@ use script::Verb;
 use script_calls::call;
 use script_calls::plain;
 use unit_lines::Line;
+use unit_lines::deliver;
 use unit_lines::is_full;
 use unit_lines::oldest_end;
-use unit_lines::put;
 use unit_lines::remove_oldest;
 ghost use mathlib.Core.Path.{_≡_};
-ghost use mathlib.Core.List.{List, _++_};
-ghost use Prim.Native.Nat.{ℕ, _≤_, _<_};
-ghost use lib.ListN.{length};
-ghost use Rattle.joined.specs.Ends.{unitsOf};
+ghost use mathlib.Core.List.{List};
+ghost use Prim.Native.Nat.{ℕ};
 ghost use Rattle.joined.specs.Histories.{Log};
-ghost use Rattle.unit_lines.specs.Lines.{MOST-UNITS, LONGEST-UNIT, Holds};
+ghost use Rattle.unit_lines.specs.Lines.{Holds};
 ghost use Rattle.bench.specs.Step.{accepted, benchOf, Steps};
 
 // Whether the call was made.
@@ -61,19 +59,6 @@ fn unmade(outcome: Outcome, end: End, from: Line, to: Line) -> Stepped
         from,
         to,
     }
-}
-
-// The unit made, n bytes at the front of the unit buffer, joins the line; 0 is no unit.
-fn deliver(line: Line, cells: &mut [u8], unit: &[u8], n: usize) -> Line
-    ensures { λ r. ⌜ ((vs : List (List ℕ)) → Holds line (now (cells .entry)) vs → length vs < MOST-UNITS → n ≤ LONGEST-UNIT → n ≤ length (now (unit .entry)) → Holds r (now (cells .exit)) (vs ++ unitsOf n (now (unit .entry)))) ⌝ }
-{
-    if n == 0 {
-        return line;
-    }
-    if unit.len() < n {
-        return line;
-    }
-    put(line, cells, &unit[..n])
 }
 
 // A call that the end answers by itself.

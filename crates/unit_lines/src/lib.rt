@@ -8,6 +8,7 @@ ghost use Prim.Native.Nat.{ℕ, _+_, _*_, _≤_, _<_};
 ghost use lib.Dec.{leb};
 ghost use lib.ListN.{length, getD};
 ghost use Rattle.cells.specs.Cells.{front};
+ghost use Rattle.joined.specs.Ends.{unitsOf};
 ghost use Rattle.unit_lines.specs.Lines.{MOST-UNITS, LONGEST-UNIT, LONGEST-FRAME, framed, Holds, hasRoom, stands, oldestEnd, UnitTo};
 
 // A line holds up to 512 units.
@@ -75,6 +76,19 @@ pub fn put(line: Line, cells: &mut [u8], unit: &[u8]) -> Line
     } else {
         line
     }
+}
+
+// The unit made, n bytes at the front of the unit buffer, joins the line; 0 is no unit.
+pub fn deliver(line: Line, cells: &mut [u8], unit: &[u8], n: usize) -> Line
+    ensures { λ r. ⌜ ((vs : List (List ℕ)) → Holds line (now (cells .entry)) vs → length vs < MOST-UNITS → n ≤ LONGEST-UNIT → n ≤ length (now (unit .entry)) → Holds r (now (cells .exit)) (vs ++ unitsOf n (now (unit .entry)))) ⌝ }
+{
+    if n == 0 {
+        return line;
+    }
+    if unit.len() < n {
+        return line;
+    }
+    put(line, cells, &unit[..n])
 }
 
 // The byte at `at`, 0 past the end.

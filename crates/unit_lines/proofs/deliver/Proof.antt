@@ -5,8 +5,8 @@ use borrow.Author.Tests.{ne-eqb}
 use denote.Ref.{now}
 use lib.Seq.{length-take-le}
 use borrow.Author.Needs.{needs}
-use Rattle.bench.proofs.deliver.Statement.{statement}
-use Rattle.bench.proofs.deliver.Tie as tie
+use Rattle.unit_lines.proofs.deliver.Statement.{statement}
+use Rattle.unit_lines.proofs.deliver.Tie as tie
 
 returns : tie.Need-returns
 returns c = λ vs h m s t. rw (c .if1 .taken, append-nil) h
