@@ -1,5 +1,2 @@
-mod Frames
-mod Held
-mod Acting
 mod Lengths
 mod Stepping

@@ -22,11 +22,11 @@ use Rattle.joined.specs.Histories.{Log}
 use Rattle.script.specs.declared.Verb.{Verb}
 use Rattle.script.specs.declared.Request.{Request}
 use Rattle.script.specs.declared.Request.the-variants.{Call, Take, Offer}
-use Rattle.bench.specs.declared.lines.Line.{Line}
-use Rattle.bench.specs.declared.step.Outcome.{Outcome}
-use Rattle.bench.specs.declared.step.Outcome.the-variants.{Answered, NothingWaiting, Full}
-use Rattle.bench.specs.Lines.{Holds}
-use Rattle.bench.specs.Calls.{verbOf, isRead, stationOf, actedBy, plainDone}
+use Rattle.unit_lines.specs.declared.Line.{Line}
+use Rattle.bench.specs.declared.Outcome.{Outcome}
+use Rattle.bench.specs.declared.Outcome.the-variants.{Answered, NothingWaiting, Full}
+use Rattle.unit_lines.specs.Lines.{Holds}
+use Rattle.script_calls.specs.Calls.{verbOf, isRead, stationOf, actedBy, plainDone}
 use Rattle.bench.specs.Step.{Bench, benchOf, unlessFull, outcomeOf, replyTo, NamesRule, accepted, Steps}
 use Rattle.bench.proofs.Lengths.{Fits, acts-fit, takes-fit}
 

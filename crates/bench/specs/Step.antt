@@ -17,11 +17,11 @@ use Rattle.joined.specs.Ends.{Station, Reply, acts, takes}
 use Rattle.joined.specs.Histories.{Log}
 use Rattle.script.specs.declared.Request.{Request}
 use Rattle.script.specs.declared.Request.the-variants.{Call, Take, Offer}
-use Rattle.bench.specs.declared.lines.Line.{Line}
-use Rattle.bench.specs.declared.step.Outcome.{Outcome}
-use Rattle.bench.specs.declared.step.Outcome.the-variants.{Answered, NothingWaiting, Full}
-use Rattle.bench.specs.Lines.{MOST-UNITS, Holds}
-use Rattle.bench.specs.Calls.{verbOf, isRead, replyOf, stationOf}
+use Rattle.unit_lines.specs.declared.Line.{Line}
+use Rattle.bench.specs.declared.Outcome.{Outcome}
+use Rattle.bench.specs.declared.Outcome.the-variants.{Answered, NothingWaiting, Full}
+use Rattle.unit_lines.specs.Lines.{MOST-UNITS, Holds}
+use Rattle.script_calls.specs.Calls.{verbOf, isRead, replyOf, stationOf}
 
 -- What a step is lent and leaves: an end with its buffers; the buffer of a read; the line to this end; and the line to the other end.
 pub record Bench : Type 0 where

@@ -2,3 +2,4 @@ mod Moves
 pub mod Fronts
 pub mod Parts
 pub mod Copies
+pub mod Equal

@@ -3,8 +3,8 @@ mod line;
 mod openings;
 pub mod run;
 
-use bench::lines::Line;
 use end::End;
+use unit_lines::Line;
 
 // Two joined ends: the first speaker and the bidder, and the units that wait for each.
 pub struct Joined {

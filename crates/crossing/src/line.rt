@@ -1,8 +1,7 @@
 // One line of a script: the call that it asks for, made at its end, and the text of its answer.
 use crate::Joined;
-use bench::lines::Line;
-use bench::step::Outcome;
-use bench::step::step;
+use bench::Outcome;
+use bench::step;
 use end::End;
 use end::ReadAnswer;
 use report::answer::answer_line;
@@ -13,6 +12,7 @@ use script::Asked;
 use script::Parsed;
 use script::Request;
 use script::line::call_line;
+use unit_lines::Line;
 
 // What a call leaves at its end and on the two lines, and the length of its text.
 struct Called {

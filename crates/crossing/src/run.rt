@@ -3,8 +3,6 @@ use crate::Joined;
 use crate::line::line_at;
 use crate::openings::open_first;
 use crate::openings::open_second;
-use bench::lines::Line;
-use bench::lines::empty;
 use check::same;
 use end::End;
 use libc::STDOUT_FILENO;
@@ -15,6 +13,8 @@ use script::FirstLine;
 use script::Sizes;
 use script::line::first_line;
 use script::text::line_end;
+use unit_lines::Line;
+use unit_lines::empty;
 
 // How far the answers expected are met; `same` while they are.
 struct Met {

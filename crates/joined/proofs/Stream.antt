@@ -17,7 +17,8 @@ use Rattle.logical_record.specs.declared.Walked.{Walked}
 use Rattle.logical_record.specs.declared.Walked.the-variants.{At, BadLength}
 use Rattle.header.specs.Rules.{headerGood}
 use Rattle.header.specs.Header.{headerBytes, fieldsOf, isFirst, isLast}
-use Rattle.unit.specs.Ru.{marks, fixedRu, ruGood, sameBytes}
+use Rattle.cells.specs.Equal.{sameBytes}
+use Rattle.unit.specs.Ru.{marks, fixedRu, ruGood}
 use Rattle.unit.specs.Unit.{RU-START, unitOf, numberIn, headerIn}
 use Rattle.header.specs.declared.ChainEnd.{ChainEnd}
 use Rattle.header.specs.declared.DataHeader.{DataHeader}

@@ -20,10 +20,10 @@ use Rattle.control.specs.declared.State.the-variants as state
 use Rattle.control.specs.Tests.{isNothing}
 use Rattle.report.specs.Ascii.{ascii}
 use Rattle.report.specs.Named.{endWord, verbWords, requestWords, markWord, stateWord}
-use Rattle.report.specs.Numerals.{decimalIn, decimalOf, hexOf, hexWordOf}
+use Rattle.text.specs.Numerals.{decimalIn, decimalOf, hexOf, hexWordOf}
 use Rattle.report.specs.Answer.{callText, senseText, ruleText, refusalText, bytesText, completeText, markText, answerText}
 use Rattle.report.specs.Lines.{openText, nothingWaitingText, fullText, badLineText, stateText, countText, countsText, endText}
-use Rattle.report.proofs.Numerals.{below-ten, ten-up, fewer, length-hex}
+use Rattle.text.proofs.Numerals.{below-ten, ten-up, fewer, length-hex}
 
 cond-length : (b : Bool) (x y : List ℕ) (m : ℕ) → length x ≤ m → length y ≤ m → length (cond b x y) ≤ m
 cond-length true x y m h g = h

@@ -1,4 +1,2 @@
 pub mod Lengths
-mod Numerals
 pub mod Printing
-pub mod Puts

@@ -8,9 +8,10 @@ use lib.ListN.{length}
 use Rattle.script.specs.declared.Request.{Request}
 use Rattle.control.specs.declared.WhatReceived.{WhatReceived}
 use Rattle.control.specs.Tests.{isNothing}
+use Rattle.answers.specs.Answers.{SHORT-UNIT, BAD-HEADER}
 use Rattle.report.specs.Ascii.{ascii}
 use Rattle.report.specs.Named.{endWord, requestWords, markWord}
-use Rattle.report.specs.Numerals.{decimalOf, hexOf, hexWordOf}
+use Rattle.text.specs.Numerals.{decimalOf, hexOf, hexWordOf}
 
 -- the end, and the call's words
 unfoldable pub callText : Bool → Request → List ℕ
@@ -18,11 +19,11 @@ callText second request = endWord second ++ ascii " " ++ requestWords request
 
 -- the sense, with refusals 20 and above
 unfoldable pub senseText : ℕ → ℕ → List ℕ
-senseText refusal sense = cond (leb 20 refusal) (ascii " " ++ hexWordOf sense) []
+senseText refusal sense = cond (leb SHORT-UNIT refusal) (ascii " " ++ hexWordOf sense) []
 
 -- the rule, with refusal 21
 unfoldable pub ruleText : ℕ → ℕ → List ℕ
-ruleText refusal rule = cond (eqb refusal 21) (ascii " H" ++ decimalOf rule) []
+ruleText refusal rule = cond (eqb refusal BAD-HEADER) (ascii " H" ++ decimalOf rule) []
 
 unfoldable pub refusalText : ℕ → ℕ → ℕ → List ℕ
 refusalText refusal sense rule = ascii " " ++ decimalOf refusal ++ senseText refusal sense ++ ruleText refusal rule

@@ -3,6 +3,4 @@ pub mod Ascii
 pub mod Examples
 pub mod Lines
 pub mod Named
-pub mod Numerals
 pub mod Prints
-pub mod Put

@@ -1,22 +1,19 @@
 // The line that says what a call answered. A part that does not apply puts nothing.
-use crate::text::decimal;
-use crate::text::hex_bytes;
-use crate::text::hex_word;
-use crate::text::put;
 use crate::words::end_digit;
 use crate::words::mark_word;
 use crate::words::put_word;
 use crate::words::request_word;
+use answers::numbers::BAD_HEADER;
+use answers::numbers::SHORT_UNIT;
 use control::WhatReceived;
 use control::tests::is_nothing;
 use script::Request;
+use text::decimal;
+use text::hex_bytes;
+use text::hex_word;
+use text::put;
 ghost use Rattle.report.specs.Prints.{PrintsAt, Prints};
 ghost use Rattle.report.specs.Answer.{callText, senseText, ruleText, refusalText, bytesText, completeText, markText, answerText};
-
-// The least refusal number that has a sense, and the one that names a rule of headers.
-const FIRST_WITH_SENSE: u8 = 20;
-
-const BAD_HEADER: u8 = 21;
 
 pub(crate) fn put_call(out: &mut [u8], at: usize, second: bool, request: Request) -> usize
     ensures { λ r. ⌜ PrintsAt (callText second request) at (now (out .entry)) r (now (out .exit)) ⌝ }
@@ -26,10 +23,11 @@ pub(crate) fn put_call(out: &mut [u8], at: usize, second: bool, request: Request
     put_word(out, behind_blank, request_word(request))
 }
 
+// Refusals of a unit have a sense; a short unit is the first of them.
 fn put_sense(out: &mut [u8], at: usize, refusal: u8, sense: u32) -> usize
     ensures { λ r. ⌜ PrintsAt (senseText refusal sense) at (now (out .entry)) r (now (out .exit)) ⌝ }
 {
-    if refusal < FIRST_WITH_SENSE {
+    if refusal < SHORT_UNIT {
         return at;
     }
     let behind_blank = put(out, at, b" ");

@@ -2,5 +2,4 @@
 
 pub mod answer;
 pub mod lines;
-pub mod text;
 mod words;

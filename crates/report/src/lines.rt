@@ -1,8 +1,6 @@
 // The lines beside those of calls: the opening, a call that was not made, a line that fits no form, and each end at the end of
 // the input.
 use crate::answer::put_call;
-use crate::text::decimal;
-use crate::text::put;
 use crate::words::end_digit;
 use crate::words::mark_word;
 use crate::words::put_word;
@@ -10,6 +8,8 @@ use crate::words::state_word;
 use control::State;
 use control::WhatReceived;
 use script::Request;
+use text::decimal;
+use text::put;
 ghost use Rattle.report.specs.Prints.{PrintsAt, Prints};
 ghost use Rattle.report.specs.Lines.{openText, nothingWaitingText, fullText, badLineText, stateText, countText, countsText, endText};
 

@@ -9,15 +9,16 @@ use native.Mathlib.Omega.{arith}
 use lib.Dec.{leb}
 use lib.ListN.{length, drop}
 use borrow.Author.Tests.{leb-true}
-use Rattle.script.proofs.Same.{both}
-use Rattle.script.specs.Words.{sameBytes, begins}
-use Rattle.script.specs.Numbers.{numberOf}
-use Rattle.script.specs.Hexadecimal.{arePairs, bytesOf, hexOf, hexAnswer}
+use Rattle.numerals.proofs.Halves.{both}
+use Rattle.cells.specs.Equal.{sameBytes}
+use Rattle.script.specs.Words.{begins}
+use Rattle.numerals.specs.Numbers.{numberOf}
+use Rattle.numerals.specs.Hexadecimal.{arePairs, bytesOf, hexOf, hexAnswer}
 use Rattle.script.specs.Requests.{Reading, noBytes, plain, wordRows, rowOf, counted, givenOf, noUnit, offerOf, readInto, readOf}
 use Rattle.script.specs.CallLine.{sendWord, takeWord, readWord, requestOf, firstEnd, secondEnd, callOf, parsedOf}
 use Rattle.script.specs.declared.Asked.{Asked}
-use Rattle.script.specs.declared.Number.{Number}
-use Rattle.script.specs.declared.Number.the-variants as number
+use Rattle.numerals.specs.declared.Number.{Number}
+use Rattle.numerals.specs.declared.Number.the-variants as number
 use Rattle.script.specs.declared.Verb.the-variants.{SendData, Receive}
 use Rattle.script.specs.declared.Request.{Request}
 use Rattle.script.specs.declared.Request.the-variants.{Call, Offer}

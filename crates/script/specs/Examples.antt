@@ -1,16 +1,16 @@
--- The definitions at work, each computed: the lines of a script, then numbers, bytes and lines at their bounds.
+-- The definitions at work, each computed: the lines of a script, with bytes and lines at their bounds.
 -- Assumes nothing.
 use mathlib.Core.Path.{_≡_, refl}
 use mathlib.Core.Bool.{true, false}
 use mathlib.Core.List.{[], _∷_}
 use Rattle.bytes.specs.Bytes.{indexOf, indexAfter}
-use Rattle.script.specs.Words.{sameBytes, begins, wordOf, behindWord}
-use Rattle.script.specs.Numbers.{readOn, numberOf}
-use Rattle.script.specs.Hexadecimal.{arePairs, bytesOf, hexOf}
+use Rattle.cells.specs.Equal.{sameBytes}
+use Rattle.script.specs.Words.{begins, wordOf, behindWord}
+use Rattle.numerals.specs.Numbers.{readOn, numberOf}
+use Rattle.numerals.specs.Hexadecimal.{arePairs, bytesOf, hexOf}
 use Rattle.script.specs.FirstLine.{sizesOf, firstLineOf}
 use Rattle.script.specs.Requests.{noBytes, plain, givenOf, offerOf, readOf}
 use Rattle.script.specs.CallLine.{requestOf, callOf}
-use Rattle.script.specs.declared.Number.the-variants as number
 use Rattle.script.specs.declared.FirstLine.the-variants as first
 use Rattle.script.specs.declared.Verb.the-variants.{Allocate, SendData, Receive, PrepareToReceive, Deallocate}
 use Rattle.script.specs.declared.Request.the-variants.{Call, Take, Offer}
@@ -129,40 +129,3 @@ empty = refl
 no-cells : callOf (0x31 ∷ 0x20 ∷ 0x73 ∷ 0x65 ∷ 0x6E ∷ 0x64 ∷ 0x20 ∷ 0x30 ∷ 0x31 ∷ 0x30 ∷ 0x32 ∷ []) 1 ≡ noBytes parsed.Bad
 unfolding callOf requestOf begins sameBytes givenOf offerOf readOf hexOf arePairs bytesOf numberOf readOn
 no-cells = refl
-
--- ---- numbers
-
--- 0
-zero-alone : numberOf (0x30 ∷ []) ≡ number.Is 0
-unfolding numberOf readOn
-zero-alone = refl
-
--- 65535
-greatest : numberOf (0x36 ∷ 0x35 ∷ 0x35 ∷ 0x33 ∷ 0x35 ∷ []) ≡ number.Is 65535
-unfolding numberOf readOn
-greatest = refl
-
--- 65536
-past-greatest : numberOf (0x36 ∷ 0x35 ∷ 0x35 ∷ 0x33 ∷ 0x36 ∷ []) ≡ number.Bad
-unfolding numberOf readOn
-past-greatest = refl
-
--- 07
-leading-zero : numberOf (0x30 ∷ 0x37 ∷ []) ≡ number.Bad
-unfolding numberOf readOn
-leading-zero = refl
-
--- 00
-two-zeros : numberOf (0x30 ∷ 0x30 ∷ []) ≡ number.Bad
-unfolding numberOf readOn
-two-zeros = refl
-
--- no digit
-no-digit : numberOf [] ≡ number.Bad
-unfolding numberOf readOn
-no-digit = refl
-
--- 1A
-letter : numberOf (0x31 ∷ 0x41 ∷ []) ≡ number.Bad
-unfolding numberOf readOn
-letter = refl

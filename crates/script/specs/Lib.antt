@@ -1,6 +1,4 @@
 pub mod Words
-pub mod Numbers
-pub mod Hexadecimal
 pub mod FirstLine
 pub mod Requests
 pub mod CallLine

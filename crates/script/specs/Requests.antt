@@ -5,13 +5,13 @@ use mathlib.Core.Bool.{Bool, true, false, cond}
 use mathlib.Core.List.{List, [], _∷_}
 use mathlib.Core.Option.{Option}
 use lib.Dec.{leb}
-use Rattle.script.specs.Words.{sameBytes}
-use Rattle.script.specs.Numbers.{numberOf}
-use Rattle.script.specs.Hexadecimal.{hexOf, hexAnswer, hexBytes}
-use Rattle.script.specs.declared.Number.{Number}
-use Rattle.script.specs.declared.Number.the-variants as number
-use Rattle.script.specs.declared.Hex.{Hex}
-use Rattle.script.specs.declared.Hex.the-variants as hex
+use Rattle.cells.specs.Equal.{sameBytes}
+use Rattle.numerals.specs.Numbers.{numberOf}
+use Rattle.numerals.specs.Hexadecimal.{hexOf, hexAnswer, hexBytes}
+use Rattle.numerals.specs.declared.Number.{Number}
+use Rattle.numerals.specs.declared.Number.the-variants as number
+use Rattle.numerals.specs.declared.Hex.{Hex}
+use Rattle.numerals.specs.declared.Hex.the-variants as hex
 use Rattle.script.specs.declared.Verb.the-variants.{Allocate, Flush, Confirm, Confirmed, SendPacingResponse, SendData, PrepareToReceive, Deallocate, Receive}
 use Rattle.script.specs.declared.Request.{Request}
 use Rattle.script.specs.declared.Request.the-variants.{Call, Take, Offer}

@@ -1,7 +1,5 @@
 // A script of calls on two joined ends: the forms of its lines.
-pub mod hexadecimal;
 pub mod line;
-pub mod numbers;
 mod requests;
 mod six_numbers;
 pub mod text;
@@ -55,17 +53,5 @@ pub struct Sizes {
 
 pub enum FirstLine {
     Ends(Sizes),
-    Bad,
-}
-
-// A number in a line.
-pub enum Number {
-    Is(u16),
-    Bad,
-}
-
-// Bytes in a line: how many they are.
-pub enum Hex {
-    Bytes(usize),
     Bad,
 }

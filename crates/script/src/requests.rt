@@ -1,13 +1,13 @@
 // What the words behind a line's end ask.
 use crate::Asked;
-use crate::Hex;
-use crate::Number;
 use crate::Parsed;
 use crate::Request;
 use crate::Verb;
-use crate::hexadecimal::hex;
-use crate::numbers::number;
-use crate::words::same;
+use cells::same;
+use numerals::Hex;
+use numerals::Number;
+use numerals::hexadecimal::hex;
+use numerals::numbers::number;
 ghost use mathlib.Core.Path.{_≡_};
 ghost use lib.ListN.{length, drop};
 ghost use Rattle.cells.specs.Cells.{front};

@@ -1,10 +1,10 @@
 // Six numbers of a first line: all are numbers, or the line is bad.
 use crate::FirstLine;
-use crate::Number;
 use crate::Sizes;
-use crate::numbers::number;
 use crate::words::behind_word;
 use crate::words::word;
+use numerals::Number;
+use numerals::numbers::number;
 ghost use mathlib.Core.Path.{_≡_};
 ghost use Rattle.script.specs.FirstLine.{isNumber, valueOf, sixOf, sizesOf};
 

@@ -1,15 +1,10 @@
 // Parts of a text, and texts compared.
+use cells::same;
 ghost use mathlib.Core.Path.{_≡_};
 ghost use lib.ListN.{take, drop};
-ghost use Rattle.script.specs.Words.{sameBytes, begins, wordOf, behindWord};
+ghost use Rattle.script.specs.Words.{begins, wordOf, behindWord};
 
 const BLANK: u8 = 0x20;
-
-pub(crate) fn same(text: &[u8], word: &[u8]) -> bool
-    ensures { λ r. ⌜ r ≡ sameBytes (now (text .entry)) (now (word .entry)) ⌝ }
-{
-    check::same(text, word)
-}
 
 // The first n bytes; of a shorter text all.
 pub(crate) fn first(text: &[u8], n: usize) -> &[u8]

@@ -7,7 +7,8 @@ use Prim.Native.Nat.{ℕ, _<_}
 use native.Mathlib.Omega.{arith}
 use types.Run.{OneOf}
 use denote.Enum.Declared.{tagOf}
-use Rattle.unit.specs.Ru.{fixedRu, sameBytes, ruGood}
+use Rattle.cells.specs.Equal.{sameBytes}
+use Rattle.unit.specs.Ru.{fixedRu, ruGood}
 use Rattle.header.specs.declared.Header.{Header}
 use Rattle.header.specs.declared.Header.the-variants.{Data, Bid, PositiveBidResponse, NegativeBidResponse, Confirmation, PacingResponse}
 use Rattle.header.proofs.Header.{the-type}

@@ -1,6 +1,5 @@
 mod FixedRu
 mod Reading
 mod Writing
-pub mod Same
 pub mod WrittenIsRead
 pub mod Units

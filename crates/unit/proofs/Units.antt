@@ -1,7 +1,6 @@
--- Laws of units and headers, for the crates above; the round trip of headers and `sameBytes` are passed on from their own files.
+-- Laws of units and headers, for the crates above; the round trip of headers is passed on from its own file.
 -- Assumes nothing.
 pub use Rattle.header.proofs.RoundTrip.{built-good, built-fields, read-bytes}
-pub use Rattle.unit.proofs.Same.{same-equal, equal-same, same-self}
 use mathlib.Core.Path.{_≡_, refl, sym}
 use mathlib.Core.Bool.{Bool, true, false, not}
 use mathlib.Core.List.{List}
@@ -15,7 +14,8 @@ use Rattle.cells.specs.Cells.{front}
 use Rattle.cells.proofs.Fronts.{front-bytes}
 use Rattle.header.specs.Weights.{FIRST, LAST, bit}
 use Rattle.header.specs.Header.{isFirst, isLast, headerBytes}
-use Rattle.unit.specs.Ru.{fixedRu, sameBytes, ruGood}
+use Rattle.cells.specs.Equal.{sameBytes}
+use Rattle.unit.specs.Ru.{fixedRu, ruGood}
 use Rattle.unit.specs.Unit.{RU-START, unitBytes, unitOf, lengthMade, cellsMade, numberIn, headerIn, headingOf, unitReadAs}
 use Rattle.header.specs.declared.Header.{Header}
 use Rattle.header.specs.declared.Header.the-variants.{Data, Bid, PositiveBidResponse, NegativeBidResponse, Confirmation, PacingResponse}

@@ -5,6 +5,7 @@ use mathlib.Core.Bool.{Bool, true, false, _&&_, _||_}
 use mathlib.Core.List.{List, [], _∷_}
 use lib.Dec.{eqb, leb}
 use lib.ListN.{length}
+use Rattle.cells.specs.Equal.{sameBytes}
 use Rattle.header.specs.Header.{confirms, followsOf, turns, endsBracket}
 use Rattle.header.specs.declared.ChainEnd.{ChainEnd}
 use Rattle.header.specs.declared.DataHeader.{DataHeader}
@@ -39,12 +40,6 @@ marks e = confirms e || (turns (followsOf e) || endsBracket (followsOf e))
 -- a data RU is no longer than the session's maximum; it is empty only on a unit that marks
 abbrev pub dataRuGood : ℕ → DataHeader → ℕ → Bool
 dataRuGood max d n = leb n max && (leb 1 n || marks (d .ends))
-
-unfoldable pub sameBytes : List ℕ → List ℕ → Bool
-sameBytes [] [] = true
-sameBytes [] (y ∷ ys) = false
-sameBytes (x ∷ xs) [] = false
-sameBytes (x ∷ xs) (y ∷ ys) = eqb x y && sameBytes xs ys
 
 -- the RU is as its header wants it
 unfoldable pub ruGood : ℕ → Header → List ℕ → Bool

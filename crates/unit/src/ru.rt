@@ -1,4 +1,5 @@
 // RUs: those that are fixed, compared; and the rule of a data RU.
+use cells::same;
 use header::ChainEnd;
 use header::DataHeader;
 use header::Header;
@@ -9,7 +10,7 @@ use header::build::turns;
 ghost use mathlib.Core.Path.{_≡_};
 ghost use Prim.Native.Nat.{_≤_};
 ghost use lib.ListN.{length, take};
-ghost use Rattle.unit.specs.Ru.{marks, dataRuGood, fixedRu, sameBytes, ruGood};
+ghost use Rattle.unit.specs.Ru.{marks, dataRuGood, fixedRu, ruGood};
 
 // The unit leaves a mark: it is the last in its chain, with CD, CEB or a confirmation request.
 pub fn marks(e: ChainEnd) -> bool
@@ -56,12 +57,6 @@ pub(crate) fn fixed_ru(h: Header) -> FixedRu
             len: 0,
         },
     }
-}
-
-fn same(a: &[u8], b: &[u8]) -> bool
-    ensures { λ r. ⌜ r ≡ sameBytes (now (a .entry)) (now (b .entry)) ⌝ }
-{
-    check::same(a, b)
 }
 
 // The RU is as its header wants it.

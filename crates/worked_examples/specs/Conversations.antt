@@ -9,7 +9,8 @@ use Rattle.logical_record.specs.Walk.{thenWalk}
 use Rattle.logical_record.specs.Records.{wholeRecords, recordsFrom}
 use Rattle.header.specs.Rules.{headerGood}
 use Rattle.header.specs.Header.{headerBytes, fieldsOf}
-use Rattle.unit.specs.Ru.{sameBytes, ruGood}
+use Rattle.cells.specs.Equal.{sameBytes}
+use Rattle.unit.specs.Ru.{ruGood}
 use Rattle.unit.specs.Unit.{unitBytes, unitOf}
 use Rattle.pacing.specs.Pacing.{credit, advanced, answered}
 use Rattle.control.specs.Within.{controlGood}

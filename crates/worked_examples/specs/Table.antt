@@ -9,7 +9,8 @@ use Rattle.cells.specs.Cells.{front, written}
 use Rattle.logical_record.specs.Walk.{thenWalk}
 use Rattle.header.specs.Rules.{bytes, keeps, headerGood}
 use Rattle.header.specs.Header.{headerBytes, fieldsOf}
-use Rattle.unit.specs.Ru.{sameBytes, ruGood}
+use Rattle.cells.specs.Equal.{sameBytes}
+use Rattle.unit.specs.Ru.{ruGood}
 use Rattle.unit.specs.Unit.{unitBytes, unitOf}
 use Rattle.header.specs.declared.Rule.the-variants.{H1, H2, H3, H4, H5, H6}
 use Rattle.header.specs.declared.Follows.the-variants.{Stay}

@@ -3,7 +3,8 @@
 use mathlib.Core.Path.{_∙_, sym, ap}
 use lib.Seq.{length-take-le}
 use denote.Ref.{now}
-use Rattle.unit.specs.Ru.{sameBytes, ruGood}
+use Rattle.cells.specs.Equal.{sameBytes}
+use Rattle.unit.specs.Ru.{ruGood}
 use Rattle.unit.proofs.FixedRu.{wants-fixed}
 use borrow.Author.Needs.{needs}
 use Rattle.unit.proofs.ru.ru_good.Statement.{statement}

@@ -1,0 +1,4 @@
+mod Digits
+mod Givens
+pub mod Halves
+pub mod Pairs

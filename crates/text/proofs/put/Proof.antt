@@ -1,0 +1,57 @@
+-- `report::text::put` meets its contract. Text that does not fit leaves the cells as they were; else it is a copy into the part that starts at the place.
+-- Assumes nothing.
+use mathlib.Core.Path.{sym}
+use native.Mathlib.Omega.{arith}
+use denote.Ref.{now}
+use Rattle.text.proofs.Puts.{not-put, put-copied}
+use borrow.Author.Needs.{needs}
+use Rattle.text.proofs.put.Statement.{statement}
+use Rattle.text.proofs.put.Tie as tie
+
+returns : tie.Need-returns
+returns c = let a = c .before .before .before .args in sym (not-put (now (a .text)) (a .at) (now (a .out)) (omega arith))
+
+sub-if2 : tie.Need-sub-if2
+sub-if2 c = search needs
+
+returns-2 : tie.Need-returns-2
+returns-2 c = let a = c .before .before .before .before .args in sym (not-put (now (a .text)) (a .at) (now (a .out)) (omega arith))
+
+sub-copy : tie.Need-sub-copy
+sub-copy c = search needs
+
+part-copy-start : tie.Need-part-copy-start
+part-copy-start c = search needs
+
+part-copy-end : tie.Need-part-copy-end
+part-copy-end c = search needs
+
+copy-requires : tie.Need-copy-requires
+copy-requires c κs = search needs
+
+add-result : tie.Need-add-result
+add-result c = search needs
+
+same-length : tie.Need-same-length
+same-length c = search needs
+
+returns-3 : tie.Need-returns-3
+returns-3 c =
+    let a = c .before .before .before .before .before .before .before .before .args in
+    let k = c .before .before .copy in
+    put-copied (now (a .text)) (a .at) (now (a .out)) (omega arith) (k .last .1 .0) (k .ensures .1)
+
+pub put-spec : {M : Type 1} → statement M
+put-spec =
+    tie.close
+    (tie.spec
+    returns
+    sub-if2
+    returns-2
+    sub-copy
+    part-copy-start
+    part-copy-end
+    copy-requires
+    add-result
+    same-length
+    returns-3)

@@ -1,0 +1,35 @@
+use mathlib.Core.Path.{sym}
+use mathlib.Core.List.{append-nil}
+use native.Mathlib.Omega.{arith}
+use borrow.Author.Tests.{ne-eqb}
+use denote.Ref.{now}
+use lib.Seq.{length-take-le}
+use borrow.Author.Needs.{needs}
+use Rattle.unit_lines.proofs.deliver.Statement.{statement}
+use Rattle.unit_lines.proofs.deliver.Tie as tie
+
+returns : tie.Need-returns
+returns c = λ vs h m s t. rw (c .if1 .taken, append-nil) h
+
+returns-2 : tie.Need-returns-2
+returns-2 c = λ vs h m s t. absurd (omega arith)
+
+slice-aggregate-put : tie.Need-slice-aggregate-put
+slice-aggregate-put c = let a = c .before .before .before .before .before .before .args in sym (length-take-le (a .n) (now (a .unit)) (omega arith))
+
+put-requires : tie.Need-put-requires
+put-requires c κs = search needs
+
+same-length : tie.Need-same-length
+same-length c = search needs
+
+returns-3 : tie.Need-returns-3
+returns-3 c =
+    let a = c .before .before .before .before .before .before .before .before .before .args in
+    λ vs h m s t.
+    rw (ne-eqb (a .n) 0 (c .before .before .before .before .before .before .if1 .left))
+    (c .before .before .put .ensures .0 vs h m (rw (length-take-le (a .n) (now (a .unit)) t) s))
+
+pub deliver-spec : {M : Type 1} → statement M
+deliver-spec =
+    tie.close (tie.spec returns returns-2 slice-aggregate-put put-requires same-length returns-3)

@@ -1,0 +1,61 @@
+use Prim.Native.Nat.{_/_, _%_}
+use mathlib.Core.Path.{ap, _∙_}
+use native.Mathlib.Omega.{arith}
+use denote.Ref.{now}
+use lib.ListN.{length, length-set, length-drop}
+use Rattle.cells.proofs.Parts.{part-is}
+use Rattle.cells.proofs.Fronts.{front-length}
+use Rattle.unit_lines.specs.Lines.{framed}
+use Rattle.unit_lines.proofs.Frames.{frame-put}
+use borrow.Author.Needs.{needs}
+use Rattle.unit_lines.proofs.put_frame.Statement.{statement}
+use Rattle.unit_lines.proofs.put_frame.Tie as tie
+
+cast-cells : tie.Need-cast-cells
+cast-cells c = search needs
+
+slice-write-cells : tie.Need-slice-write-cells
+slice-write-cells c = search needs
+
+cast-cells-2 : tie.Need-cast-cells-2
+cast-cells-2 c = search needs
+
+slice-write-cells-2 : tie.Need-slice-write-cells-2
+slice-write-cells-2 c = simp length-set (omega arith)
+
+sub-copy : tie.Need-sub-copy
+sub-copy c = simp length-set (omega arith)
+
+part-copy-start : tie.Need-part-copy-start
+part-copy-start c = simp length-set (omega arith)
+
+part-copy-end : tie.Need-part-copy-end
+part-copy-end c = search needs
+
+copy-requires : tie.Need-copy-requires
+copy-requires c κs = rw part-is (simp (length-drop, length-set) (omega arith))
+
+same-length : tie.Need-same-length
+same-length c = let a = c .before .before .before .before .before .before .args in
+    let n = length (now (a .unit)) in
+    ap length (frame-put (n / 256) (n % 256) (now (a .unit)) (now (a .cells)) (c .before .before .copy .last .1 .0) (omega arith) (c .before .before .copy .ensures .1)) ∙ front-length (framed (now (a .unit))) (now (a .cells)) (omega arith)
+
+returns : tie.Need-returns
+returns c = let a = c .before .before .before .before .before .before .args in
+    let n = length (now (a .unit)) in
+    frame-put (n / 256) (n % 256) (now (a .unit)) (now (a .cells)) (c .before .before .copy .last .1 .0) (omega arith) (c .before .before .copy .ensures .1)
+
+pub put-frame-spec : {M : Type 1} → statement M
+put-frame-spec =
+    tie.close
+    (tie.spec
+    cast-cells
+    slice-write-cells
+    cast-cells-2
+    slice-write-cells-2
+    sub-copy
+    part-copy-start
+    part-copy-end
+    copy-requires
+    same-length
+    returns)
