@@ -1,5 +1,6 @@
 // A script run on two joined ends: each line is read, its call made, and its answer handed out.
 mod line;
+pub mod named;
 mod openings;
 pub mod run;
 
