@@ -4,7 +4,8 @@ use bench::lines::Line;
 use bench::lines::empty;
 use end::End;
 
-// An end and what the program lends it at each call; of the inbox it lends as many cells as the end's record says.
+// An end and what the program lends it at each call; of the inbox it lends as many cells as the end's record says. The buffers
+// are held by value: a slice that is lent through every function down to the call would cost a proof in each of them.
 pub struct Side {
     pub send: [u8; 1024],
     pub inbox: [u8; 65535],
