@@ -1,20 +1,9 @@
 // A script run on two joined ends: each line is read, its call made, and its answer handed out.
+mod answer;
+mod ends;
+mod handing;
 mod line;
+pub mod named;
+mod near;
 mod openings;
 pub mod run;
-
-use end::End;
-use unit_lines::Line;
-
-// Two joined ends: the first speaker and the bidder, and the units that wait for each.
-pub struct Joined {
-    pub one: End,
-    pub two: End,
-    pub to_one: Line,
-    pub to_two: Line,
-}
-
-// The buffers that the program lends each end; an inbox is as long as the script says.
-pub const SEND_BUFFER: usize = 1024;
-
-pub const UNIT_BUFFER: usize = 1029;

@@ -1,6 +1,4 @@
 // The first line of a script: the two ends as opened, or the refusals.
-use crate::SEND_BUFFER;
-use crate::UNIT_BUFFER;
 use end::Done;
 use end::Session;
 use script::Sizes;
@@ -20,7 +18,7 @@ pub fn open_first(sizes: Sizes) -> Done {
         outmax: sizes.max12 as u32,
         inmax: sizes.max21 as u32,
     };
-    open_session(session, SEND_BUFFER, UNIT_BUFFER, sizes.inbox1 as usize)
+    open_session(session, 1024, 1029, sizes.inbox1 as usize)
 }
 
 // End 2 is the bidder.
@@ -32,5 +30,5 @@ pub fn open_second(sizes: Sizes) -> Done {
         outmax: sizes.max21 as u32,
         inmax: sizes.max12 as u32,
     };
-    open_session(session, SEND_BUFFER, UNIT_BUFFER, sizes.inbox2 as usize)
+    open_session(session, 1024, 1029, sizes.inbox2 as usize)
 }

@@ -1,0 +1,12 @@
+// Named cases of conversations and headers. A case is one text: its name, its script, a line `=`, and the answers that the
+// script must have. A wrong length in the type of a case is refused by the compiler.
+mod conversations;
+mod headers;
+
+use conversations::conversations;
+use headers::headers;
+
+// Whether the case of that name went as it should; an unknown name is bad.
+pub fn run(name: &[u8]) -> bool {
+    conversations(name) | headers(name)
+}

@@ -1,0 +1,120 @@
+// A step at the near end, and its answer handed out.
+use crate::answer::step_text;
+use crate::ends::Joined;
+use crate::ends::Side;
+use crate::handing::Met;
+use crate::handing::hand_front;
+use bench::Stepped;
+use bench::step;
+use end::End;
+use script::Request;
+use unit_lines::Line;
+ghost use Prim.Native.Nat.{_≤_};
+
+// What a step leaves: what it hands back, and each buffer that was lent to it.
+struct Made {
+    stepped: Stepped,
+    send: [u8; 1024],
+    inbox: [u8; 65535],
+    unit: [u8; 1029],
+    buffer: [u8; 2048],
+}
+
+// A line gives, or reads, at most 2,048 bytes.
+pub fn cells(count: usize) -> usize
+    ensures { λ r. ⌜ r ≤ 2048 ⌝ }
+{
+    if count < 2048 { count } else { 2048 }
+}
+
+// The inbox that the end's record asks for.
+fn room(end: End) -> usize
+    ensures { λ r. ⌜ r ≤ 65535 ⌝ }
+{
+    let receiving = end.receiving;
+    receiving.inbox as usize
+}
+
+// The step on one side. Of a read the buffer has as many cells as bytes are given.
+fn make(
+    side: Side,
+    request: Request,
+    given: &[u8],
+    from: Line,
+    waiting: &mut [u8],
+    to: Line,
+    far: &mut [u8],
+) -> Made {
+    let end = side.end;
+    let room = room(end);
+    let count = cells(given.len());
+    let mut send = side.send;
+    let mut inbox = side.inbox;
+    let mut unit = [0u8; 1029];
+    let mut buffer = [0u8; 2048];
+    let stepped = step(
+        end,
+        request,
+        given,
+        &mut send,
+        &mut unit,
+        &mut inbox[0..room],
+        &mut buffer[0..count],
+        from,
+        waiting,
+        to,
+        far,
+    );
+    Made {
+        stepped,
+        send,
+        inbox,
+        unit,
+        buffer,
+    }
+}
+
+fn hand_made(expected: &[u8], met: Met, second: bool, request: Request, made: Made) -> Met {
+    let stepped = made.stepped;
+    let unit = made.unit;
+    let buffer = made.buffer;
+    let mut out = [0u8; 8192];
+    let length = step_text(stepped, second, request, &unit, &buffer, &mut out);
+    hand_front(expected, met, &out, length)
+}
+
+// Both ends after the step.
+fn left(joined: Joined, made: Made, met: Met) -> Joined {
+    let stepped = made.stepped;
+    let end = stepped.end;
+    let send = made.send;
+    let inbox = made.inbox;
+    let away = joined.away;
+    let to_near = stepped.from;
+    let to_away = stepped.to;
+    Joined {
+        near: Side { send, inbox, end },
+        away,
+        to_near,
+        to_away,
+        met,
+    }
+}
+
+// The step at the near end: the first one, or the second.
+pub fn at_near(
+    expected: &[u8],
+    joined: Joined,
+    second: bool,
+    request: Request,
+    given: &[u8],
+    waiting: &mut [u8],
+    far: &mut [u8],
+) -> Joined {
+    let side = joined.near;
+    let from = joined.to_near;
+    let to = joined.to_away;
+    let made = make(side, request, given, from, waiting, to, far);
+    let told = hand_made(expected, joined.met, second, request, made);
+    left(joined, made, told)
+}

@@ -1,0 +1,49 @@
+// Buffers that are not as long as the record says: refused with 4, and not written.
+use crate::opened::opened_end;
+use crate::refused::give;
+use crate::refused::read;
+use crate::refused::refused;
+use crate::refused::take;
+use crate::refused::unit_calls;
+use check::same;
+
+pub fn refusal_4_unit_buffer() -> bool {
+    let mut unit = [0xA5u8; 68];
+    unit_calls(opened_end(1), 4, &mut unit) & same(&unit, &[0xA5u8; 68])
+}
+
+fn give_refused() -> bool {
+    let mut send = [0xA5u8; 63];
+    give(opened_end(0), 4, &mut send) & same(&send, &[0xA5u8; 63])
+}
+
+fn flush_refused() -> bool {
+    let end = opened_end(0);
+    let mut unit = [0xA5u8; 69];
+    let flushed = end.flush(&[0xA5u8; 63], &mut unit);
+    refused(flushed, 4, &unit)
+}
+
+pub fn refusal_4_send_buffer() -> bool {
+    give_refused() & flush_refused()
+}
+
+fn take_into_long() -> bool {
+    let mut inbox = [0xA5u8; 193];
+    take(opened_end(1), 4, &mut inbox) & same(&inbox, &[0xA5u8; 193])
+}
+
+fn take_into_short() -> bool {
+    let mut inbox = [0xA5u8; 191];
+    take(opened_end(1), 4, &mut inbox) & same(&inbox, &[0xA5u8; 191])
+}
+
+// An inbox longer than the record says is refused like one that is shorter.
+pub fn refusal_4_inbox_of_take() -> bool {
+    take_into_long() & take_into_short()
+}
+
+pub fn refusal_4_inbox_of_read() -> bool {
+    let mut inbox = [0xA5u8; 191];
+    read(opened_end(1), 4, &mut inbox) & same(&inbox, &[0xA5u8; 191])
+}

@@ -1,0 +1,39 @@
+// Named cases that no script can ask for: each makes the delivered calls itself and compares every byte.
+mod forged;
+mod lent_short;
+mod numbers;
+mod opened;
+mod refused;
+
+use check::same;
+use forged::refusal_5_forged_receives;
+use forged::refusal_5_forged_sends;
+use forged::refusal_5_forged_unit_calls;
+use forged::refusal_8_read;
+use lent_short::refusal_4_inbox_of_read;
+use lent_short::refusal_4_inbox_of_take;
+use lent_short::refusal_4_send_buffer;
+use lent_short::refusal_4_unit_buffer;
+use numbers::seq;
+use opened::refusal_1_role;
+
+fn opened_and_forged(name: &[u8]) -> bool {
+    (same(name, b"refusal_1_role") & refusal_1_role())
+        | (same(name, b"seq") & seq())
+        | (same(name, b"refusal_5_forged_unit_calls") & refusal_5_forged_unit_calls())
+        | (same(name, b"refusal_5_forged_sends") & refusal_5_forged_sends())
+        | (same(name, b"refusal_5_forged_receives") & refusal_5_forged_receives())
+}
+
+fn lent(name: &[u8]) -> bool {
+    (same(name, b"refusal_4_unit_buffer") & refusal_4_unit_buffer())
+        | (same(name, b"refusal_4_send_buffer") & refusal_4_send_buffer())
+        | (same(name, b"refusal_4_inbox_of_take") & refusal_4_inbox_of_take())
+        | (same(name, b"refusal_4_inbox_of_read") & refusal_4_inbox_of_read())
+        | (same(name, b"refusal_8_read") & refusal_8_read())
+}
+
+// Whether the case of that name went as it should; an unknown name is bad. Every case is run whatever the name: they are short.
+pub fn run(name: &[u8]) -> bool {
+    opened_and_forged(name) | lent(name)
+}

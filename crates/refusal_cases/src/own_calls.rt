@@ -1,0 +1,280 @@
+// Calls refused for what the program asks, 6 to 12.
+use crossing::named::goes;
+
+const REFUSAL_6_NO_BYTE: [u8; 218] = *b"refusal_6_no_byte\n\
+    ends 3 64 3 64 192 192\n\
+    1 allocate\n\
+    1 send\n\
+    =\n\
+    1 open 0\n\
+    2 open 0\n\
+    1 allocate 0\n\
+    1 send 6\n\
+    1 Send mark none send 0 inbox 0 credit 3 open 3 waiting 0\n\
+    2 Reset mark none send 0 inbox 0 credit 3 open 3 waiting 0\n";
+
+const REFUSAL_6_ABOVE_MAXIMUM: [u8; 239] = *b"refusal_6_above_maximum\n\
+    ends 3 8 3 8 24 24\n\
+    1 allocate\n\
+    1 send 000931323334353637\n\
+    =\n\
+    1 open 0\n\
+    2 open 0\n\
+    1 allocate 0\n\
+    1 send 6\n\
+    1 Send mark none send 0 inbox 0 credit 3 open 3 waiting 0\n\
+    2 Reset mark none send 0 inbox 0 credit 3 open 3 waiting 0\n";
+
+const REFUSAL_6_NO_CELL: [u8; 197] = *b"refusal_6_no_cell\n\
+    ends 3 64 3 64 192 192\n\
+    1 read 0\n\
+    =\n\
+    1 open 0\n\
+    2 open 0\n\
+    1 read 6\n\
+    1 Reset mark none send 0 inbox 0 credit 3 open 3 waiting 0\n\
+    2 Reset mark none send 0 inbox 0 credit 3 open 3 waiting 0\n";
+
+const REFUSAL_7_IN_RESET: [u8; 297] = *b"refusal_7_in_reset\n\
+    ends 3 64 3 64 192 192\n\
+    1 send 0002\n\
+    1 flush\n\
+    1 confirm\n\
+    1 turn\n\
+    1 end\n\
+    1 confirmed\n\
+    =\n\
+    1 open 0\n\
+    2 open 0\n\
+    1 send 7\n\
+    1 flush 7\n\
+    1 confirm 7\n\
+    1 turn 7\n\
+    1 end 7\n\
+    1 confirmed 7\n\
+    1 Reset mark none send 0 inbox 0 credit 3 open 3 waiting 0\n\
+    2 Reset mark none send 0 inbox 0 credit 3 open 3 waiting 0\n";
+
+const REFUSAL_7_IN_SEND: [u8; 252] = *b"refusal_7_in_send\n\
+    ends 3 64 3 64 192 192\n\
+    1 allocate\n\
+    1 allocate\n\
+    1 confirmed\n\
+    =\n\
+    1 open 0\n\
+    2 open 0\n\
+    1 allocate 0\n\
+    1 allocate 7\n\
+    1 confirmed 7\n\
+    1 Send mark none send 0 inbox 0 credit 3 open 3 waiting 0\n\
+    2 Reset mark none send 0 inbox 0 credit 3 open 3 waiting 0\n";
+
+const REFUSAL_7_BID_UNANSWERED: [u8; 260] = *b"refusal_7_bid_unanswered\n\
+    ends 3 64 3 64 192 192\n\
+    2 allocate\n\
+    2 allocate\n\
+    =\n\
+    1 open 0\n\
+    2 open 0\n\
+    2 allocate 0 unit 00014B81800400060000\n\
+    2 allocate 7\n\
+    1 Reset mark none send 0 inbox 0 credit 3 open 3 waiting 1\n\
+    2 Reset mark none send 0 inbox 0 credit 2 open 3 waiting 0\n";
+
+const REFUSAL_8_LENGTH_1: [u8; 280] = *b"refusal_8_length_1\n\
+    ends 3 64 3 64 192 192\n\
+    1 allocate\n\
+    1 send 0001\n\
+    1 send 0002\n\
+    1 end\n\
+    =\n\
+    1 open 0\n\
+    2 open 0\n\
+    1 allocate 0\n\
+    1 send 8\n\
+    1 send 0\n\
+    1 end 0 unit 00010391810002\n\
+    1 Reset mark none send 0 inbox 0 credit 2 open 3 waiting 0\n\
+    2 Reset mark none send 0 inbox 0 credit 3 open 3 waiting 1\n";
+
+const REFUSAL_8_LENGTH_0: [u8; 241] = *b"refusal_8_length_0\n\
+    ends 3 64 3 64 192 192\n\
+    1 allocate\n\
+    1 send 00\n\
+    1 send 00\n\
+    =\n\
+    1 open 0\n\
+    2 open 0\n\
+    1 allocate 0\n\
+    1 send 0\n\
+    1 send 8\n\
+    1 Send mark none send 1 inbox 0 credit 3 open 3 waiting 0\n\
+    2 Reset mark none send 0 inbox 0 credit 3 open 3 waiting 0\n";
+
+const REFUSAL_8_ABOVE_32767: [u8; 248] = *b"refusal_8_above_32767\n\
+    ends 3 64 3 64 192 192\n\
+    1 allocate\n\
+    1 send 8000\n\
+    1 send 7FFF\n\
+    =\n\
+    1 open 0\n\
+    2 open 0\n\
+    1 allocate 0\n\
+    1 send 8\n\
+    1 send 0\n\
+    1 Send mark none send 2 inbox 0 credit 3 open 3 waiting 0\n\
+    2 Reset mark none send 0 inbox 0 credit 3 open 3 waiting 0\n";
+
+const REFUSAL_9_RECORD_CUT: [u8; 316] = *b"refusal_9_record_cut\n\
+    ends 3 64 3 64 192 192\n\
+    1 allocate\n\
+    1 send 0005\n\
+    1 confirm\n\
+    1 turn\n\
+    1 end\n\
+    1 flush\n\
+    =\n\
+    1 open 0\n\
+    2 open 0\n\
+    1 allocate 0\n\
+    1 send 0\n\
+    1 confirm 9\n\
+    1 turn 9\n\
+    1 end 9\n\
+    1 flush 0 unit 00010391800005\n\
+    1 Send mark none send 0 inbox 0 credit 2 open 3 waiting 0\n\
+    2 Reset mark none send 0 inbox 0 credit 3 open 3 waiting 1\n";
+
+const REFUSAL_10_NO_CREDIT: [u8; 430] = *b"refusal_10_no_credit\n\
+    ends 2 8 2 8 16 16\n\
+    1 allocate\n\
+    1 send 0002\n\
+    1 flush\n\
+    1 send 0002\n\
+    1 flush\n\
+    1 send 0002\n\
+    1 flush\n\
+    1 turn\n\
+    1 confirm\n\
+    1 end confirm\n\
+    =\n\
+    1 open 0\n\
+    2 open 0\n\
+    1 allocate 0\n\
+    1 send 0\n\
+    1 flush 0 unit 00010391800002\n\
+    1 send 0\n\
+    1 flush 0 unit 00020390000002\n\
+    1 send 0\n\
+    1 flush 10\n\
+    1 turn 10\n\
+    1 confirm 10\n\
+    1 end confirm 10\n\
+    1 Send mark none send 2 inbox 0 credit 0 open 2 waiting 0\n\
+    2 Reset mark none send 0 inbox 0 credit 2 open 2 waiting 2\n";
+
+const REFUSAL_10_AT_OVERFLOW: [u8; 342] = *b"refusal_10_at_overflow\n\
+    ends 1 8 1 8 8 8\n\
+    1 allocate\n\
+    1 send 000A313233343536\n\
+    1 send 3738\n\
+    1 send 000A313233343536\n\
+    1 send 3738\n\
+    =\n\
+    1 open 0\n\
+    2 open 0\n\
+    1 allocate 0\n\
+    1 send 0\n\
+    1 send 0 unit 0001029180000A313233343536\n\
+    1 send 10\n\
+    1 send 0\n\
+    1 Send mark none send 4 inbox 0 credit 0 open 1 waiting 0\n\
+    2 Reset mark none send 0 inbox 0 credit 1 open 1 waiting 1\n";
+
+const REFUSAL_11_NOTHING_OWED: [u8; 219] = *b"refusal_11_nothing_owed\n\
+    ends 3 64 3 64 192 192\n\
+    1 pace\n\
+    2 pace\n\
+    =\n\
+    1 open 0\n\
+    2 open 0\n\
+    1 pace 11\n\
+    2 pace 11\n\
+    1 Reset mark none send 0 inbox 0 credit 3 open 3 waiting 0\n\
+    2 Reset mark none send 0 inbox 0 credit 3 open 3 waiting 0\n";
+
+const REFUSAL_11_NO_ROOM: [u8; 361] = *b"refusal_11_no_room\n\
+    ends 1 8 1 8 8 8\n\
+    1 allocate\n\
+    1 send 0002\n\
+    1 flush\n\
+    2 take\n\
+    2 pace\n\
+    2 read 2\n\
+    2 pace\n\
+    =\n\
+    1 open 0\n\
+    2 open 0\n\
+    1 allocate 0\n\
+    1 send 0\n\
+    1 flush 0 unit 00010391800002\n\
+    2 take 0\n\
+    2 pace 11\n\
+    2 read 0 bytes 0002 complete\n\
+    2 pace 0 unit 0000830100\n\
+    1 Send mark none send 0 inbox 0 credit 0 open 1 waiting 1\n\
+    2 Receive mark none send 0 inbox 0 credit 1 open 1 waiting 0\n";
+
+const REFUSAL_12_NOTHING_TO_READ: [u8; 227] = *b"refusal_12_nothing_to_read\n\
+    ends 3 64 3 64 192 192\n\
+    1 read 1\n\
+    2 read 64\n\
+    =\n\
+    1 open 0\n\
+    2 open 0\n\
+    1 read 12\n\
+    2 read 12\n\
+    1 Reset mark none send 0 inbox 0 credit 3 open 3 waiting 0\n\
+    2 Reset mark none send 0 inbox 0 credit 3 open 3 waiting 0\n";
+
+const REFUSAL_13_MARK_UNREAD: [u8; 356] = *b"refusal_13_mark_unread\n\
+    ends 3 64 3 64 192 192\n\
+    1 allocate\n\
+    1 end\n\
+    2 take\n\
+    2 take -\n\
+    2 take 0000830100\n\
+    2 read 1\n\
+    2 take -\n\
+    =\n\
+    1 open 0\n\
+    2 open 0\n\
+    1 allocate 0\n\
+    1 end 0 unit 0001039181\n\
+    2 take 0\n\
+    2 take 13\n\
+    2 take 13\n\
+    2 read 0 mark end\n\
+    2 take 20 40050000\n\
+    1 Reset mark none send 0 inbox 0 credit 2 open 3 waiting 0\n\
+    2 Reset mark none send 0 inbox 0 credit 3 open 2 waiting 0\n";
+
+// The case of that name; an unknown one is bad.
+pub fn own_calls(name: &[u8]) -> bool {
+    goes(name, &REFUSAL_6_NO_BYTE)
+        | goes(name, &REFUSAL_6_ABOVE_MAXIMUM)
+        | goes(name, &REFUSAL_6_NO_CELL)
+        | goes(name, &REFUSAL_7_IN_RESET)
+        | goes(name, &REFUSAL_7_IN_SEND)
+        | goes(name, &REFUSAL_7_BID_UNANSWERED)
+        | goes(name, &REFUSAL_8_LENGTH_1)
+        | goes(name, &REFUSAL_8_LENGTH_0)
+        | goes(name, &REFUSAL_8_ABOVE_32767)
+        | goes(name, &REFUSAL_9_RECORD_CUT)
+        | goes(name, &REFUSAL_10_NO_CREDIT)
+        | goes(name, &REFUSAL_10_AT_OVERFLOW)
+        | goes(name, &REFUSAL_11_NOTHING_OWED)
+        | goes(name, &REFUSAL_11_NO_ROOM)
+        | goes(name, &REFUSAL_12_NOTHING_TO_READ)
+        | goes(name, &REFUSAL_13_MARK_UNREAD)
+}
