@@ -1,5 +1,7 @@
 mod Writes
 mod Listed
+mod KindsFit
+mod Refusals
 mod BackAndForth
 pub mod WhatIsRead
 pub mod RoundTrip

@@ -31,3 +31,12 @@ each (a ∷ []) h zero = h
 each (a ∷ []) h (suc k) = refl
 each (a ∷ b ∷ bs) h zero = both a (allOf (b ∷ bs)) h .0
 each (a ∷ b ∷ bs) h (suc k) = each (b ∷ bs) (both a (allOf (b ∷ bs)) h .1) k
+
+-- one that does not hold fails the row
+pub one-no : (bs : List Bool) (k : ℕ) → getD bs k true ≡ false → allOf bs ≡ false
+one-no [] k h = absurd (let z : _≡_ {A = ℕ} 0 1 = cc in omega arith)
+one-no (a ∷ []) zero h = h
+one-no (a ∷ []) (suc k) h = absurd (let z : _≡_ {A = ℕ} 0 1 = cc in omega arith)
+one-no (a ∷ b ∷ bs) zero h = rw h
+one-no (true ∷ b ∷ bs) (suc k) h = one-no (b ∷ bs) k h
+one-no (false ∷ b ∷ bs) (suc k) h = refl

@@ -8,7 +8,7 @@ ghost use Prim.Native.Nat.{_+_, _≤_};
 ghost use lib.ListN.{length};
 ghost use Rattle.cells.specs.Cells.{written};
 ghost use Rattle.unit.specs.Unit.{numberOf};
-ghost use Rattle.image.specs.Parts.{numberBytes, numberAt, windowBytes, windowAt, placeKind, placeValue, placeBytes, placeOf, placeFits, placeAt, placeGood};
+ghost use Rattle.image.specs.Parts.{numberBytes, numberAt, windowBytes, windowAt, placeKind, placeValue, placeBytes, placeAt, placeGood};
 
 fn number_of(high: u8, low: u8) -> u16
     ensures { λ r. ⌜ r ≡ numberOf high low ⌝ }
@@ -71,37 +71,33 @@ fn place_value(p: Position) -> u16
     }
 }
 
-fn place_of(kind: u8, high: u8, low: u8) -> Position
-    ensures { λ r. ⌜ r ≡ placeOf kind high low ⌝ }
-{
-    if kind == 0 {
-        return Position::Between;
-    }
-    if kind == 1 {
-        return Position::AfterFirst(low);
-    }
-    Position::Remaining(number_of(high, low))
-}
-
-// Between records the value is 0; after the first LL byte it is one byte.
-fn place_good(kind: u8, high: u8, low: u8) -> bool
-    ensures { λ r. ⌜ r ≡ placeFits kind high low ⌝ }
-{
-    (kind <= 2) & (((kind == 2) | (high == 0)) & ((1 <= kind) | (low == 0)))
-}
-
 pub(crate) fn place_at(image: &[u8], at: usize) -> Position
     requires { ⌜ at + 3 ≤ length (now image) ⌝ }
     ensures { λ r. ⌜ r ≡ placeAt (now (image .entry)) at ⌝ }
 {
-    place_of(image[at], image[at + 1], image[at + 2])
+    let kind = image[at];
+    if kind == 0 {
+        return Position::Between;
+    }
+    if kind == 1 {
+        return Position::AfterFirst(image[at + 2]);
+    }
+    Position::Remaining(number_of(image[at + 1], image[at + 2]))
 }
 
+// Between records the value is 0; after the first LL byte it is one byte.
 pub(crate) fn place_good_at(image: &[u8], at: usize) -> bool
     requires { ⌜ at + 3 ≤ length (now image) ⌝ }
     ensures { λ r. ⌜ r ≡ placeGood (now (image .entry)) at ⌝ }
 {
-    place_good(image[at], image[at + 1], image[at + 2])
+    let kind = image[at];
+    if kind == 0 {
+        return (image[at + 1] == 0) & (image[at + 2] == 0);
+    }
+    if kind == 1 {
+        return image[at + 1] == 0;
+    }
+    kind == 2
 }
 
 pub(crate) fn write_place(image: &mut [u8], at: usize, p: Position)
