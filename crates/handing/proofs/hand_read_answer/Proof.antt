@@ -1,8 +1,8 @@
--- `lu62::handing::hand_read_answer` meets its contract: the seven numbers.
+-- `handing::hand_read_answer` meets its contract: the seven numbers.
 -- Assumes nothing.
 use borrow.Author.Needs.{needs}
-use Rattle.lu62.proofs.handing.hand_read_answer.Statement.{statement}
-use Rattle.lu62.proofs.handing.hand_read_answer.Tie as tie
+use Rattle.handing.proofs.hand_read_answer.Statement.{statement}
+use Rattle.handing.proofs.hand_read_answer.Tie as tie
 
 cast-refusal : tie.Need-cast-refusal
 cast-refusal c = search needs

@@ -1,5 +1,5 @@
-// What each call hands out: the answer as seven numbers, and the new record over the image. The numbers are: refusal, sense,
-// rule, length of the unit made, bytes copied, complete (0 or 1), mark (0 to 5).
+// What each exported call hands out: the answer as seven numbers, and the new record over the image. The numbers are: refusal,
+// sense, rule, length of the unit made, bytes copied, complete (0 or 1), mark (0 to 5).
 use end::Answer;
 use end::Done;
 use end::ReadAnswer;
@@ -8,10 +8,11 @@ use image::codes::flag_code;
 use image::codes::mark_code;
 use image::writing::write_image;
 ghost use mathlib.Core.Path.{_≡_};
-ghost use Prim.Native.Nat.{_<_};
+ghost use Prim.Native.Nat.{ℕ, _<_};
+ghost use mathlib.Core.List.{List};
 ghost use lib.ListN.{length};
 ghost use Rattle.image.specs.Image.{IMAGE};
-ghost use Rattle.lu62.specs.Handing.{answerNumbers, readNumbers, refusalNumbers, handed, handedOut};
+ghost use Rattle.handing.specs.Handing.{answerNumbers, readNumbers, handed, handedOut, handedBack};
 
 // A length as a number of 32 bits. The end's units are at most 1,029 bytes long, and a read copies at most 65,535.
 fn word(n: usize) -> u32
@@ -52,7 +53,7 @@ fn hand_read_answer(a: ReadAnswer, answer: &mut [u32; 7]) -> u32
 }
 
 // The new record goes over the image, and the answer out.
-pub(crate) fn hand_out(done: Done, image: &mut [u8], answer: &mut [u32; 7]) -> u32
+pub fn hand_out(done: Done, image: &mut [u8], answer: &mut [u32; 7]) -> u32
     requires { ⌜ (done .answer .unit < 4294967296) × (length (now image) ≡ IMAGE) ⌝ }
     ensures { λ r. ⌜ handed r (now (answer .exit)) (now (image .exit)) ≡ handedOut (answerNumbers (done .answer)) (done .end) ⌝ }
 {
@@ -62,7 +63,7 @@ pub(crate) fn hand_out(done: Done, image: &mut [u8], answer: &mut [u32; 7]) -> u
     hand_answer(made, answer)
 }
 
-pub(crate) fn hand_out_read(done: ReadDone, image: &mut [u8], answer: &mut [u32; 7]) -> u32
+pub fn hand_out_read(done: ReadDone, image: &mut [u8], answer: &mut [u32; 7]) -> u32
     requires { ⌜ (done .answer .answer .unit < 4294967296) × (done .answer .copied < 4294967296) × (length (now image) ≡ IMAGE) ⌝ }
     ensures { λ r. ⌜ handed r (now (answer .exit)) (now (image .exit)) ≡ handedOut (readNumbers (done .answer)) (done .end) ⌝ }
 {
@@ -73,8 +74,8 @@ pub(crate) fn hand_out_read(done: ReadDone, image: &mut [u8], answer: &mut [u32;
 }
 
 // An image that holds no record: the answer is its refusal number, and no cell is changed.
-pub(crate) fn refuse_image(number: u8, answer: &mut [u32; 7]) -> u32
-    ensures { λ r. ⌜ (r ≡ number) × (now (answer .exit) ≡ refusalNumbers number) ⌝ }
+pub fn refuse_image(number: u8, answer: &mut [u32; 7]) -> u32
+    ensures { λ r. ⌜ ((image : List ℕ) → handed r (now (answer .exit)) image ≡ handedBack number image) ⌝ }
 {
     let refusal = number as u32;
     *answer = [refusal, 0, 0, 0, 0, 0, 0];
