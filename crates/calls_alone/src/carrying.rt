@@ -20,19 +20,61 @@ fn part_behind(at: usize, max: usize) -> usize {
     if next < RECORD { next } else { 0 }
 }
 
-// Takes the unit of n bytes at the front of `line`, and reads. The reader answers no data, so its own unit buffer is short.
-fn taken(before: Pair, line: &[u8], n: usize, inbox: &mut [u8], buffer: &mut [u8]) -> Pair {
+// What a part given leaves: the ends, and the length of the unit that goes, 0 if none does.
+struct Sent {
+    pair: Pair,
+    unit: usize,
+}
+
+// Gives the part of the record that is next.
+fn part_given(before: Pair, max: usize, whole: &[u8], send: &mut [u8], unit: &mut [u8]) -> Sent {
+    let from = before.at;
+    if whole.len() < from {
+        return Sent {
+            pair: before,
+            unit: 0,
+        };
+    }
+    if whole.len() - from < max {
+        return Sent {
+            pair: before,
+            unit: 0,
+        };
+    }
+    let giver = before.giver;
+    let reader = before.reader;
+    let done = giver.send_data(&whole[from..from + max], send, unit);
+    let answer = done.answer;
+    let next = done.end;
+    let pair = Pair {
+        giver: next,
+        reader,
+        place: before.place,
+        at: part_behind(from, max),
+        read: before.read,
+    };
+    Sent {
+        pair,
+        unit: answer.unit,
+    }
+}
+
+// Takes the unit of n bytes at the front of `line`. The reader answers no data, so its own unit buffer is short.
+fn unit_taken(reader: End, line: &[u8], n: usize, inbox: &mut [u8]) -> End {
     if line.len() < n {
-        return before;
+        return reader;
     }
     let mut unit = [0u8; 13];
-    let reader = before.reader;
-    let giver = before.giver;
     let done = reader.receive_unit(&line[..n], inbox, &mut unit);
-    let reading = done.end;
-    let last = reading.receive(inbox, buffer);
-    let answer = last.answer;
-    let next = last.end;
+    done.end
+}
+
+// Reads what the reader has taken.
+fn read(before: Pair, reader: End, inbox: &mut [u8], buffer: &mut [u8]) -> Pair {
+    let giver = before.giver;
+    let done = reader.receive(inbox, buffer);
+    let answer = done.answer;
+    let next = done.end;
     Pair {
         giver,
         reader: next,
@@ -48,20 +90,13 @@ fn paced(before: Pair, window: u8, unit: &mut [u8]) -> Pair {
         return before;
     }
     let mut response = [0u8; 13];
-    let mut inbox = [0u8; 8];
     let reader = before.reader;
-    let giver = before.giver;
     let made = reader.send_pacing_response(&mut response);
     let answer = made.answer;
-    let n = answer.unit;
-    if 13 < n {
-        return before;
-    }
-    let done = giver.receive_unit(&response[..n], &mut inbox, unit);
-    let next = done.end;
     let pacer = made.end;
+    let giver = before.giver;
     Pair {
-        giver: next,
+        giver: response_taken(giver, &response, answer.unit, unit),
         reader: pacer,
         place: 0,
         at: before.at,
@@ -69,38 +104,18 @@ fn paced(before: Pair, window: u8, unit: &mut [u8]) -> Pair {
     }
 }
 
-// Gives the bytes, and carries the unit if one goes.
-fn given(
-    before: Pair,
-    max: usize,
-    window: u8,
-    bytes: &[u8],
-    send: &mut [u8],
-    unit: &mut [u8],
-    inbox: &mut [u8],
-    buffer: &mut [u8],
-) -> Pair {
-    let giver = before.giver;
-    let reader = before.reader;
-    let done = giver.send_data(bytes, send, unit);
-    let answer = done.answer;
-    let end = done.end;
-    let next = Pair {
-        giver: end,
-        reader,
-        place: before.place,
-        at: part_behind(before.at, max),
-        read: before.read,
-    };
-    if answer.unit == 0 {
-        return next;
+// The giver gets no data, so its inbox is short.
+fn response_taken(giver: End, line: &[u8], n: usize, unit: &mut [u8]) -> End {
+    if line.len() < n {
+        return giver;
     }
-    let read = taken(next, unit, answer.unit, inbox, buffer);
-    paced(read, window, unit)
+    let mut inbox = [0u8; 8];
+    let done = giver.receive_unit(&line[..n], &mut inbox, unit);
+    done.end
 }
 
-// The part of the record that is next.
-pub(crate) fn part_given(
+// One part, from one end to the other.
+pub(crate) fn part_carried(
     before: Pair,
     max: usize,
     window: u8,
@@ -110,21 +125,12 @@ pub(crate) fn part_given(
     inbox: &mut [u8],
     buffer: &mut [u8],
 ) -> Pair {
-    let from = before.at;
-    if whole.len() < from {
-        return before;
+    let sent = part_given(before, max, whole, send, unit);
+    let pair = sent.pair;
+    if sent.unit == 0 {
+        return pair;
     }
-    if whole.len() - from < max {
-        return before;
-    }
-    given(
-        before,
-        max,
-        window,
-        &whole[from..from + max],
-        send,
-        unit,
-        inbox,
-        buffer,
-    )
+    let reader = pair.reader;
+    let taken = unit_taken(reader, unit, sent.unit, inbox);
+    paced(read(pair, taken, inbox, buffer), window, unit)
 }

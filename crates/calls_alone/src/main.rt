@@ -5,8 +5,9 @@
 //
 // Prints the bytes read. The last part given stays in the send buffer. The benchmark counts its instructions.
 mod carrying;
+
 use carrying::Pair;
-use carrying::part_given;
+use carrying::part_carried;
 use end::End;
 use end::Session;
 use end::opening::open_session;
@@ -66,16 +67,7 @@ fn carry(
     let mut pair = before;
     let mut turns = parts;
     while 0 < turns {
-        pair = part_given(
-            pair,
-            max,
-            window,
-            whole,
-            send,
-            unit,
-            inbox,
-            buffer,
-        );
+        pair = part_carried(pair, max, window, whole, send, unit, inbox, buffer);
         turns = turns - 1;
     }
     pair

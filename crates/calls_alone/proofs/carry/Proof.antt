@@ -17,8 +17,8 @@ abbrev μ-loop : tie.MeasureT-loop
 loop-holds : tie.Need-loop-holds Inv-loop μ-loop
 loop-holds c = (refl, refl, refl, refl)
 
-part-given-requires : tie.Need-part-given-requires Inv-loop μ-loop
-part-given-requires c κs = search needs
+part-carried-requires : tie.Need-part-carried-requires Inv-loop μ-loop
+part-carried-requires c κs = search needs
 
 sub-turns : tie.Need-sub-turns Inv-loop μ-loop
 sub-turns c = let test = c .before .before .before .before .before .before .before .before .before .before .before .before .before .loop-test .taken in omega (arith, test)
@@ -51,7 +51,7 @@ carry-spec =
     Inv-loop
     μ-loop
     loop-holds
-    part-given-requires
+    part-carried-requires
     sub-turns
     loop-less
     loop-again
