@@ -6,10 +6,10 @@ use mathlib.Core.List.{List, [], _∷_}
 use Prim.Native.Nat.{ℕ, suc}
 use lib.ListN.{length, getD}
 use Rattle.answers.specs.Answers.{BAD-RECORD}
-use Rattle.image.specs.Parts.{placeGood}
+use Rattle.image_parts.specs.Parts.{placeGood}
 use Rattle.image.specs.Image.{IMAGE, codesGood, flagsGood, placesGood, recordIn, imageGood, imageRead}
 use Rattle.image.specs.declared.ImageRead.the-variants.{Record, Refused}
-use Rattle.image.proofs.Listed.{both, one-no}
+use Rattle.image_parts.proofs.Listed.{both, one-no}
 
 first-no : (a b d : Bool) → a && b ≡ false → a && (b && d) ≡ false
 first-no true b d h = rw h

@@ -2,24 +2,24 @@
 // record place. Whether the record keeps document 01's rules is asked by each call, question 5.
 use crate::IMAGE;
 use crate::ImageRead;
-use crate::codes::follows_of;
-use crate::codes::mark_of;
-use crate::codes::role_of;
-use crate::codes::state_of;
-use crate::parts::number_at;
-use crate::parts::place_at;
-use crate::parts::place_good_at;
-use crate::parts::window_at;
 use answers::numbers::BAD_BUFFER;
 use answers::numbers::BAD_RECORD;
 use control::Control;
 use end::End;
 use end::Receiving;
 use end::Sending;
+use image_parts::codes::follows_of;
+use image_parts::codes::mark_of;
+use image_parts::codes::role_of;
+use image_parts::codes::state_of;
+use image_parts::parts::number_at;
+use image_parts::parts::place_at;
+use image_parts::parts::place_good_at;
+use image_parts::parts::window_at;
 use logical_record::Position;
 ghost use mathlib.Core.Path.{_≡_};
 ghost use lib.ListN.{length};
-ghost use Rattle.image.specs.Parts.{placeAt};
+ghost use Rattle.image_parts.specs.Parts.{placeAt};
 ghost use Rattle.image.specs.Image.{IMAGE, codesGood, flagsGood, sendingIn, receivingIn, recordIn, imageRead};
 
 fn codes_good(image: &[u8]) -> bool

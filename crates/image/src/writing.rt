@@ -1,16 +1,16 @@
 // A record written as an image.
 use crate::IMAGE;
-use crate::codes::flag_code;
-use crate::codes::follows_code;
-use crate::codes::mark_code;
-use crate::codes::role_code;
-use crate::codes::state_code;
-use crate::parts::write_number;
-use crate::parts::write_place;
-use crate::parts::write_window;
 use end::End;
 use end::Receiving;
 use end::Sending;
+use image_parts::codes::flag_code;
+use image_parts::codes::follows_code;
+use image_parts::codes::mark_code;
+use image_parts::codes::role_code;
+use image_parts::codes::state_code;
+use image_parts::parts::write_number;
+use image_parts::parts::write_place;
+use image_parts::parts::write_window;
 ghost use mathlib.Core.Path.{_≡_};
 ghost use lib.ListN.{length};
 ghost use Rattle.cells.specs.Cells.{written};

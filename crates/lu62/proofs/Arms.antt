@@ -11,7 +11,7 @@ use Rattle.end.specs.Results.{madeBy, sentBy, takenBy, copiedBy}
 use Rattle.end.specs.declared.End.{End}
 use Rattle.end.specs.declared.Done.{Done}
 use Rattle.end.specs.declared.ReadDone.{ReadDone}
-use Rattle.image.specs.Parts.{byteAt}
+use Rattle.image_parts.specs.Parts.{byteAt}
 use Rattle.image.specs.Image.{IMAGE, imageRead}
 use Rattle.image.specs.declared.ImageRead.{ImageRead}
 use Rattle.image.specs.declared.ImageRead.the-variants.{Record, Refused}

@@ -4,7 +4,7 @@ use lib.ListN.{length-set}
 use native.Mathlib.Omega.{arith}
 use denote.Ref.{now}
 use Rattle.image.specs.Image.{controlBytes}
-use Rattle.image.proofs.Writes.{stored}
+use Rattle.image_parts.proofs.Writes.{stored}
 use borrow.Author.Needs.{needs}
 use Rattle.image.proofs.writing.write_control.Statement.{statement}
 use Rattle.image.proofs.writing.write_control.Tie as tie

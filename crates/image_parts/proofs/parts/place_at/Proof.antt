@@ -1,9 +1,9 @@
--- `image::parts::place_at` meets its contract: the tests passed on the way pick the case.
+-- `image_parts::parts::place_at` meets its contract: the tests passed on the way pick the case.
 -- Assumes nothing.
 use borrow.Author.Tests.{eq-eqb, ne-eqb}
 use borrow.Author.Needs.{needs}
-use Rattle.image.proofs.parts.place_at.Statement.{statement}
-use Rattle.image.proofs.parts.place_at.Tie as tie
+use Rattle.image_parts.proofs.parts.place_at.Statement.{statement}
+use Rattle.image_parts.proofs.parts.place_at.Tie as tie
 
 shared-slice-read-kind : tie.Need-shared-slice-read-kind
 shared-slice-read-kind c = search needs

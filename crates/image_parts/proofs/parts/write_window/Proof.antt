@@ -1,13 +1,13 @@
--- `image::parts::write_window` meets its contract: three stores are three bytes written.
+-- `image_parts::parts::write_window` meets its contract: three stores are three bytes written.
 -- Assumes nothing.
 use lib.ListN.{length-set}
 use native.Mathlib.Omega.{arith}
 use denote.Ref.{now}
-use Rattle.image.specs.Parts.{flagByte}
-use Rattle.image.proofs.Writes.{three-stored}
+use Rattle.image_parts.specs.Parts.{flagByte}
+use Rattle.image_parts.proofs.Writes.{three-stored}
 use borrow.Author.Needs.{needs}
-use Rattle.image.proofs.parts.write_window.Statement.{statement}
-use Rattle.image.proofs.parts.write_window.Tie as tie
+use Rattle.image_parts.proofs.parts.write_window.Statement.{statement}
+use Rattle.image_parts.proofs.parts.write_window.Tie as tie
 
 slice-write-image : tie.Need-slice-write-image
 slice-write-image c = search needs

@@ -1,14 +1,14 @@
--- `image::parts::write_place` meets its contract: the kind, and the number right behind it.
+-- `image_parts::parts::write_place` meets its contract: the kind, and the number right behind it.
 -- Assumes nothing.
 use lib.ListN.{length-set}
 use native.Mathlib.Omega.{arith}
 use mathlib.Core.Path.{_∙_}
 use denote.Ref.{now}
-use Rattle.image.specs.Parts.{placeKind, placeValue, numberBytes}
-use Rattle.image.proofs.Writes.{one-stored}
+use Rattle.image_parts.specs.Parts.{placeKind, placeValue, numberBytes}
+use Rattle.image_parts.proofs.Writes.{one-stored}
 use borrow.Author.Needs.{needs}
-use Rattle.image.proofs.parts.write_place.Statement.{statement}
-use Rattle.image.proofs.parts.write_place.Tie as tie
+use Rattle.image_parts.proofs.parts.write_place.Statement.{statement}
+use Rattle.image_parts.proofs.parts.write_place.Tie as tie
 
 place-kind-requires : tie.Need-place-kind-requires
 place-kind-requires c κs = search needs

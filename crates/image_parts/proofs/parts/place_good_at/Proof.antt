@@ -1,13 +1,13 @@
--- `image::parts::place_good_at` meets its contract: each kind has its own test.
+-- `image_parts::parts::place_good_at` meets its contract: each kind has its own test.
 -- Assumes nothing.
 use denote.Ref.{now}
 use Prim.Native.Nat.{_+_}
 use borrow.Author.Tests.{ne-eqb}
-use Rattle.image.specs.Parts.{byteAt}
-use Rattle.image.proofs.KindsFit.{fits-1, fits-past}
+use Rattle.image_parts.specs.Parts.{byteAt}
+use Rattle.image_parts.proofs.KindsFit.{fits-1, fits-past}
 use borrow.Author.Needs.{needs}
-use Rattle.image.proofs.parts.place_good_at.Statement.{statement}
-use Rattle.image.proofs.parts.place_good_at.Tie as tie
+use Rattle.image_parts.proofs.parts.place_good_at.Statement.{statement}
+use Rattle.image_parts.proofs.parts.place_good_at.Tie as tie
 
 shared-slice-read-kind : tie.Need-shared-slice-read-kind
 shared-slice-read-kind c = search needs

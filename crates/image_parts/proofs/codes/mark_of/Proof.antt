@@ -1,8 +1,8 @@
--- `image::codes::mark_of` meets its contract: the tests passed on the way pick the case.
+-- `image_parts::codes::mark_of` meets its contract: the tests passed on the way pick the case.
 -- Assumes nothing.
 use borrow.Author.Tests.{eq-eqb, ne-eqb}
-use Rattle.image.proofs.codes.mark_of.Statement.{statement}
-use Rattle.image.proofs.codes.mark_of.Tie as tie
+use Rattle.image_parts.proofs.codes.mark_of.Statement.{statement}
+use Rattle.image_parts.proofs.codes.mark_of.Tie as tie
 
 returns : tie.Need-returns
 returns c = rw (eq-eqb _ _ (c .if1 .taken))

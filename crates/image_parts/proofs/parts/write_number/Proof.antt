@@ -1,13 +1,13 @@
--- `image::parts::write_number` meets its contract: two stores are two bytes written.
+-- `image_parts::parts::write_number` meets its contract: two stores are two bytes written.
 -- Assumes nothing.
 use lib.ListN.{length-set}
 use native.Mathlib.Omega.{arith}
 use denote.Ref.{now}
 use Prim.Native.Nat.{_/_, _%_}
-use Rattle.image.proofs.Writes.{two-stored}
+use Rattle.image_parts.proofs.Writes.{two-stored}
 use borrow.Author.Needs.{needs}
-use Rattle.image.proofs.parts.write_number.Statement.{statement}
-use Rattle.image.proofs.parts.write_number.Tie as tie
+use Rattle.image_parts.proofs.parts.write_number.Statement.{statement}
+use Rattle.image_parts.proofs.parts.write_number.Tie as tie
 
 cast-image : tie.Need-cast-image
 cast-image c = search needs

@@ -6,7 +6,7 @@ use Prim.Native.Nat.{ℕ, zero, suc}
 use native.Mathlib.Omega.{arith}
 use lib.Dec.{eqb}
 use borrow.Author.Tests.{lt-leb, ne-eqb}
-use Rattle.image.specs.Parts.{placeFits}
+use Rattle.image_parts.specs.Parts.{placeFits}
 
 last-true : (a : Bool) → a ≡ a && true
 last-true true = refl

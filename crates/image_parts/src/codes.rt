@@ -7,8 +7,8 @@ use unit::Follows;
 ghost use mathlib.Core.Path.{_≡_};
 ghost use Rattle.control.specs.Tests.{roleNumber, stateNumber, markNumber};
 ghost use Rattle.sides.specs.Opening.{roleOf};
-ghost use Rattle.image.specs.Codes.{stateOf, followsNumber, followsOf, markOf};
-ghost use Rattle.image.specs.Parts.{flagByte};
+ghost use Rattle.image_parts.specs.Codes.{stateOf, followsNumber, followsOf, markOf};
+ghost use Rattle.image_parts.specs.Parts.{flagByte};
 
 // 1 if it is on.
 pub fn flag_code(on: bool) -> u8
@@ -17,7 +17,7 @@ pub fn flag_code(on: bool) -> u8
     if on { 1 } else { 0 }
 }
 
-pub(crate) fn role_code(role: Role) -> u8
+pub fn role_code(role: Role) -> u8
     ensures { λ r. ⌜ r ≡ roleNumber role ⌝ }
 {
     match role {
@@ -26,7 +26,7 @@ pub(crate) fn role_code(role: Role) -> u8
     }
 }
 
-pub(crate) fn role_of(code: u8) -> Role
+pub fn role_of(code: u8) -> Role
     ensures { λ r. ⌜ r ≡ roleOf code ⌝ }
 {
     if code == 0 {
@@ -36,7 +36,7 @@ pub(crate) fn role_of(code: u8) -> Role
     }
 }
 
-pub(crate) fn state_code(state: State) -> u8
+pub fn state_code(state: State) -> u8
     ensures { λ r. ⌜ r ≡ stateNumber state ⌝ }
 {
     match state {
@@ -48,7 +48,7 @@ pub(crate) fn state_code(state: State) -> u8
     }
 }
 
-pub(crate) fn state_of(code: u8) -> State
+pub fn state_of(code: u8) -> State
     ensures { λ r. ⌜ r ≡ stateOf code ⌝ }
 {
     if code == 0 {
@@ -66,7 +66,7 @@ pub(crate) fn state_of(code: u8) -> State
     State::ConfirmAwaited
 }
 
-pub(crate) fn follows_code(follows: Follows) -> u8
+pub fn follows_code(follows: Follows) -> u8
     ensures { λ r. ⌜ r ≡ followsNumber follows ⌝ }
 {
     match follows {
@@ -76,7 +76,7 @@ pub(crate) fn follows_code(follows: Follows) -> u8
     }
 }
 
-pub(crate) fn follows_of(code: u8) -> Follows
+pub fn follows_of(code: u8) -> Follows
     ensures { λ r. ⌜ r ≡ followsOf code ⌝ }
 {
     if code == 0 {
@@ -102,7 +102,7 @@ pub fn mark_code(mark: WhatReceived) -> u8
     }
 }
 
-pub(crate) fn mark_of(code: u8) -> WhatReceived
+pub fn mark_of(code: u8) -> WhatReceived
     ensures { λ r. ⌜ r ≡ markOf code ⌝ }
 {
     if code == 0 {

@@ -8,7 +8,7 @@ ghost use Prim.Native.Nat.{_+_, _≤_};
 ghost use lib.ListN.{length};
 ghost use Rattle.cells.specs.Cells.{written};
 ghost use Rattle.unit.specs.Unit.{numberOf};
-ghost use Rattle.image.specs.Parts.{numberBytes, numberAt, windowBytes, windowAt, placeKind, placeValue, placeBytes, placeAt, placeGood};
+ghost use Rattle.image_parts.specs.Parts.{numberBytes, numberAt, windowBytes, windowAt, placeKind, placeValue, placeBytes, placeAt, placeGood};
 
 fn number_of(high: u8, low: u8) -> u16
     ensures { λ r. ⌜ r ≡ numberOf high low ⌝ }
@@ -16,14 +16,14 @@ fn number_of(high: u8, low: u8) -> u16
     (high as u16) * 256 + (low as u16)
 }
 
-pub(crate) fn number_at(image: &[u8], at: usize) -> u16
+pub fn number_at(image: &[u8], at: usize) -> u16
     requires { ⌜ at + 2 ≤ length (now image) ⌝ }
     ensures { λ r. ⌜ r ≡ numberAt (now (image .entry)) at ⌝ }
 {
     number_of(image[at], image[at + 1])
 }
 
-pub(crate) fn write_number(image: &mut [u8], at: usize, n: u16)
+pub fn write_number(image: &mut [u8], at: usize, n: u16)
     requires { ⌜ at + 2 ≤ length (now image) ⌝ }
     ensures { λ _. ⌜ now (image .exit) ≡ written at (numberBytes n) (now (image .entry)) ⌝ }
 {
@@ -31,7 +31,7 @@ pub(crate) fn write_number(image: &mut [u8], at: usize, n: u16)
     image[at + 1] = (n % 256) as u8;
 }
 
-pub(crate) fn window_at(image: &[u8], at: usize) -> Window
+pub fn window_at(image: &[u8], at: usize) -> Window
     requires { ⌜ at + 3 ≤ length (now image) ⌝ }
     ensures { λ r. ⌜ r ≡ windowAt (now (image .entry)) at ⌝ }
 {
@@ -42,7 +42,7 @@ pub(crate) fn window_at(image: &[u8], at: usize) -> Window
     }
 }
 
-pub(crate) fn write_window(image: &mut [u8], at: usize, w: Window)
+pub fn write_window(image: &mut [u8], at: usize, w: Window)
     requires { ⌜ at + 3 ≤ length (now image) ⌝ }
     ensures { λ _. ⌜ now (image .exit) ≡ written at (windowBytes w) (now (image .entry)) ⌝ }
 {
@@ -71,7 +71,7 @@ fn place_value(p: Position) -> u16
     }
 }
 
-pub(crate) fn place_at(image: &[u8], at: usize) -> Position
+pub fn place_at(image: &[u8], at: usize) -> Position
     requires { ⌜ at + 3 ≤ length (now image) ⌝ }
     ensures { λ r. ⌜ r ≡ placeAt (now (image .entry)) at ⌝ }
 {
@@ -86,7 +86,7 @@ pub(crate) fn place_at(image: &[u8], at: usize) -> Position
 }
 
 // Between records the value is 0; after the first LL byte it is one byte.
-pub(crate) fn place_good_at(image: &[u8], at: usize) -> bool
+pub fn place_good_at(image: &[u8], at: usize) -> bool
     requires { ⌜ at + 3 ≤ length (now image) ⌝ }
     ensures { λ r. ⌜ r ≡ placeGood (now (image .entry)) at ⌝ }
 {
@@ -100,7 +100,7 @@ pub(crate) fn place_good_at(image: &[u8], at: usize) -> bool
     kind == 2
 }
 
-pub(crate) fn write_place(image: &mut [u8], at: usize, p: Position)
+pub fn write_place(image: &mut [u8], at: usize, p: Position)
     requires { ⌜ at + 3 ≤ length (now image) ⌝ }
     ensures { λ _. ⌜ now (image .exit) ≡ written at (placeBytes p) (now (image .entry)) ⌝ }
 {
