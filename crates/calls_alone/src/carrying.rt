@@ -1,5 +1,7 @@
 // One part of a record is given, the unit that goes is taken, and its bytes are read; after each window the reader paces.
+use end::Done;
 use end::End;
+ghost use Prim.Native.Nat.{_≤_};
 
 // The two ends: `place` counts the units taken in the window, `at` is where the next part of the record starts, `read` counts
 // the bytes read.
@@ -20,43 +22,24 @@ fn part_behind(at: usize, max: usize) -> usize {
     if next < RECORD { next } else { 0 }
 }
 
-// What a part given leaves: the ends, and the length of the unit that goes, 0 if none does.
-struct Sent {
-    pair: Pair,
-    unit: usize,
+fn least(a: usize, b: usize) -> usize
+    ensures { λ r. ⌜ (r ≤ a) × (r ≤ b) ⌝ }
+{
+    if a <= b { a } else { b }
 }
 
-// Gives the part of the record that is next.
-fn part_given(before: Pair, max: usize, whole: &[u8], send: &mut [u8], unit: &mut [u8]) -> Sent {
-    let from = before.at;
-    if whole.len() < from {
-        return Sent {
-            pair: before,
-            unit: 0,
-        };
-    }
-    if whole.len() - from < max {
-        return Sent {
-            pair: before,
-            unit: 0,
-        };
-    }
-    let giver = before.giver;
-    let reader = before.reader;
-    let done = giver.send_data(&whole[from..from + max], send, unit);
-    let answer = done.answer;
-    let next = done.end;
-    let pair = Pair {
-        giver: next,
-        reader,
-        place: before.place,
-        at: part_behind(from, max),
-        read: before.read,
-    };
-    Sent {
-        pair,
-        unit: answer.unit,
-    }
+// Gives the part of the record that starts at `from`, as much of it as there is.
+fn part_given(
+    giver: End,
+    from: usize,
+    max: usize,
+    whole: &[u8],
+    send: &mut [u8],
+    unit: &mut [u8],
+) -> Done {
+    let start = least(from, whole.len());
+    let n = least(max, whole.len() - start);
+    giver.send_data(&whole[start..start + n], send, unit)
 }
 
 // Takes the unit of n bytes at the front of `line`. The reader answers no data, so its own unit buffer is short.
@@ -125,12 +108,21 @@ pub(crate) fn part_carried(
     inbox: &mut [u8],
     buffer: &mut [u8],
 ) -> Pair {
-    let sent = part_given(before, max, whole, send, unit);
-    let pair = sent.pair;
-    if sent.unit == 0 {
+    let giver = before.giver;
+    let reader = before.reader;
+    let done = part_given(giver, before.at, max, whole, send, unit);
+    let answer = done.answer;
+    let end = done.end;
+    let pair = Pair {
+        giver: end,
+        reader,
+        place: before.place,
+        at: part_behind(before.at, max),
+        read: before.read,
+    };
+    if answer.unit == 0 {
         return pair;
     }
-    let reader = pair.reader;
-    let taken = unit_taken(reader, unit, sent.unit, inbox);
+    let taken = unit_taken(reader, unit, answer.unit, inbox);
     paced(read(pair, taken, inbox, buffer), window, unit)
 }

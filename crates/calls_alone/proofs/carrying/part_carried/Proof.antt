@@ -8,6 +8,9 @@ use Rattle.calls_alone.proofs.carrying.part_carried.Tie as tie
 part-given-requires : tie.Need-part-given-requires
 part-given-requires c κs = search needs
 
+part-behind-requires : tie.Need-part-behind-requires
+part-behind-requires c κs = search needs
+
 same-length : tie.Need-same-length
 same-length c = search needs
 
@@ -27,10 +30,10 @@ paced-requires : tie.Need-paced-requires
 paced-requires c κs = search needs
 
 same-length-3 : tie.Need-same-length-3
-same-length-3 c = c .before .before .before .before .before .before .before .before .before .before .before .before .before .before .before .before .before .before .before .before .before .before .before .send .given
+same-length-3 c = c .before .before .before .before .before .before .before .before .before .before .before .before .before .before .before .before .before .before .before .before .before .before .before .before .send .given
 
 same-length-4 : tie.Need-same-length-4
-same-length-4 c = c .before .unit2 .given ∙ c .before .before .before .before .before .before .before .before .before .before .before .before .before .before .before .before .before .before .before .before .before .unit .given
+same-length-4 c = c .before .unit2 .given ∙ c .before .before .before .before .before .before .before .before .before .before .before .before .before .before .before .before .before .before .before .before .before .before .unit .given
 
 same-length-5 : tie.Need-same-length-5
 same-length-5 c = search needs
@@ -46,6 +49,7 @@ part-carried-spec =
     tie.close
     (tie.spec
     part-given-requires
+    part-behind-requires
     same-length
     same-length-2
     returns
