@@ -1,5 +1,3 @@
-mod Writes
-mod Listed
-mod BackAndForth
+mod Refusals
 pub mod WhatIsRead
 pub mod RoundTrip

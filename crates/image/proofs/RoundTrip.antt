@@ -7,11 +7,11 @@ use Prim.Native.Nat.{ℕ, _+_, _<_}
 use lib.Dec.{leb}
 use lib.ListN.{length}
 use Rattle.end.specs.declared.End.{End}
-use Rattle.image.specs.Parts.{byteAt, flagGood, numberBytes, numberAt, windowBytes, windowAt, placeBytes, placeAt, placeGood, firstByte}
+use Rattle.image_parts.specs.Parts.{byteAt, flagGood, numberBytes, numberAt, windowBytes, windowAt, placeBytes, placeAt, placeGood, firstByte}
 use Rattle.image.specs.Image.{IMAGE, imageOf, recordIn, controlBytes, controlIn, codesGood, flagsGood, placesGood, imageGood, imageRead}
 use Rattle.image.specs.declared.ImageRead.the-variants.{Record}
-use Rattle.image.proofs.BackAndForth.{role-back, state-back, follows-back, mark-back, flag-back, number-back, place-back, role-good, state-good, follows-good, mark-good, flag-good, place-good, role-there, state-there, follows-there, mark-there, flag-there, number-there, place-there}
-use Rattle.image.proofs.Listed.{listed, listed-is, each}
+use Rattle.image_parts.proofs.BackAndForth.{role-back, state-back, follows-back, mark-back, flag-back, number-back, place-back, role-good, state-good, follows-good, mark-good, flag-good, place-good, role-there, state-there, follows-there, mark-there, flag-there, number-there, place-there}
+use Rattle.image_parts.proofs.Listed.{listed, listed-is, each}
 use Rattle.image.proofs.WhatIsRead.{record-known}
 
 module _ (e : End) (g : firstByte (e .sending .given) < 256) (t : firstByte (e .receiving .taken) < 256) (r : firstByte (e .receiving .read) < 256) where

@@ -10,7 +10,7 @@ use lib.ListN.{length}
 use borrow.Author.Tests.{eqb-true}
 use Rattle.answers.specs.Answers.{BAD-BUFFER, BAD-RECORD}
 use Rattle.end.specs.declared.End.{End}
-use Rattle.image.specs.Parts.{byteAt, numberAt}
+use Rattle.image_parts.specs.Parts.{byteAt, numberAt}
 use Rattle.image.specs.Image.{IMAGE, imageOf, imageWritten, recordIn, imageGood, imageRead}
 use Rattle.image.specs.declared.ImageRead.{ImageRead}
 use Rattle.image.specs.declared.ImageRead.the-variants.{Record, Refused}

@@ -32,8 +32,6 @@
 //
 // A record place is a kind byte and a value of two bytes: kind 0 between records, value 0; kind 1 after the first LL byte, that
 // byte as the value, at most 255; kind 2 past LL, the number of bytes left.
-pub mod codes;
-mod parts;
 pub mod reading;
 pub mod theorems;
 pub mod writing;

@@ -2,23 +2,25 @@
 // record place. Whether the record keeps document 01's rules is asked by each call, question 5.
 use crate::IMAGE;
 use crate::ImageRead;
-use crate::codes::follows_of;
-use crate::codes::mark_of;
-use crate::codes::role_of;
-use crate::codes::state_of;
-use crate::parts::number_at;
-use crate::parts::place_at;
-use crate::parts::place_good_at;
-use crate::parts::window_at;
 use answers::numbers::BAD_BUFFER;
 use answers::numbers::BAD_RECORD;
 use control::Control;
 use end::End;
 use end::Receiving;
 use end::Sending;
+use image_parts::codes::follows_of;
+use image_parts::codes::mark_of;
+use image_parts::codes::role_of;
+use image_parts::codes::state_of;
+use image_parts::parts::number_at;
+use image_parts::parts::place_at;
+use image_parts::parts::place_good_at;
+use image_parts::parts::window_at;
+use logical_record::Position;
 ghost use mathlib.Core.Path.{_≡_};
 ghost use lib.ListN.{length};
-ghost use Rattle.image.specs.Image.{IMAGE, codesGood, flagsGood, placesGood, imageGood, controlIn, sendingIn, receivingIn, recordIn, imageRead};
+ghost use Rattle.image_parts.specs.Parts.{placeAt};
+ghost use Rattle.image.specs.Image.{IMAGE, codesGood, flagsGood, sendingIn, receivingIn, recordIn, imageRead};
 
 fn codes_good(image: &[u8]) -> bool
     requires { ⌜ length (now image) ≡ IMAGE ⌝ }
@@ -36,38 +38,9 @@ fn flags_good(image: &[u8]) -> bool
             & ((image[6] <= 1) & ((image[7] <= 1) & ((image[10] <= 1) & (image[22] <= 1)))))
 }
 
-fn places_good(image: &[u8]) -> bool
-    requires { ⌜ length (now image) ≡ IMAGE ⌝ }
-    ensures { λ r. ⌜ r ≡ placesGood (now (image .entry)) ⌝ }
-{
-    place_good_at(image, 17) & (place_good_at(image, 31) & place_good_at(image, 34))
-}
-
-fn image_good(image: &[u8]) -> bool
-    requires { ⌜ length (now image) ≡ IMAGE ⌝ }
-    ensures { λ r. ⌜ r ≡ imageGood (now (image .entry)) ⌝ }
-{
-    codes_good(image) & (flags_good(image) & places_good(image))
-}
-
-fn control_in(image: &[u8]) -> Control
-    requires { ⌜ length (now image) ≡ IMAGE ⌝ }
-    ensures { λ r. ⌜ r ≡ controlIn (now (image .entry)) ⌝ }
-{
-    Control {
-        role: role_of(image[0]),
-        state: state_of(image[1]),
-        follows: follows_of(image[2]),
-        mark: mark_of(image[3]),
-        due: image[4] == 1,
-        bid: image[5] == 1,
-        outchain: image[6] == 1,
-        inchain: image[7] == 1,
-    }
-}
-
-fn sending_in(image: &[u8]) -> Sending
-    requires { ⌜ length (now image) ≡ IMAGE ⌝ }
+// The record places are read first, by `read_image`: they are the parts whose reading branches.
+fn sending_in(image: &[u8], given: Position) -> Sending
+    requires { ⌜ (length (now image) ≡ IMAGE) × (given ≡ placeAt (now image) 17) ⌝ }
     ensures { λ r. ⌜ r ≡ sendingIn (now (image .entry)) ⌝ }
 {
     Sending {
@@ -75,12 +48,12 @@ fn sending_in(image: &[u8]) -> Sending
         max: number_at(image, 11),
         held: number_at(image, 13),
         number: number_at(image, 15),
-        given: place_at(image, 17),
+        given,
     }
 }
 
-fn receiving_in(image: &[u8]) -> Receiving
-    requires { ⌜ length (now image) ≡ IMAGE ⌝ }
+fn receiving_in(image: &[u8], taken: Position, read: Position) -> Receiving
+    requires { ⌜ (length (now image) ≡ IMAGE) × (taken ≡ placeAt (now image) 31) × (read ≡ placeAt (now image) 34) ⌝ }
     ensures { λ r. ⌜ r ≡ receivingIn (now (image .entry)) ⌝ }
 {
     Receiving {
@@ -89,34 +62,56 @@ fn receiving_in(image: &[u8]) -> Receiving
         inbox: number_at(image, 25),
         held: number_at(image, 27),
         number: number_at(image, 29),
-        taken: place_at(image, 31),
-        read: place_at(image, 34),
+        taken,
+        read,
     }
 }
 
-fn record_in(image: &[u8]) -> End
-    requires { ⌜ length (now image) ≡ IMAGE ⌝ }
+// The control is written out here, and not by a function of its own, so that its eight bytes are moved as they are.
+fn record_in(image: &[u8], given: Position, taken: Position, read: Position) -> End
+    requires { ⌜ (length (now image) ≡ IMAGE) × (given ≡ placeAt (now image) 17) × (taken ≡ placeAt (now image) 31) × (read ≡ placeAt (now image) 34) ⌝ }
     ensures { λ r. ⌜ r ≡ recordIn (now (image .entry)) ⌝ }
 {
     End {
-        control: control_in(image),
-        sending: sending_in(image),
-        receiving: receiving_in(image),
+        control: Control {
+            role: role_of(image[0]),
+            state: state_of(image[1]),
+            follows: follows_of(image[2]),
+            mark: mark_of(image[3]),
+            due: image[4] == 1,
+            bid: image[5] == 1,
+            outchain: image[6] == 1,
+            inchain: image[7] == 1,
+        },
+        sending: sending_in(image, given),
+        receiving: receiving_in(image, taken, read),
         bidding: number_at(image, 37),
         owed: number_at(image, 39),
     }
 }
 
-// The record that the image holds, or the number that refuses it.
+// The record that the image holds, or the number that refuses it. Each record place is read right behind the question whether
+// it is one, so that its kind is asked once.
 pub fn read_image(image: &[u8]) -> ImageRead
     ensures { λ r. ⌜ r ≡ imageRead (now (image .entry)) ⌝ }
 {
     if image.len() != IMAGE {
         return ImageRead::Refused(BAD_BUFFER);
     }
-    if image_good(image) {
-        ImageRead::Record(record_in(image))
-    } else {
-        ImageRead::Refused(BAD_RECORD)
+    if codes_good(image) & flags_good(image) {} else {
+        return ImageRead::Refused(BAD_RECORD);
     }
+    if place_good_at(image, 17) {} else {
+        return ImageRead::Refused(BAD_RECORD);
+    }
+    let given = place_at(image, 17);
+    if place_good_at(image, 31) {} else {
+        return ImageRead::Refused(BAD_RECORD);
+    }
+    let taken = place_at(image, 31);
+    if place_good_at(image, 34) {} else {
+        return ImageRead::Refused(BAD_RECORD);
+    }
+    let read = place_at(image, 34);
+    ImageRead::Record(record_in(image, given, taken, read))
 }

@@ -5,7 +5,7 @@ use end::End;
 use logical_record::Position;
 ghost use mathlib.Core.Path.{_≡_};
 ghost use Rattle.end.specs.declared.End as holds;
-ghost use Rattle.image.specs.Parts.{firstByte};
+ghost use Rattle.image_parts.specs.Parts.{firstByte};
 ghost use Rattle.image.specs.Image.{imageOf, imageRead};
 ghost use Rattle.image.specs.declared.ImageRead.the-variants.{Record};
 

@@ -1,26 +1,27 @@
 // A record written as an image.
 use crate::IMAGE;
-use crate::codes::flag_code;
-use crate::codes::follows_code;
-use crate::codes::mark_code;
-use crate::codes::role_code;
-use crate::codes::state_code;
-use crate::parts::write_number;
-use crate::parts::write_place;
-use crate::parts::write_window;
-use control::Control;
 use end::End;
 use end::Receiving;
 use end::Sending;
+use image_parts::codes::flag_code;
+use image_parts::codes::follows_code;
+use image_parts::codes::mark_code;
+use image_parts::codes::role_code;
+use image_parts::codes::state_code;
+use image_parts::parts::write_number;
+use image_parts::parts::write_place;
+use image_parts::parts::write_window;
 ghost use mathlib.Core.Path.{_≡_};
 ghost use lib.ListN.{length};
 ghost use Rattle.cells.specs.Cells.{written};
 ghost use Rattle.image.specs.Image.{IMAGE, controlBytes, sendingBytes, receivingBytes, imageWritten};
 
-fn write_control(image: &mut [u8], c: Control)
+// It is given the whole record, and not the control alone: eight bytes passed on their own would be taken apart bit by bit.
+fn write_control(image: &mut [u8], e: End)
     requires { ⌜ length (now image) ≡ IMAGE ⌝ }
-    ensures { λ _. ⌜ now (image .exit) ≡ written 0 (controlBytes c) (now (image .entry)) ⌝ }
+    ensures { λ _. ⌜ now (image .exit) ≡ written 0 (controlBytes (e .control)) (now (image .entry)) ⌝ }
 {
+    let c = e.control;
     let role = c.role;
     let state = c.state;
     let follows = c.follows;
@@ -71,10 +72,9 @@ pub fn write_image(end: End, image: &mut [u8])
     if image.len() != IMAGE {
         return;
     }
-    let control = end.control;
     let sending = end.sending;
     let receiving = end.receiving;
-    write_control(image, control);
+    write_control(image, end);
     write_sending(image, sending);
     write_receiving(image, receiving);
     write_number(image, 37, end.bidding);

@@ -1,7 +1,7 @@
 -- The two arms of every call on an image: it holds a record, and the call is made on it; or it is refused.
 -- Assumes nothing.
 use mathlib.Core.Path.{_≡_, sym, ap, subst, _∙_}
-use mathlib.Core.List.{List}
+use mathlib.Core.List.{List, []}
 use Prim.Native.Nat.{ℕ, _<_}
 use lib.ListN.{length}
 use Rattle.header.specs.declared.HeaderBytes.{HeaderBytes}
@@ -11,19 +11,23 @@ use Rattle.end.specs.Results.{madeBy, sentBy, takenBy, copiedBy}
 use Rattle.end.specs.declared.End.{End}
 use Rattle.end.specs.declared.Done.{Done}
 use Rattle.end.specs.declared.ReadDone.{ReadDone}
-use Rattle.image.specs.Parts.{byteAt}
+use Rattle.image_parts.specs.Parts.{byteAt}
 use Rattle.image.specs.Image.{IMAGE, imageRead}
 use Rattle.image.specs.declared.ImageRead.{ImageRead}
 use Rattle.image.specs.declared.ImageRead.the-variants.{Record, Refused}
 use Rattle.image.proofs.WhatIsRead.{record-known, sizes-small}
-use Rattle.lu62.specs.Handing.{answerNumbers, readNumbers, refusalNumbers, Handed, handed, handedOut, Left, left, onImage}
+use Rattle.handing.specs.Handing.{answerNumbers, readNumbers, Handed, handed, handedOut, handedBack, Left, left, onImage}
 use Rattle.lu62.specs.Calls.{ruleIn, madeOut, sentOut, takenOut, copiedOut}
 use Rattle.lu62.proofs.Sizes.{WORD}
 
 pub refused-arm : {Cells : Type 0} (image : List ℕ) (cells : Cells) (call : End → Left Cells) {read : ImageRead} {q r : ℕ} {answer : List ℕ}
-    → read ≡ imageRead image → read ≡ Refused q → (r ≡ q) × (answer ≡ refusalNumbers q)
+    → read ≡ imageRead image → read ≡ Refused q → ((i : List ℕ) → handed r answer i ≡ handedBack q i)
     → left (handed r answer image) cells ≡ onImage image cells call
-refused-arm image cells call {read} {q} {r} {answer} p s f = rw (← p, s, f .0, f .1)
+refused-arm image cells call {read} {q} {r} {answer} p s f = rw (← p, s, f image)
+
+-- the number returned is the image's
+pub refused-number : {q r : ℕ} {answer : List ℕ} → ((i : List ℕ) → handed r answer i ≡ handedBack q i) → r ≡ q
+refused-number {q} {r} {answer} f = ap (λ (x : Handed). x .returned) (f [])
 
 -- the length of the unit made, from the call's promise
 pub made-unit : {d : Done} {after : List ℕ} {m : Made} → madeBy d after ≡ m → m .done .answer .unit < WORD → d .answer .unit < WORD

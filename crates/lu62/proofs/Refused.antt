@@ -28,7 +28,7 @@ use Rattle.image.specs.Image.{imageOf, imageRead}
 use Rattle.image.specs.declared.ImageRead.{ImageRead}
 use Rattle.image.specs.declared.ImageRead.the-variants.{Record, Refused}
 use Rattle.image.proofs.RoundTrip.{read-is-written}
-use Rattle.lu62.specs.Handing.{Left, byReading, onImage}
+use Rattle.handing.specs.Handing.{Left, byReading, onImage}
 use Rattle.lu62.specs.Calls.{madeOut, sentOut, takenOut, copiedOut, allocateOn, sendDataOn, flushOn, confirmOn, prepareToReceiveOn, deallocateOn, confirmedOn, paceOn, receiveUnitOn, receiveOn}
 use Rattle.lu62.specs.Claims.{Bytes, Untouched, RefusedChangesNothing}
 

@@ -5,8 +5,8 @@ use mathlib.Core.Bool.{Bool, false}
 use mathlib.Core.List.{List}
 use Prim.Native.Nat.{ℕ, _<_}
 use lib.Dec.{eqb}
-use Rattle.image.specs.Parts.{byteAt}
-use Rattle.lu62.specs.Handing.{Left}
+use Rattle.image_parts.specs.Parts.{byteAt}
+use Rattle.handing.specs.Handing.{Left}
 use Rattle.lu62.specs.Calls.{allocateOn, sendDataOn, flushOn, confirmOn, prepareToReceiveOn, deallocateOn, confirmedOn, paceOn, receiveUnitOn, receiveOn}
 
 -- an image's values are bytes, which is always so of the code's u8

@@ -1,12 +1,12 @@
 // The calls that send the last unit of a chain.
-use crate::handing::hand_out;
-use crate::handing::refuse_image;
+use handing::hand_out;
+use handing::refuse_image;
 use image::ImageRead;
 use image::reading::read_image;
 ghost use mathlib.Core.Path.{_≡_};
 ghost use mathlib.Core.Bool.{not};
 ghost use lib.Dec.{eqb};
-ghost use Rattle.lu62.specs.Handing.{handed, left};
+ghost use Rattle.handing.specs.Handing.{handed, left};
 ghost use Rattle.lu62.specs.Calls.{flushOn, confirmOn, prepareToReceiveOn, deallocateOn};
 
 // Sends the bytes held, if there are any.

@@ -19,21 +19,15 @@ number-at-requires-3 c κs = search needs
 number-at-requires-4 : tie.Need-number-at-requires-4
 number-at-requires-4 c κs = search needs
 
-place-at-requires : tie.Need-place-at-requires
-place-at-requires c κs = search needs
-
-place-at-requires-2 : tie.Need-place-at-requires-2
-place-at-requires-2 c κs = search needs
-
 returns : tie.Need-returns
 returns c = rw (
-  c .place-at2 .ensures,
-  c .before .place-at .ensures,
-  c .before .before .number-at4 .ensures,
-  c .before .before .before .number-at3 .ensures,
-  c .before .before .before .before .number-at2 .ensures,
-  c .before .before .before .before .before .number-at .ensures,
-  c .before .before .before .before .before .before .window-at .ensures,
+  c .number-at4 .ensures,
+  c .before .number-at3 .ensures,
+  c .before .before .number-at2 .ensures,
+  c .before .before .before .number-at .ensures,
+  c .before .before .before .before .window-at .ensures,
+  c .before .before .before .before .before .before .pre .1,
+  c .before .before .before .before .before .before .pre .2,
 )
 
 pub receiving-in-spec : {M : Type 1} → statement M
@@ -45,6 +39,4 @@ receiving-in-spec =
     number-at-requires-2
     number-at-requires-3
     number-at-requires-4
-    place-at-requires
-    place-at-requires-2
     returns)

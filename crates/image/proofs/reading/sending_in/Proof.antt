@@ -16,16 +16,13 @@ number-at-requires-2 c κs = search needs
 number-at-requires-3 : tie.Need-number-at-requires-3
 number-at-requires-3 c κs = search needs
 
-place-at-requires : tie.Need-place-at-requires
-place-at-requires c κs = search needs
-
 returns : tie.Need-returns
 returns c = rw (
-  c .place-at .ensures,
-  c .before .number-at3 .ensures,
-  c .before .before .number-at2 .ensures,
-  c .before .before .before .number-at .ensures,
-  c .before .before .before .before .window-at .ensures,
+  c .number-at3 .ensures,
+  c .before .number-at2 .ensures,
+  c .before .before .number-at .ensures,
+  c .before .before .before .window-at .ensures,
+  c .before .before .before .before .before .pre .1,
 )
 
 pub sending-in-spec : {M : Type 1} → statement M
@@ -36,5 +33,4 @@ sending-in-spec =
     number-at-requires
     number-at-requires-2
     number-at-requires-3
-    place-at-requires
     returns)

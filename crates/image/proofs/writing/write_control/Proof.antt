@@ -4,7 +4,7 @@ use lib.ListN.{length-set}
 use native.Mathlib.Omega.{arith}
 use denote.Ref.{now}
 use Rattle.image.specs.Image.{controlBytes}
-use Rattle.image.proofs.Writes.{stored}
+use Rattle.image_parts.proofs.Writes.{stored}
 use borrow.Author.Needs.{needs}
 use Rattle.image.proofs.writing.write_control.Statement.{statement}
 use Rattle.image.proofs.writing.write_control.Tie as tie
@@ -58,10 +58,10 @@ slice-write-image-8 : tie.Need-slice-write-image-8
 slice-write-image-8 c = simp length-set (omega arith)
 
 same-length : tie.Need-same-length
-same-length c = search needs
+same-length c = simp length-set
 
 returns : tie.Need-returns
-returns c = let a = c .before .before .before .before .before .before .before .before .before .args in
+returns c = let a = c .before .before .before .before .before .before .before .before .before .before .args in
     rw (
       c .flag-code4 .ensures,
       c .before .flag-code3 .ensures,
@@ -72,7 +72,7 @@ returns c = let a = c .before .before .before .before .before .before .before .b
       c .before .before .before .before .before .before .state-code .ensures,
       c .before .before .before .before .before .before .before .role-code .ensures,
     )
-    (stored (controlBytes (a .c)) (now (a .image)) 0 (omega arith))
+    (stored (controlBytes (a .e .control)) (now (a .image)) 0 (omega arith))
 
 pub write-control-spec : {M : Type 1} → statement M
 write-control-spec =

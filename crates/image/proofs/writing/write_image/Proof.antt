@@ -5,9 +5,9 @@ use native.Mathlib.Omega.{arith}
 use denote.Ref.{now}
 use mathlib.Core.Path.{_∙_, sym}
 use borrow.Author.Tests.{eq-eqb, ne-eqb}
-use Rattle.image.specs.Parts.{numberBytes}
+use Rattle.image_parts.specs.Parts.{numberBytes}
 use Rattle.image.specs.Image.{controlBytes, sendingBytes, receivingBytes, imageOf, imageWritten}
-use Rattle.image.proofs.Writes.{runs, written-all}
+use Rattle.image_parts.proofs.Writes.{runs, written-all}
 use borrow.Author.Needs.{needs}
 use Rattle.image.proofs.writing.write_image.Statement.{statement}
 use Rattle.image.proofs.writing.write_image.Tie as tie
@@ -36,8 +36,8 @@ same-length c = search needs
 
 returns-2 : tie.Need-returns-2
 unfolding imageWritten imageOf
-returns-2 c = let a = c .before .before .before .before .before .before .before .before .before .before .before .before .before .before .before .before .before .before .before .before .before .before .before .before .before .args in
-    let h = c .before .before .before .before .before .before .before .before .before .before .before .before .before .before .before .before .before .before .before .before .before .before .before .if1 .left in
+returns-2 c = let a = c .before .before .before .before .before .before .before .before .before .before .before .before .before .before .before .before .before .before .before .before .before .before .before .before .args in
+    let h = c .before .before .before .before .before .before .before .before .before .before .before .before .before .before .before .before .before .before .before .before .before .before .if1 .left in
     rw (
       eq-eqb _ _ h,
       c .before .before .write-number2 .ensures,

@@ -12,7 +12,7 @@ refuse-image-requires c κs = search needs
 
 returns : tie.Need-returns
 unfolding openedOn
-returns c = rw (ne-eqb _ _ (c .before .before .if1 .taken), c .refuse-image .ensures .0, c .refuse-image .ensures .1)
+returns c = rw (ne-eqb _ _ (c .before .before .if1 .taken), c .refuse-image .ensures _)
 
 open-session-requires : tie.Need-open-session-requires
 open-session-requires c κs = search needs

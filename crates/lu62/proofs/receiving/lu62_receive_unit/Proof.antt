@@ -8,7 +8,7 @@ use Rattle.end.specs.ReceiveUnit.{receiveUnit}
 use Rattle.image.proofs.WhatIsRead.{refused-known}
 use Rattle.lu62.specs.Calls.{takenOut, ruleIn, receiveUnitOn}
 use Rattle.lu62.proofs.Sizes.{take-small}
-use Rattle.lu62.proofs.Arms.{refused-arm, taken-unit, whole, naming-arm, still-named}
+use Rattle.lu62.proofs.Arms.{refused-arm, refused-number, taken-unit, whole, naming-arm, still-named}
 use borrow.Author.Needs.{needs}
 use Rattle.lu62.proofs.receiving.lu62_receive_unit.Statement.{statement}
 use Rattle.lu62.proofs.receiving.lu62_receive_unit.Tie as tie
@@ -62,7 +62,7 @@ returns-2 c = (
   let a = c .before .before .before .before .before .before .before .before .before .before .before .args in
       refused-arm (now (a .image)) (now (a .inbox), now (a .unit)) (λ e. takenOut (receiveUnit (ruleIn (c .refuse-image .last .1 .0)) e (now (a .taken)) (now (a .inbox)) (now (a .unit)))) (c .before .before .before .before .before .read-image .ensures) (c .before .before .before .read2 .given .1) (c .refuse-image .ensures),
   λ h. absurd (let k = refused-known (now (c .before .before .before .before .before .before .before .before .before .before .before .args .image)) _ (sym (c .before .before .before .before .before .read-image .ensures) ∙ c .before .before .before .read2 .given .1) in
-      let f = c .refuse-image .ensures .0 in omega arith),
+      let f = refused-number (c .refuse-image .ensures) in omega arith),
 )
 
 pub lu62-receive-unit-spec : {M : Type 1} → statement M

@@ -1,0 +1,23 @@
+-- `handing::hand_out` meets its contract: the image is written, and the answer.
+-- Assumes nothing.
+use borrow.Author.Tests.{eq-eqb}
+use Rattle.image.specs.Image.{imageWritten}
+use borrow.Author.Needs.{needs}
+use Rattle.handing.proofs.hand_out.Statement.{statement}
+use Rattle.handing.proofs.hand_out.Tie as tie
+
+write-image-requires : tie.Need-write-image-requires
+write-image-requires c κs = search needs
+
+hand-answer-requires : tie.Need-hand-answer-requires
+hand-answer-requires c κs = search needs
+
+same-length : tie.Need-same-length
+same-length c = search needs
+
+returns : tie.Need-returns
+unfolding imageWritten
+returns c = rw (c .hand-answer .ensures .0, c .hand-answer .ensures .1, c .before .before .before .before .write-image .ensures, eq-eqb _ _ (c .before .before .before .before .before .before .before .before .before .pre .1))
+
+pub hand-out-spec : {M : Type 1} → statement M
+hand-out-spec = tie.close (tie.spec write-image-requires hand-answer-requires same-length returns)

@@ -1,0 +1,83 @@
+// What each exported call hands out: the answer as seven numbers, and the new record over the image. The numbers are: refusal,
+// sense, rule, length of the unit made, bytes copied, complete (0 or 1), mark (0 to 5).
+use end::Answer;
+use end::Done;
+use end::ReadAnswer;
+use end::ReadDone;
+use image::writing::write_image;
+use image_parts::codes::flag_code;
+use image_parts::codes::mark_code;
+ghost use mathlib.Core.Path.{_≡_};
+ghost use Prim.Native.Nat.{ℕ, _<_};
+ghost use mathlib.Core.List.{List};
+ghost use lib.ListN.{length};
+ghost use Rattle.image.specs.Image.{IMAGE};
+ghost use Rattle.handing.specs.Handing.{answerNumbers, readNumbers, handed, handedOut, handedBack};
+
+// A length as a number of 32 bits. The end's units are at most 1,029 bytes long, and a read copies at most 65,535.
+fn word(n: usize) -> u32
+    requires { ⌜ n < 4294967296 ⌝ }
+    ensures { λ r. ⌜ r ≡ n ⌝ }
+{
+    n as u32
+}
+
+// The answer of a call that reads nothing.
+fn hand_answer(a: Answer, answer: &mut [u32; 7]) -> u32
+    requires { ⌜ a .unit < 4294967296 ⌝ }
+    ensures { λ r. ⌜ (r ≡ a .refusal) × (now (answer .exit) ≡ answerNumbers a) ⌝ }
+{
+    let refusal = a.refusal as u32;
+    *answer = [refusal, a.sense, a.rule as u32, word(a.unit), 0, 0, 0];
+    refusal
+}
+
+// The answer of a read.
+fn hand_read_answer(a: ReadAnswer, answer: &mut [u32; 7]) -> u32
+    requires { ⌜ (a .answer .unit < 4294967296) × (a .copied < 4294967296) ⌝ }
+    ensures { λ r. ⌜ (r ≡ a .answer .refusal) × (now (answer .exit) ≡ readNumbers a) ⌝ }
+{
+    let call = a.answer;
+    let mark = a.mark;
+    let refusal = call.refusal as u32;
+    *answer = [
+        refusal,
+        call.sense,
+        call.rule as u32,
+        word(call.unit),
+        word(a.copied),
+        flag_code(a.complete) as u32,
+        mark_code(mark) as u32,
+    ];
+    refusal
+}
+
+// The new record goes over the image, and the answer out.
+pub fn hand_out(done: Done, image: &mut [u8], answer: &mut [u32; 7]) -> u32
+    requires { ⌜ (done .answer .unit < 4294967296) × (length (now image) ≡ IMAGE) ⌝ }
+    ensures { λ r. ⌜ handed r (now (answer .exit)) (now (image .exit)) ≡ handedOut (answerNumbers (done .answer)) (done .end) ⌝ }
+{
+    let made = done.answer;
+    let end = done.end;
+    write_image(end, image);
+    hand_answer(made, answer)
+}
+
+pub fn hand_out_read(done: ReadDone, image: &mut [u8], answer: &mut [u32; 7]) -> u32
+    requires { ⌜ (done .answer .answer .unit < 4294967296) × (done .answer .copied < 4294967296) × (length (now image) ≡ IMAGE) ⌝ }
+    ensures { λ r. ⌜ handed r (now (answer .exit)) (now (image .exit)) ≡ handedOut (readNumbers (done .answer)) (done .end) ⌝ }
+{
+    let made = done.answer;
+    let end = done.end;
+    write_image(end, image);
+    hand_read_answer(made, answer)
+}
+
+// An image that holds no record: the answer is its refusal number, and no cell is changed.
+pub fn refuse_image(number: u8, answer: &mut [u32; 7]) -> u32
+    ensures { λ r. ⌜ ((image : List ℕ) → handed r (now (answer .exit)) image ≡ handedBack number image) ⌝ }
+{
+    let refusal = number as u32;
+    *answer = [refusal, 0, 0, 0, 0, 0, 0];
+    refusal
+}

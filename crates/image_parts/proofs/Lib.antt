@@ -1,0 +1,4 @@
+pub mod Writes
+pub mod Listed
+mod KindsFit
+pub mod BackAndForth

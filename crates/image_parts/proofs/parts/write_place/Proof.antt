@@ -1,0 +1,46 @@
+-- `image_parts::parts::write_place` meets its contract: the kind, and the number right behind it.
+-- Assumes nothing.
+use lib.ListN.{length-set}
+use native.Mathlib.Omega.{arith}
+use mathlib.Core.Path.{_∙_}
+use denote.Ref.{now}
+use Rattle.image_parts.specs.Parts.{placeKind, placeValue, numberBytes}
+use Rattle.image_parts.proofs.Writes.{one-stored}
+use borrow.Author.Needs.{needs}
+use Rattle.image_parts.proofs.parts.write_place.Statement.{statement}
+use Rattle.image_parts.proofs.parts.write_place.Tie as tie
+
+place-kind-requires : tie.Need-place-kind-requires
+place-kind-requires c κs = search needs
+
+slice-write-image : tie.Need-slice-write-image
+slice-write-image c = search needs
+
+add-write-number : tie.Need-add-write-number
+add-write-number c = search needs
+
+place-value-requires : tie.Need-place-value-requires
+place-value-requires c κs = search needs
+
+write-number-requires : tie.Need-write-number-requires
+write-number-requires c κs = simp length-set (omega arith)
+
+same-length : tie.Need-same-length
+same-length c = c .before .before .write-number .kept .0 ∙ simp length-set
+
+returns : tie.Need-returns
+returns c = let a = c .before .before .before .before .before .before .before .args in
+    rw (c .before .before .write-number .ensures, c .before .before .before .place-value .ensures, c .before .before .before .before .before .place-kind .ensures)
+    (one-stored (placeKind (a .p)) (numberBytes (placeValue (a .p))) (now (a .image)) (a .at) (omega arith))
+
+pub write-place-spec : {M : Type 1} → statement M
+write-place-spec =
+    tie.close
+    (tie.spec
+    place-kind-requires
+    slice-write-image
+    add-write-number
+    place-value-requires
+    write-number-requires
+    same-length
+    returns)
