@@ -24,8 +24,19 @@ pub fn receiving_good(r: Receiving) -> bool
     let window = r.window;
     let taken = r.taken;
     let read = r.read;
-    window.window_good()
-        & (max_good(r.max as u32) & (inbox_good(r) & (is_position(taken) & is_position(read))))
+    if !window.window_good() {
+        return false;
+    }
+    if !max_good(r.max as u32) {
+        return false;
+    }
+    if !inbox_good(r) {
+        return false;
+    }
+    if !is_position(taken) {
+        return false;
+    }
+    is_position(read)
 }
 
 pub fn fresh_receiving(window: u8, max: u16, inbox: u16) -> Receiving

@@ -34,7 +34,16 @@ pub fn sending_good(c: Control, s: Sending) -> bool
 {
     let window = s.window;
     let given = s.given;
-    window.window_good() & (max_good(s.max as u32) & (held_good(c, s) & is_position(given)))
+    if !window.window_good() {
+        return false;
+    }
+    if !max_good(s.max as u32) {
+        return false;
+    }
+    if !held_good(c, s) {
+        return false;
+    }
+    is_position(given)
 }
 
 pub fn fresh_sending(window: u8, max: u16) -> Sending

@@ -1,3 +1,4 @@
+use borrow.Author.Tests.{not-true, not-false}
 use Rattle.end.specs.Record.{recordGood}
 use borrow.Author.Needs.{needs}
 use Rattle.end.proofs.End.record_good.Statement.{statement}
@@ -6,17 +7,37 @@ use Rattle.end.proofs.End.record_good.Tie as tie
 control-good-requires : tie.Need-control-good-requires
 control-good-requires c κs = search needs
 
+returns : tie.Need-returns
+unfolding recordGood
+returns c = let k = c .before .control-good in rw (← k .ensures, not-true (k .result) (c .if1 .taken))
+
 sending-good-requires : tie.Need-sending-good-requires
 sending-good-requires c κs = search needs
+
+returns-2 : tie.Need-returns-2
+unfolding recordGood
+returns-2 c =
+    let k = c .before .before .before .control-good in
+    let s = c .before .sending-good in
+    rw (← k .ensures, not-false (k .result) (c .before .before .if1 .left), ← s .ensures, not-true (s .result) (c .if2 .taken))
 
 receiving-good-requires : tie.Need-receiving-good-requires
 receiving-good-requires c κs = search needs
 
-returns : tie.Need-returns
+returns-3 : tie.Need-returns-3
 unfolding recordGood
-returns c = rw (c .receiving-good .ensures, c .before .sending-good .ensures, c .before .before .control-good .ensures)
+returns-3 c =
+    let k = c .before .before .before .before .control-good in
+    let s = c .before .before .sending-good in
+    rw (
+      c .receiving-good .ensures,
+      ← k .ensures,
+      not-false (k .result) (c .before .before .before .if1 .left),
+      ← s .ensures,
+      not-false (s .result) (c .before .if2 .left),
+    )
 
 pub record-good-spec : {M : Type 1} → statement M
 record-good-spec =
     tie.close
-    (tie.spec control-good-requires sending-good-requires receiving-good-requires returns)
+    (tie.spec control-good-requires returns sending-good-requires returns-2 receiving-good-requires returns-3)
