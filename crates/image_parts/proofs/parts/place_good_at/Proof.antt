@@ -4,7 +4,7 @@ use denote.Ref.{now}
 use Prim.Native.Nat.{_+_}
 use borrow.Author.Tests.{ne-eqb}
 use Rattle.image_parts.specs.Parts.{byteAt}
-use Rattle.image_parts.proofs.KindsFit.{fits-1, fits-past}
+use Rattle.image_parts.proofs.KindsFit.{fits-past}
 use borrow.Author.Needs.{needs}
 use Rattle.image_parts.proofs.parts.place_good_at.Statement.{statement}
 use Rattle.image_parts.proofs.parts.place_good_at.Tie as tie
@@ -34,8 +34,7 @@ shared-slice-read-result-3 : tie.Need-shared-slice-read-result-3
 shared-slice-read-result-3 c = search needs
 
 returns-2 : tie.Need-returns-2
-returns-2 c = let a = c .before .before .before .before .args in
-    rw (c .before .if2 .taken) (fits-1 (byteAt (now (a .image)) (a .at + 1)) (byteAt (now (a .image)) (a .at + 2)))
+returns-2 c = rw (c .before .if2 .taken)
 
 returns-3 : tie.Need-returns-3
 returns-3 c = let a = c .before .before .before .args in
