@@ -54,7 +54,7 @@ mark-back mark.Confirm = refl
 mark-back mark.ConfirmTurn = refl
 mark-back mark.ConfirmEnd = refl
 
-pub flag-back : (on : Bool) → eqb (flagByte on) 1 ≡ on
+pub flag-back : (on : Bool) → leb 1 (flagByte on) ≡ on
 flag-back true = refl
 flag-back false = refl
 
@@ -131,7 +131,7 @@ mark-there (suc (suc (suc (suc zero)))) h = refl
 mark-there (suc (suc (suc (suc (suc zero))))) h = refl
 mark-there (suc (suc (suc (suc (suc (suc n)))))) h = past (suc (suc (suc (suc (suc (suc n)))))) 5 h (omega arith)
 
-pub flag-there : (n : ℕ) → leb n 1 ≡ true → flagByte (eqb n 1) ≡ n
+pub flag-there : (n : ℕ) → leb n 1 ≡ true → flagByte (leb 1 n) ≡ n
 flag-there zero h = refl
 flag-there (suc zero) h = refl
 flag-there (suc (suc n)) h = past (suc (suc n)) 1 h (omega arith)

@@ -18,7 +18,7 @@ abbrev pub flagByte : Bool → ℕ
 flagByte on = cond on 1 0
 
 abbrev pub flagAt : List ℕ → ℕ → Bool
-flagAt image at = eqb (byteAt image at) 1
+flagAt image at = leb 1 (byteAt image at)
 
 abbrev pub flagGood : List ℕ → ℕ → Bool
 flagGood image at = leb (byteAt image at) 1
