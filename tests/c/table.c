@@ -148,7 +148,7 @@ static void a_confirmation(void)
     begin("confirmed");
     struct end end = opened(LU62_BIDDER, 3, 64);
     end.image[STATE_AT] = LU62_CONFIRM_OWED;
-    end.image[OWED_NUMBER_AT + 1] = 7;
+    end.image[OWED_NUMBER_AT] = 7;
     lu62_confirmed(end.image, sizeof end.image, end.unit, sizeof end.unit, &end.answer);
     UNIT("confirmed, number owed 7", &end, 0x00, 0x07, 0x83, 0x20, 0x00);
     expect_number("state after confirmed", lu62_state(end.image), LU62_RECEIVE);
@@ -271,8 +271,8 @@ static void numbers(void)
     begin("numbers");
     struct end end = opened(LU62_FIRST_SPEAKER, 3, 64);
     allocate(&end);
-    end.image[OUT_NUMBER_AT] = 0xFF;
-    end.image[OUT_NUMBER_AT + 1] = 0xFE;
+    end.image[OUT_NUMBER_AT] = 0xFE;
+    end.image[OUT_NUMBER_AT + 1] = 0xFF;
     SEND(&end, 0x00, 0x02);
     flush(&end);
     UNIT("request 65,535", &end, 0xFF, 0xFF, 0x03, 0x91, 0x80, 0x00, 0x02);

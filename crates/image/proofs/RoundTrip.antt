@@ -77,7 +77,7 @@ beside {a} {a'} {b} {b'} p q = rw (p, q)
 
 module _ (image : List ℕ) (bytes : (i : ℕ) → byteAt image i < 256) where
   numbers : (at : ℕ) → numberBytes (numberAt image at) ≡ byteAt image at ∷ byteAt image (at + 1) ∷ []
-  numbers at = number-there (byteAt image at) (byteAt image (at + 1)) (bytes (at + 1))
+  numbers at = number-there (byteAt image at) (byteAt image (at + 1)) (bytes at)
 
   windows : (at : ℕ) → flagGood image (at + 2) ≡ true
       → windowBytes (windowAt image at) ≡ byteAt image at ∷ byteAt image (at + 1) ∷ byteAt image (at + 2) ∷ []
@@ -85,7 +85,7 @@ module _ (image : List ℕ) (bytes : (i : ℕ) → byteAt image i < 256) where
 
   places : (at : ℕ) → placeGood image at ≡ true
       → placeBytes (placeAt image at) ≡ byteAt image at ∷ byteAt image (at + 1) ∷ byteAt image (at + 2) ∷ []
-  places at h = place-there (byteAt image at) (byteAt image (at + 1)) (byteAt image (at + 2)) (bytes (at + 2)) h
+  places at h = place-there (byteAt image at) (byteAt image (at + 1)) (byteAt image (at + 2)) (bytes (at + 1)) h
 
   controls : codesGood image ≡ true → flagsGood image ≡ true → controlBytes (controlIn image) ≡ listed image 0 8
   controls h f =

@@ -1,4 +1,4 @@
-// An end's record as 41 bytes, for a host that keeps the record in memory of its own. Numbers are high byte first; there is no
+// An end's record as 41 bytes, for a host that keeps the record in memory of its own. Numbers are low byte first; there is no
 // padding. The codes of role, state, what follows and mark are document 01's, in its order from 0; a flag is 0 or 1.
 //
 // | byte     | what                                                                            |

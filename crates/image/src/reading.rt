@@ -15,8 +15,8 @@ use image_parts::codes::state_of;
 use image_parts::parts::number_at;
 use image_parts::parts::place_at;
 use image_parts::parts::place_good_at;
-use image_parts::parts::window_at;
 use logical_record::Position;
+use pacing::Window;
 ghost use mathlib.Core.Path.{_≡_};
 ghost use lib.ListN.{length};
 ghost use Rattle.image_parts.specs.Parts.{placeAt};
@@ -38,13 +38,18 @@ fn flags_good(image: &[u8]) -> bool
             & ((image[6] <= 1) & ((image[7] <= 1) & ((image[10] <= 1) & (image[22] <= 1)))))
 }
 
-// The record places are read first, by `read_image`: they are the parts whose reading branches.
+// The record places are read first, by `read_image`: they are the parts whose reading branches. A window is written out, and not
+// read by a function of its own, so that its bytes are moved as they are.
 fn sending_in(image: &[u8], given: Position) -> Sending
     requires { ⌜ (length (now image) ≡ IMAGE) × (given ≡ placeAt (now image) 17) ⌝ }
     ensures { λ r. ⌜ r ≡ sendingIn (now (image .entry)) ⌝ }
 {
     Sending {
-        window: window_at(image, 8),
+        window: Window {
+            size: image[8],
+            position: image[9],
+            pending: image[10] >= 1,
+        },
         max: number_at(image, 11),
         held: number_at(image, 13),
         number: number_at(image, 15),
@@ -57,7 +62,11 @@ fn receiving_in(image: &[u8], taken: Position, read: Position) -> Receiving
     ensures { λ r. ⌜ r ≡ receivingIn (now (image .entry)) ⌝ }
 {
     Receiving {
-        window: window_at(image, 20),
+        window: Window {
+            size: image[20],
+            position: image[21],
+            pending: image[22] >= 1,
+        },
         max: number_at(image, 23),
         inbox: number_at(image, 25),
         held: number_at(image, 27),
@@ -78,10 +87,10 @@ fn record_in(image: &[u8], given: Position, taken: Position, read: Position) -> 
             state: state_of(image[1]),
             follows: follows_of(image[2]),
             mark: mark_of(image[3]),
-            due: image[4] == 1,
-            bid: image[5] == 1,
-            outchain: image[6] == 1,
-            inchain: image[7] == 1,
+            due: image[4] >= 1,
+            bid: image[5] >= 1,
+            outchain: image[6] >= 1,
+            inchain: image[7] >= 1,
         },
         sending: sending_in(image, given),
         receiving: receiving_in(image, taken, read),

@@ -54,14 +54,14 @@ mark-back mark.Confirm = refl
 mark-back mark.ConfirmTurn = refl
 mark-back mark.ConfirmEnd = refl
 
-pub flag-back : (on : Bool) → eqb (flagByte on) 1 ≡ on
+pub flag-back : (on : Bool) → leb 1 (flagByte on) ≡ on
 flag-back true = refl
 flag-back false = refl
 
 pub number-back : (n : ℕ) → numberOf (n / 256) (n % 256) ≡ n
 number-back n = div-add-mod' n 256
 
-pub place-back : (p : Position) → firstByte p < 256 → placeOf (placeKind p) (placeValue p / 256) (placeValue p % 256) ≡ p
+pub place-back : (p : Position) → firstByte p < 256 → placeOf (placeKind p) (placeValue p % 256) (placeValue p / 256) ≡ p
 place-back Between h = refl
 place-back (AfterFirst b) h = ap AfterFirst (mod-eq-of-lt h)
 place-back (Remaining n) h = ap Remaining (number-back n)
@@ -96,7 +96,7 @@ pub flag-good : (on : Bool) → leb (flagByte on) 1 ≡ true
 flag-good true = refl
 flag-good false = refl
 
-pub place-good : (p : Position) → firstByte p < 256 → placeFits (placeKind p) (placeValue p / 256) (placeValue p % 256) ≡ true
+pub place-good : (p : Position) → firstByte p < 256 → placeFits (placeKind p) (placeValue p % 256) (placeValue p / 256) ≡ true
 place-good Between h = refl
 place-good (AfterFirst b) h = rw (div-eq-of-lt h)
 place-good (Remaining n) h = refl
@@ -131,25 +131,23 @@ mark-there (suc (suc (suc (suc zero)))) h = refl
 mark-there (suc (suc (suc (suc (suc zero))))) h = refl
 mark-there (suc (suc (suc (suc (suc (suc n)))))) h = past (suc (suc (suc (suc (suc (suc n)))))) 5 h (omega arith)
 
-pub flag-there : (n : ℕ) → leb n 1 ≡ true → flagByte (eqb n 1) ≡ n
+pub flag-there : (n : ℕ) → leb n 1 ≡ true → flagByte (leb 1 n) ≡ n
 flag-there zero h = refl
 flag-there (suc zero) h = refl
 flag-there (suc (suc n)) h = past (suc (suc n)) 1 h (omega arith)
 
-pub number-there : (high low : ℕ) → low < 256 → numberBytes (numberOf high low) ≡ high ∷ low ∷ []
-number-there high low h =
+pub number-there : (low high : ℕ) → low < 256 → numberBytes (numberOf high low) ≡ low ∷ high ∷ []
+number-there low high h =
     let d : (high * 256 + low) / 256 ≡ high = mul-add-div-right (omega arith) high low ∙ ap (λ (k : ℕ). high + k) (div-eq-of-lt h) ∙ add-zero high in
     let m : (high * 256 + low) % 256 ≡ low = mul-add-mod-self-right high 256 low ∙ mod-eq-of-lt h in
     rw (d, m)
 
-pub place-there : (kind high low : ℕ) → low < 256 → placeFits kind high low ≡ true → placeBytes (placeOf kind high low) ≡ kind ∷ high ∷ low ∷ []
-place-there zero high low h e =
-    let f : (eqb high 0 ≡ true) × (eqb low 0 ≡ true) = both (eqb high 0) (eqb low 0) e in
-    rw (eqb-true high 0 (f .0), eqb-true low 0 (f .1))
-place-there (suc zero) high low h e =
-    let f : eqb high 0 ≡ true = both (eqb high 0) true e .0 in
-    rw (eqb-true high 0 f, div-eq-of-lt h, mod-eq-of-lt h)
-place-there (suc (suc zero)) high low h e = ap (λ (l : List ℕ). 2 ∷ l) (number-there high low h)
-place-there (suc (suc (suc n))) high low h e =
+pub place-there : (kind low high : ℕ) → low < 256 → placeFits kind low high ≡ true → placeBytes (placeOf kind low high) ≡ kind ∷ low ∷ high ∷ []
+place-there zero low high h e =
+    let f : (eqb low 0 ≡ true) × (eqb high 0 ≡ true) = both (eqb low 0) (eqb high 0) e in
+    rw (eqb-true low 0 (f .0), eqb-true high 0 (f .1))
+place-there (suc zero) low high h e = rw (eqb-true high 0 e, div-eq-of-lt h, mod-eq-of-lt h)
+place-there (suc (suc zero)) low high h e = ap (λ (l : List ℕ). 2 ∷ l) (number-there low high h)
+place-there (suc (suc (suc n))) low high h e =
     let k : ℕ = suc (suc (suc n)) in
-    past k 2 (both (leb k 2) ((eqb k 2 || eqb high 0) && (leb 1 k || eqb low 0)) e .0) (omega arith)
+    past k 2 (both (leb k 2) ((leb 1 k || eqb low 0) && (eqb k 2 || eqb high 0)) e .0) (omega arith)

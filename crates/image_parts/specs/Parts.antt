@@ -18,17 +18,17 @@ abbrev pub flagByte : Bool → ℕ
 flagByte on = cond on 1 0
 
 abbrev pub flagAt : List ℕ → ℕ → Bool
-flagAt image at = eqb (byteAt image at) 1
+flagAt image at = leb 1 (byteAt image at)
 
 abbrev pub flagGood : List ℕ → ℕ → Bool
 flagGood image at = leb (byteAt image at) 1
 
--- a number of 16 bits, high byte first
+-- a number of 16 bits, low byte first
 abbrev pub numberBytes : ℕ → List ℕ
-numberBytes n = n / 256 ∷ n % 256 ∷ []
+numberBytes n = n % 256 ∷ n / 256 ∷ []
 
 abbrev pub numberAt : List ℕ → ℕ → ℕ
-numberAt image at = numberOf (byteAt image at) (byteAt image (at + 1))
+numberAt image at = numberOf (byteAt image (at + 1)) (byteAt image at)
 
 -- a window: W, the place in it, the flag
 abbrev pub windowBytes : Window → List ℕ
@@ -58,14 +58,14 @@ abbrev pub placeBytes : Position → List ℕ
 placeBytes p = placeKind p ∷ numberBytes (placeValue p)
 
 abbrev pub placeOf : ℕ → ℕ → ℕ → Position
-placeOf kind high low = cond (eqb kind 0) Between (cond (eqb kind 1) (AfterFirst low) (Remaining (numberOf high low)))
+placeOf kind low high = cond (eqb kind 0) Between (cond (eqb kind 1) (AfterFirst low) (Remaining (numberOf high low)))
 
 abbrev pub placeAt : List ℕ → ℕ → Position
 placeAt image at = placeOf (byteAt image at) (byteAt image (at + 1)) (byteAt image (at + 2))
 
 -- between records the number is 0; after the first LL byte it is one byte
 abbrev pub placeFits : ℕ → ℕ → ℕ → Bool
-placeFits kind high low = leb kind 2 && ((eqb kind 2 || eqb high 0) && (leb 1 kind || eqb low 0))
+placeFits kind low high = leb kind 2 && ((leb 1 kind || eqb low 0) && (eqb kind 2 || eqb high 0))
 
 abbrev pub placeGood : List ℕ → ℕ → Bool
 placeGood image at = placeFits (byteAt image at) (byteAt image (at + 1)) (byteAt image (at + 2))

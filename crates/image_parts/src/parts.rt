@@ -1,5 +1,6 @@
 // The parts of an image that occur more than once: a number of two bytes, a window, a record place. Each is read at the byte
-// where it starts, and written there. Here the variants of a record place are named, since its bytes go by them.
+// where it starts, and written there. A number is low byte first, as x86-64 keeps it, so that it is moved whole. Here the variants
+// of a record place are named, since its bytes go by them.
 use crate::codes::flag_code;
 use logical_record::Position;
 use pacing::Window;
@@ -8,9 +9,9 @@ ghost use Prim.Native.Nat.{_+_, _≤_};
 ghost use lib.ListN.{length};
 ghost use Rattle.cells.specs.Cells.{written};
 ghost use Rattle.unit.specs.Unit.{numberOf};
-ghost use Rattle.image_parts.specs.Parts.{numberBytes, numberAt, windowBytes, windowAt, placeKind, placeValue, placeBytes, placeAt, placeGood};
+ghost use Rattle.image_parts.specs.Parts.{numberBytes, numberAt, windowBytes, placeKind, placeValue, placeBytes, placeAt, placeGood};
 
-fn number_of(high: u8, low: u8) -> u16
+fn number_of(low: u8, high: u8) -> u16
     ensures { λ r. ⌜ r ≡ numberOf high low ⌝ }
 {
     (high as u16) * 256 + (low as u16)
@@ -27,19 +28,8 @@ pub fn write_number(image: &mut [u8], at: usize, n: u16)
     requires { ⌜ at + 2 ≤ length (now image) ⌝ }
     ensures { λ _. ⌜ now (image .exit) ≡ written at (numberBytes n) (now (image .entry)) ⌝ }
 {
-    image[at] = (n / 256) as u8;
-    image[at + 1] = (n % 256) as u8;
-}
-
-pub fn window_at(image: &[u8], at: usize) -> Window
-    requires { ⌜ at + 3 ≤ length (now image) ⌝ }
-    ensures { λ r. ⌜ r ≡ windowAt (now (image .entry)) at ⌝ }
-{
-    Window {
-        size: image[at],
-        position: image[at + 1],
-        pending: image[at + 2] == 1,
-    }
+    image[at] = (n % 256) as u8;
+    image[at + 1] = (n / 256) as u8;
 }
 
 pub fn write_window(image: &mut [u8], at: usize, w: Window)
@@ -76,13 +66,13 @@ pub fn place_at(image: &[u8], at: usize) -> Position
     ensures { λ r. ⌜ r ≡ placeAt (now (image .entry)) at ⌝ }
 {
     let kind = image[at];
-    if kind == 0 {
-        return Position::Between;
+    if kind > 1 {
+        return Position::Remaining(number_at(image, at + 1));
     }
     if kind == 1 {
-        return Position::AfterFirst(image[at + 2]);
+        return Position::AfterFirst(image[at + 1]);
     }
-    Position::Remaining(number_of(image[at + 1], image[at + 2]))
+    Position::Between
 }
 
 // Between records the value is 0; after the first LL byte it is one byte.
@@ -91,13 +81,13 @@ pub fn place_good_at(image: &[u8], at: usize) -> bool
     ensures { λ r. ⌜ r ≡ placeGood (now (image .entry)) at ⌝ }
 {
     let kind = image[at];
-    if kind == 0 {
-        return (image[at + 1] == 0) & (image[at + 2] == 0);
+    if kind > 1 {
+        return kind == 2;
     }
     if kind == 1 {
-        return image[at + 1] == 0;
+        return image[at + 2] == 0;
     }
-    kind == 2
+    number_at(image, at + 1) == 0
 }
 
 pub fn write_place(image: &mut [u8], at: usize, p: Position)

@@ -71,11 +71,11 @@ pub mod at {
 }
 
 pub fn word(image: &[u8], at: usize) -> usize {
-    usize::from(u16::from_be_bytes([image[at], image[at + 1]]))
+    usize::from(u16::from_le_bytes([image[at], image[at + 1]]))
 }
 
 pub fn put_word(image: &mut [u8], at: usize, n: usize) {
-    image[at..at + 2].copy_from_slice(&(n as u16).to_be_bytes());
+    image[at..at + 2].copy_from_slice(&(n as u16).to_le_bytes());
 }
 
 /// Credit or open of the window whose three bytes stand at `at`.

@@ -4,8 +4,14 @@ use borrow.Author.Needs.{needs}
 use Rattle.image.proofs.reading.receiving_in.Statement.{statement}
 use Rattle.image.proofs.reading.receiving_in.Tie as tie
 
-window-at-requires : tie.Need-window-at-requires
-window-at-requires c κs = search needs
+shared-slice-read-t5 : tie.Need-shared-slice-read-t5
+shared-slice-read-t5 c = search needs
+
+shared-slice-read-t7 : tie.Need-shared-slice-read-t7
+shared-slice-read-t7 c = search needs
+
+shared-slice-read-t9 : tie.Need-shared-slice-read-t9
+shared-slice-read-t9 c = search needs
 
 number-at-requires : tie.Need-number-at-requires
 number-at-requires c κs = search needs
@@ -25,16 +31,17 @@ returns c = rw (
   c .before .number-at3 .ensures,
   c .before .before .number-at2 .ensures,
   c .before .before .before .number-at .ensures,
-  c .before .before .before .before .window-at .ensures,
-  c .before .before .before .before .before .before .pre .1,
-  c .before .before .before .before .before .before .pre .2,
+  c .before .before .before .before .before .before .before .before .pre .1,
+  c .before .before .before .before .before .before .before .before .pre .2,
 )
 
 pub receiving-in-spec : {M : Type 1} → statement M
 receiving-in-spec =
     tie.close
     (tie.spec
-    window-at-requires
+    shared-slice-read-t5
+    shared-slice-read-t7
+    shared-slice-read-t9
     number-at-requires
     number-at-requires-2
     number-at-requires-3

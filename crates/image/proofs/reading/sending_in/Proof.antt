@@ -4,8 +4,14 @@ use borrow.Author.Needs.{needs}
 use Rattle.image.proofs.reading.sending_in.Statement.{statement}
 use Rattle.image.proofs.reading.sending_in.Tie as tie
 
-window-at-requires : tie.Need-window-at-requires
-window-at-requires c κs = search needs
+shared-slice-read-t4 : tie.Need-shared-slice-read-t4
+shared-slice-read-t4 c = search needs
+
+shared-slice-read-t6 : tie.Need-shared-slice-read-t6
+shared-slice-read-t6 c = search needs
+
+shared-slice-read-t8 : tie.Need-shared-slice-read-t8
+shared-slice-read-t8 c = search needs
 
 number-at-requires : tie.Need-number-at-requires
 number-at-requires c κs = search needs
@@ -21,15 +27,16 @@ returns c = rw (
   c .number-at3 .ensures,
   c .before .number-at2 .ensures,
   c .before .before .number-at .ensures,
-  c .before .before .before .window-at .ensures,
-  c .before .before .before .before .before .pre .1,
+  c .before .before .before .before .before .before .before .pre .1,
 )
 
 pub sending-in-spec : {M : Type 1} → statement M
 sending-in-spec =
     tie.close
     (tie.spec
-    window-at-requires
+    shared-slice-read-t4
+    shared-slice-read-t6
+    shared-slice-read-t8
     number-at-requires
     number-at-requires-2
     number-at-requires-3

@@ -28,7 +28,7 @@ same-length : tie.Need-same-length
 same-length c = search needs
 
 returns : tie.Need-returns
-returns c = let a = c .args in two-stored (a .n / 256) (a .n % 256) (now (a .image)) (a .at) (c .pre)
+returns c = let a = c .args in two-stored (a .n % 256) (a .n / 256) (now (a .image)) (a .at) (c .pre)
 
 pub write-number-spec : {M : Type 1} → statement M
 write-number-spec =
