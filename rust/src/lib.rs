@@ -259,14 +259,55 @@ impl End {
         }
     }
 
-    /// Begins a conversation: a first speaker sends at once, a bidder makes a bid and waits for its answer.
-    pub fn allocate(&mut self, unit: &mut [u8]) -> Result<Answer, Refusal> {
+    /// Makes one of the library's calls that are lent the unit buffer alone.
+    fn by_unit(&mut self, call: raw::ByUnit, unit: &mut [u8]) -> Result<Answer, Refusal> {
         let mut raw = raw::Answer::default();
         // SAFETY: both slices are borrowed mutably, so they do not overlap; the answer is a local of the library's layout.
         unsafe {
-            raw::lu62_allocate(self.image.as_mut_ptr(), self.image.len(), unit.as_mut_ptr(), unit.len(), &mut raw);
+            call(self.image.as_mut_ptr(), self.image.len(), unit.as_mut_ptr(), unit.len(), &mut raw);
         }
         outcome(raw)
+    }
+
+    /// Makes one of the library's calls that send the bytes kept.
+    fn by_send(&mut self, call: raw::BySend, send: &[u8], unit: &mut [u8]) -> Result<Answer, Refusal> {
+        let mut raw = raw::Answer::default();
+        let image = &mut self.image;
+        // SAFETY: the slices written are borrowed mutably and `send` beside them, so none overlap; the library only reads `send`.
+        unsafe {
+            call(image.as_mut_ptr(), image.len(), send.as_ptr(), send.len(), unit.as_mut_ptr(), unit.len(), &mut raw);
+        }
+        outcome(raw)
+    }
+
+    /// Makes one of the library's calls that send the bytes kept, with or without confirmation.
+    fn by_send_confirmed(
+        &mut self,
+        call: raw::BySendConfirmed,
+        confirm: bool,
+        send: &[u8],
+        unit: &mut [u8],
+    ) -> Result<Answer, Refusal> {
+        let mut raw = raw::Answer::default();
+        // SAFETY: the slices written are borrowed mutably and `send` beside them, so none overlap; the library only reads `send`.
+        unsafe {
+            call(
+                self.image.as_mut_ptr(),
+                self.image.len(),
+                u8::from(confirm),
+                send.as_ptr(),
+                send.len(),
+                unit.as_mut_ptr(),
+                unit.len(),
+                &mut raw,
+            );
+        }
+        outcome(raw)
+    }
+
+    /// Begins a conversation: a first speaker sends at once, a bidder makes a bid and waits for its answer.
+    pub fn allocate(&mut self, unit: &mut [u8]) -> Result<Answer, Refusal> {
+        self.by_unit(raw::lu62_allocate, unit)
     }
 
     /// Gives bytes of logical records, cut anywhere, to be sent.
@@ -291,96 +332,32 @@ impl End {
 
     /// Sends the bytes kept, if any.
     pub fn flush(&mut self, send: &[u8], unit: &mut [u8]) -> Result<Answer, Refusal> {
-        let mut raw = raw::Answer::default();
-        // SAFETY: the slices written are borrowed mutably and `send` beside them, so none overlap; the library only reads `send`.
-        unsafe {
-            raw::lu62_flush(
-                self.image.as_mut_ptr(),
-                self.image.len(),
-                send.as_ptr(),
-                send.len(),
-                unit.as_mut_ptr(),
-                unit.len(),
-                &mut raw,
-            );
-        }
-        outcome(raw)
+        self.by_send(raw::lu62_flush, send, unit)
     }
 
     /// Sends the bytes kept and asks for a confirmation.
     pub fn confirm(&mut self, send: &[u8], unit: &mut [u8]) -> Result<Answer, Refusal> {
-        let mut raw = raw::Answer::default();
-        // SAFETY: the slices written are borrowed mutably and `send` beside them, so none overlap; the library only reads `send`.
-        unsafe {
-            raw::lu62_confirm(
-                self.image.as_mut_ptr(),
-                self.image.len(),
-                send.as_ptr(),
-                send.len(),
-                unit.as_mut_ptr(),
-                unit.len(),
-                &mut raw,
-            );
-        }
-        outcome(raw)
+        self.by_send(raw::lu62_confirm, send, unit)
     }
 
     /// Sends the bytes kept and gives the turn to the partner, with or without confirmation.
     pub fn prepare_to_receive(&mut self, confirm: bool, send: &[u8], unit: &mut [u8]) -> Result<Answer, Refusal> {
-        let mut raw = raw::Answer::default();
-        // SAFETY: the slices written are borrowed mutably and `send` beside them, so none overlap; the library only reads `send`.
-        unsafe {
-            raw::lu62_prepare_to_receive(
-                self.image.as_mut_ptr(),
-                self.image.len(),
-                u8::from(confirm),
-                send.as_ptr(),
-                send.len(),
-                unit.as_mut_ptr(),
-                unit.len(),
-                &mut raw,
-            );
-        }
-        outcome(raw)
+        self.by_send_confirmed(raw::lu62_prepare_to_receive, confirm, send, unit)
     }
 
     /// Sends the bytes kept and ends the conversation, with or without confirmation.
     pub fn deallocate(&mut self, confirm: bool, send: &[u8], unit: &mut [u8]) -> Result<Answer, Refusal> {
-        let mut raw = raw::Answer::default();
-        // SAFETY: the slices written are borrowed mutably and `send` beside them, so none overlap; the library only reads `send`.
-        unsafe {
-            raw::lu62_deallocate(
-                self.image.as_mut_ptr(),
-                self.image.len(),
-                u8::from(confirm),
-                send.as_ptr(),
-                send.len(),
-                unit.as_mut_ptr(),
-                unit.len(),
-                &mut raw,
-            );
-        }
-        outcome(raw)
+        self.by_send_confirmed(raw::lu62_deallocate, confirm, send, unit)
     }
 
     /// Makes the confirmation that is owed.
     pub fn confirmed(&mut self, unit: &mut [u8]) -> Result<Answer, Refusal> {
-        let mut raw = raw::Answer::default();
-        // SAFETY: both slices are borrowed mutably, so they do not overlap; the answer is a local of the library's layout.
-        unsafe {
-            raw::lu62_confirmed(self.image.as_mut_ptr(), self.image.len(), unit.as_mut_ptr(), unit.len(), &mut raw);
-        }
-        outcome(raw)
+        self.by_unit(raw::lu62_confirmed, unit)
     }
 
     /// Makes a pacing response, if one is owed and the inbox has room for a window.
     pub fn send_pacing_response(&mut self, unit: &mut [u8]) -> Result<Answer, Refusal> {
-        let mut raw = raw::Answer::default();
-        // SAFETY: both slices are borrowed mutably, so they do not overlap; the answer is a local of the library's layout.
-        unsafe {
-            raw::lu62_send_pacing_response(self.image.as_mut_ptr(), self.image.len(), unit.as_mut_ptr(), unit.len(), &mut raw);
-        }
-        outcome(raw)
+        self.by_unit(raw::lu62_send_pacing_response, unit)
     }
 
     /// Takes the oldest unit that the partner made. Refused with [`number::UNREAD_MARK`], it must be taken again after a read.

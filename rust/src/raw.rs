@@ -13,6 +13,15 @@ pub struct Answer {
     pub mark: u32,
 }
 
+/// A call lent the image and the unit buffer.
+pub type ByUnit = unsafe extern "C" fn(*mut u8, usize, *mut u8, usize, *mut Answer) -> u32;
+
+/// A call lent the image, the send buffer, which it only reads, and the unit buffer.
+pub type BySend = unsafe extern "C" fn(*mut u8, usize, *const u8, usize, *mut u8, usize, *mut Answer) -> u32;
+
+/// The same with the byte `confirm` behind the image.
+pub type BySendConfirmed = unsafe extern "C" fn(*mut u8, usize, u8, *const u8, usize, *mut u8, usize, *mut Answer) -> u32;
+
 extern "C" {
     pub fn lu62_open(
         role: u8,
