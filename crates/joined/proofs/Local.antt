@@ -1,6 +1,6 @@
 -- What holds at one end by itself, whatever the other does: the places of the bytes given, taken and read, the credit count, and what reads say.
 -- Assumes nothing.
-use Prim.Native.Nat.{ℕ, _+_, _*_, _≤_}
+use Prim.Native.Nat.{ℕ, _+_, _*_, _≤_, _<_}
 use mathlib.Core.Path.{_≡_, refl, sym, ap, _∙_, subst}
 use mathlib.Core.Bool.{Bool, true, false, not, cond, _&&_, _||_}
 use mathlib.Core.List.{List, [], _∷_, _++_, append-nil}
@@ -23,7 +23,7 @@ use Rattle.control.specs.declared.WhatReceived.the-variants as mark
 use Rattle.answers.specs.Answers.{accepted, readRefused, refusedNaming}
 use Rattle.joined.specs.Joined.{acted, took}
 use Rattle.joined.specs.Ends.{Station, Verb, Reply, plain, refusalIn}
-use Rattle.joined.specs.Histories.{Log, given, bytesAccepted, bytesRead, bytesInInbox, count, requestsAmong, requestsMade, isPacingResponse, pacingResponsesTaken, isBreach, breaches, isBadRead, badReads, CompleteIsRight}
+use Rattle.joined.specs.Histories.{Log, given, bytesAccepted, bytesRead, bytesInInbox, count, requestsAmong, requestsMade, isPacingResponse, pacingResponsesTaken, isBreach, breaches, isBadRead, badReads, CompleteIsRight, NoneCrosses}
 
 -- The values of an end that its log speaks of.
 pub record Values : Type 0 where
@@ -54,11 +54,16 @@ pub record Local (v : Values) (xs : Log) : Type 0 where
   pub inbox : walk (v .read) (v .inbox) ≡ At (v .taken)
   pub counted : requestsMade xs + v .credit ≡ v .size * (1 + pacingResponsesTaken xs)
   pub complete : CompleteIsRight xs
+  pub apart : NoneCrosses xs
   pub never-8 : badReads xs ≡ 0
   pub no-breach : breaches xs ≡ 0
 
 walk-more : (bs new : List ℕ) (p q : Position) → walk start bs ≡ At p → walk p new ≡ At q → walk start (bs ++ new) ≡ At q
 walk-more bs new p q e f = walk-append start bs new ∙ ap (λ (w : Walked). thenWalk w new) e ∙ f
+
+-- where no byte is copied, none crosses
+none-copied : {X : Type 0} (n : ℕ) → n < 0 → X
+none-copied n few = absurd (omega arith)
 
 -- ---- an accepted call that copies no byte: bytes may be given, units made, a mark answered
 
@@ -77,7 +82,7 @@ pub local-act :
     → requestsAmong us + w .credit ≡ v .credit
     → isBadRead verb 0 ≡ false
     → Local w (acted verb (reply k m buffer) us ∷ xs)
-unfolding bytesAccepted bytesRead requestsMade pacingResponsesTaken CompleteIsRight badReads breaches
+unfolding bytesAccepted bytesRead requestsMade pacingResponsesTaken CompleteIsRight NoneCrosses badReads breaches
 local-act {v} {xs} verb k m buffer us w l g h r t i z c b =
     record {
       given = walk-more (bytesAccepted xs) (given verb 0) (v .given) (w .given) (l .given) g;
@@ -89,6 +94,7 @@ local-act {v} {xs} verb k m buffer us w l g h r t i z c b =
           subst (λ (n : ℕ). requestsAmong us + requestsMade xs + w .credit ≡ n * (1 + pacingResponsesTaken xs)) (sym z)
           (let q = l .counted in omega (arith, q, c));
       complete = (refl, l .complete);
+      apart = (λ n some few. none-copied n few, l .apart);
       never-8 = ap (λ (x : Bool). count x + badReads xs) b ∙ zero-add (badReads xs) ∙ l .never-8;
       no-breach = l .no-breach;
     }
@@ -117,7 +123,7 @@ pub local-refused :
     → isBadRead verb q ≡ false
     → Local v xs
     → Local v (acted verb (record { answer = readRefused q; buffer = buffer }) [] ∷ xs)
-unfolding bytesRead requestsAmong requestsMade pacingResponsesTaken CompleteIsRight badReads breaches
+unfolding bytesRead requestsAmong requestsMade pacingResponsesTaken CompleteIsRight NoneCrosses badReads breaches
 local-refused {v} {xs} verb q buffer e b l =
     record {
       given = ap (walk start) (refused-accepts verb q buffer [] xs e) ∙ l .given;
@@ -126,6 +132,7 @@ local-refused {v} {xs} verb q buffer e b l =
       inbox = l .inbox;
       counted = let c = l .counted in omega (arith, c);
       complete = (refl, l .complete);
+      apart = (λ n some few. none-copied n few, l .apart);
       never-8 = ap (λ (x : Bool). count x + badReads xs) b ∙ zero-add (badReads xs) ∙ l .never-8;
       no-breach = l .no-breach;
     }
@@ -139,6 +146,7 @@ pub local-read :
     → take k buffer ≡ first
     → v .inbox ≡ first ++ rest
     → walk (v .read) first ≡ At (w .read)
+    → ((n : ℕ) → 0 < n → n < k → ended (walk (v .read) (take n buffer)) ≡ false)
     → w .inbox ≡ rest
     → w .sends ≡ v .sends
     → w .given ≡ v .given
@@ -148,8 +156,8 @@ pub local-read :
     → Local w
     (acted (Verb.receive asked)
     (record { answer = record { answer = accepted 0; copied = k; complete = isBetween (w .read); mark = mark.Nothing }; buffer = buffer }) [] ∷ xs)
-unfolding bytesAccepted bytesRead requestsAmong requestsMade pacingResponsesTaken CompleteIsRight badReads breaches
-local-read {v} {xs} asked k first rest buffer w l some f i r b d g t z c =
+unfolding bytesAccepted bytesRead requestsAmong requestsMade pacingResponsesTaken CompleteIsRight NoneCrosses badReads breaches
+local-read {v} {xs} asked k first rest buffer w l some f i r within b d g t z c =
     let read′ : walk start (bytesRead xs ++ take k buffer) ≡ At (w .read) =
     ap (λ (bs : List ℕ). walk start (bytesRead xs ++ bs)) f ∙ walk-more (bytesRead xs) first (v .read) (w .read) (l .read) r in
     let through : Through (v .read) first rest (v .taken) =
@@ -168,6 +176,10 @@ local-read {v} {xs} asked k first rest buffer w l some f i r b d g t z c =
             rw (n, read′),
         l .complete,
       );
+      apart = (
+        λ n x y. ap ended (walk-append start (bytesRead xs) (take n buffer) ∙ ap (λ (w : Walked). thenWalk w (take n buffer)) (l .read)) ∙ within n x y,
+        l .apart,
+      );
       never-8 = zero-add (badReads xs) ∙ l .never-8;
       no-breach = l .no-breach;
     }
@@ -185,7 +197,7 @@ pub local-took :
     → w .size ≡ v .size
     → requestsAmong us + w .credit ≡ v .credit + v .size * count b
     → Local w (took u (plain (accepted k)) us ∷ xs)
-unfolding bytesAccepted bytesRead requestsMade pacingResponsesTaken CompleteIsRight badReads breaches
+unfolding bytesAccepted bytesRead requestsMade pacingResponsesTaken CompleteIsRight NoneCrosses badReads breaches
 local-took {v} {xs} u k us b w l p g h r i z c =
     record {
       given = l .given ∙ ap At (sym g);
@@ -197,6 +209,7 @@ local-took {v} {xs} u k us b w l p g h r i z c =
           (subst (λ (x : Bool). requestsAmong us + requestsMade xs + w .credit ≡ v .size * (1 + (count x + pacingResponsesTaken xs))) (sym p)
           (counts b (requestsAmong us) (requestsMade xs) (w .credit) (v .credit) (v .size) (pacingResponsesTaken xs) (l .counted) c));
       complete = (refl, l .complete);
+      apart = l .apart;
       never-8 = l .never-8;
       no-breach = zero-add (breaches xs) ∙ l .no-breach;
     }
@@ -211,7 +224,7 @@ pub local-take-refused :
     → isBreach q ≡ false
     → Local v xs
     → Local v (took u (plain (refusedNaming rule q)) [] ∷ xs)
-unfolding bytesAccepted bytesRead requestsAmong requestsMade pacingResponsesTaken CompleteIsRight badReads breaches
+unfolding bytesAccepted bytesRead requestsAmong requestsMade pacingResponsesTaken CompleteIsRight NoneCrosses badReads breaches
 local-take-refused {v} {xs} u rule q e b l =
     record {
       given = l .given;
@@ -222,6 +235,7 @@ local-take-refused {v} {xs} u rule q e b l =
           subst (λ (x : Bool). 0 + requestsMade xs + v .credit ≡ v .size * (1 + (count (x && isPacingResponse u) + pacingResponsesTaken xs))) (sym e)
           (let c = l .counted in omega (arith, c));
       complete = (refl, l .complete);
+      apart = l .apart;
       never-8 = l .never-8;
       no-breach = ap (λ (x : Bool). count x + breaches xs) b ∙ zero-add (breaches xs) ∙ l .no-breach;
     }

@@ -4,18 +4,20 @@ use Prim.Native.Nat.{ℕ, _+_, _-_, _*_, _≤_, _<_, min}
 use mathlib.Core.Path.{_≡_, refl, sym, ap, _∙_, subst}
 use mathlib.Core.Bool.{Bool, true, false, not, cond, _&&_, _||_}
 use mathlib.Core.List.{List, [], _∷_, _++_, append-nil, append-assoc}
-use native.Mathlib.Nat.{le-min}
+use native.Mathlib.Nat.{le-min, le-trans, min-le-right}
 use native.Mathlib.Omega.{arith}
 use borrow.Author.Tests.{eqb-true, leb-true}
 use lib.Dec.{eqb, leb}
 use lib.ListN.{length, take, drop, getD}
-use lib.Seq.{length-take-le}
+use lib.Seq.{length-take-le, take-take}
 use Rattle.cells.specs.Cells.{front, written}
 use Rattle.logical_record.specs.Positions.{start, isWhole, isBetween}
 use Rattle.logical_record.specs.Walk.{thenWalk, walk}
 use Rattle.logical_record.specs.Reading.{rest}
 use Rattle.logical_record.proofs.Walks.{walk-append, walk-prefix, Through}
-use Rattle.logical_record.proofs.Rests.{rest-some, rest-walks, RestIs}
+use Rattle.logical_record.specs.Records.{ended}
+use Rattle.logical_record.proofs.Ends.{Inside}
+use Rattle.logical_record.proofs.Rests.{rest-some, rest-walks, rest-inside, RestIs}
 use Rattle.logical_record.specs.declared.Position.{Position}
 use Rattle.logical_record.specs.declared.Walked.{Walked}
 use Rattle.logical_record.specs.declared.Walked.the-variants.{At, BadLength}
@@ -218,6 +220,32 @@ module _ (s : Station) (xs : Log) (l : Local (valuesOf s) xs) where
       (omega (arith, long, held)) (bytes-of (recordRest (s .end) (s .inbox)) (a .rest)) in
       le-min (a .least) (le-min held some)
 
+  -- a read copies no more than the rest of the current record
+  count-rest : (buffer : List ℕ) → readCount s buffer ≤ restBytes (recordRest (s .end) (s .inbox))
+  unfolding copyCount
+  count-rest buffer =
+      le-trans (min-le-right (length buffer) (min (s .end .receiving .held) (restBytes (recordRest (s .end) (s .inbox)))))
+      (min-le-right (s .end .receiving .held) (restBytes (recordRest (s .end) (s .inbox))))
+
+  -- so that fewer bytes than it copies do not end the record
+  inside : (buffer : List ℕ) → ReadAsked s buffer → (n : ℕ) → 0 < n → n < readCount s buffer
+      → ended (walk (s .end .receiving .read) (take n (front (take (readCount s buffer) (s .inbox)) buffer))) ≡ false
+  inside buffer a n some few =
+      let k = readCount s buffer in
+      let held = s .end .receiving .held in
+      let c = count-held s buffer in
+      let r = count-rest buffer in
+      let long : length (bytesInInbox s) ≡ held = length-take-le held (s .inbox) (inbox-holds s buffer a) in
+      let i : Inside (s .end .receiving .read) (take n (bytesInInbox s)) =
+      rest-inside (s .end .receiving .read) (bytesInInbox s) (restBytes (recordRest (s .end) (s .inbox))) n
+      (bytes-of (recordRest (s .end) (s .inbox)) (a .rest)) some (omega (arith, few, r)) (omega (arith, few, c, long)) in
+      let same : take n (front (take k (s .inbox)) buffer) ≡ take n (bytesInInbox s) =
+      sym (take-take n k (front (take k (s .inbox)) buffer) (omega (arith, few)))
+      ∙ ap (take n) (read-copied s buffer a)
+      ∙ take-take n k (s .inbox) (omega (arith, few))
+      ∙ sym (take-take n held (s .inbox) (omega (arith, few, c))) in
+      ap (λ (bs : List ℕ). ended (walk (s .end .receiving .read) bs)) same ∙ ap ended (i .reached) ∙ i .inside
+
   reads : (buffer : List ℕ) → After (Verb.receive buffer) (acts s (Verb.receive buffer))
   unfolding bytesRead markRead
   reads buffer =
@@ -230,7 +258,7 @@ module _ (s : Station) (xs : Log) (l : Local (valuesOf s) xs) where
       local-read buffer k (take k (s .inbox)) (drop k (bytesInInbox s)) (front (take k (s .inbox)) buffer) _ l (some-copied buffer a h)
       (read-copied s buffer a) (read-parts s buffer)
       (at-place (s .end .receiving .read) (t .middle) (walk (s .end .receiving .read) (take k (s .inbox))) (t .first))
-      (moved-left s k (inbox-holds s buffer a)) refl refl refl refl refl)
+      (inside buffer a) (moved-left s k (inbox-holds s buffer a)) refl refl refl refl refl)
       (λ a h m.
       local-act (Verb.receive buffer) 0 (s .end .control .mark) buffer [] _ l here (λ n. l .whole (marked-not-send (s .end) (a .good) m)) refl refl refl refl
       (none-made (credit (s .end .sending .window))) refl)

@@ -27,7 +27,7 @@ use Rattle.end.specs.declared.End.{End}
 use Rattle.end.specs.declared.Done.{Done}
 use Rattle.joined.specs.Joined.{At, Side, Both, run}
 use Rattle.joined.specs.Ends.{Station, Verb, Reply, Buffers, OpeningAccepted, JoinedOpenings, openedWith, openedBoth, acts, takes}
-use Rattle.joined.specs.Histories.{Log, bytesAccepted, bytesRead, bytesOnLine, bytesInInbox, bytesInSendBuffer, requestsMade, pacingResponsesTaken, breaches, badReads, CompleteIsRight}
+use Rattle.joined.specs.Histories.{Log, bytesAccepted, bytesRead, bytesOnLine, bytesInInbox, bytesInSendBuffer, requestsMade, pacingResponsesTaken, breaches, badReads, CompleteIsRight, NoneCrosses}
 use Rattle.joined.specs.Claim.{Pair, JoinedEnd, after, BytesConserved, Joint, SameOutcome, Claim, RecordsArrive, ReadsRight, Records, TheRecords}
 use Rattle.joined.proofs.Confluence.{confluent}
 use Rattle.joined.proofs.Invariant.{Fact, Keeps, AfterAct, AfterTake, Ways, run-ways}
@@ -167,7 +167,7 @@ opened-as r s b e a =
     ∙ ap (λ (x : Role). freshEnd x (s .outwindow) (s .outmax) (s .inwindow) (s .inmax) (length (b .inbox))) e)
 
 local-fresh : (r : Role) (s : Session) (b : Buffers) → Local (valuesOf (station r s b)) []
-unfolding thenWalk bytesAccepted bytesRead requestsMade pacingResponsesTaken CompleteIsRight badReads breaches credit
+unfolding thenWalk bytesAccepted bytesRead requestsMade pacingResponsesTaken CompleteIsRight NoneCrosses badReads breaches credit
 local-fresh r s b =
     record {
       given = refl;
@@ -176,6 +176,7 @@ local-fresh r s b =
       inbox = refl;
       counted = omega arith;
       complete = tt;
+      apart = tt;
       never-8 = refl;
       no-breach = refl;
     }
@@ -263,7 +264,7 @@ arrive x y e =
     record { still-to-come = _; first-are-read = ap wholeRecords e ∙ q }
 
 reads-of : (x : JoinedEnd) → Local (valuesOf (x .end)) (x .log) → ReadsRight x
-reads-of x l = record { read = l .read; inbox = l .inbox; complete = l .complete; never-8 = l .never-8; whole = l .whole }
+reads-of x l = record { given = l .given; read = l .read; inbox = l .inbox; complete = l .complete; apart = l .apart; never-8 = l .never-8; whole = l .whole }
 
 pub the-records : TheRecords
 the-records naming s t b c l j =

@@ -13,7 +13,7 @@ use Rattle.end.specs.Record.{creditOf}
 use Rattle.sides.specs.declared.Session.{Session}
 use Rattle.joined.specs.Joined.{At, Side, Both, firsts, seconds, run, AllFed}
 use Rattle.joined.specs.Ends.{Station, Verb, Reply, Buffers, JoinedOpenings, openedBoth, acts, takes}
-use Rattle.joined.specs.Histories.{bytesAccepted, bytesRead, bytesOnLine, bytesInInbox, bytesInSendBuffer, requestsMade, pacingResponsesTaken, breaches, badReads, CompleteIsRight}
+use Rattle.joined.specs.Histories.{bytesAccepted, bytesRead, bytesOnLine, bytesInInbox, bytesInSendBuffer, requestsMade, pacingResponsesTaken, breaches, badReads, CompleteIsRight, NoneCrosses}
 
 abbrev pub Pair : Type 0
 Pair = Both Station Verb Reply (List ℕ)
@@ -73,13 +73,17 @@ pub record RecordsArrive (x y : JoinedEnd) : Type 0 where
   pub still-to-come : List (List ℕ)
   pub first-are-read : wholeRecords (bytesAccepted (x .log)) ≡ wholeRecords (bytesRead (y .log)) ++ still-to-come
 
--- What reads hand out is cut exactly at record ends.
+-- What reads hand out is cut exactly at record ends; and the places that the end keeps are those of the bytes given and read.
 pub record ReadsRight (x : JoinedEnd) : Type 0 where
+  -- the bytes accepted so far walk to the given place
+  pub given : walk start (bytesAccepted (x .log)) ≡ walked.At (x .end .end .sending .given)
   -- the bytes read so far walk to the read place, and the inbox walks from there to the taken place
   pub read : walk start (bytesRead (x .log)) ≡ walked.At (x .end .end .receiving .read)
   pub inbox : walk (x .end .end .receiving .read) (bytesInInbox (x .end)) ≡ walked.At (x .end .end .receiving .taken)
   -- 'complete' is said exactly when the bytes read so far are whole records
   pub complete : CompleteIsRight (x .log)
+  -- no read crosses a record's end
+  pub apart : NoneCrosses (x .log)
   -- no read is refused with 8
   pub never-8 : badReads (x .log) ≡ 0
   -- outside Send the given place is between records

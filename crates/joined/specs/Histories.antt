@@ -1,6 +1,6 @@
 -- What has happened at an end, as functions of its log; and the bytes that are on a line or held.
 -- Assumes nothing.
-use Prim.Native.Nat.{ℕ, zero, suc, _+_}
+use Prim.Native.Nat.{ℕ, _+_, _<_}
 use mathlib.Core.Bool.{Bool, true, false, not, cond, _&&_}
 use mathlib.Core.List.{List, [], _∷_, _++_}
 use lib.Dec.{eqb, leb}
@@ -124,3 +124,10 @@ CompleteIsRight [] = Unit {0}
 CompleteIsRight (acted v r us ∷ es) =
     (r .answer .complete ≡ (not (eqb (r .answer .copied) 0) && ended (walk start (bytesRead (acted v r us ∷ es))))) × CompleteIsRight es
 CompleteIsRight (took u r us ∷ es) = (r .answer .complete ≡ false) × CompleteIsRight es
+
+-- no read crosses a record's end: no proper, non-empty front of the bytes that one read copied ends a record
+unfoldable pub NoneCrosses : Log → Type 0
+NoneCrosses [] = Unit {0}
+NoneCrosses (acted v r us ∷ es) =
+    ((n : ℕ) → 0 < n → n < r .answer .copied → ended (walk start (bytesRead es ++ take n (r .buffer))) ≡ false) × NoneCrosses es
+NoneCrosses (took u r us ∷ es) = NoneCrosses es
