@@ -1,7 +1,7 @@
 -- After every list of calls that give bytes, both records are within the section 'The end's record': question 5 is answered yes at each end.
 -- Assumes nothing.
-use Prim.Native.Nat.{ℕ, _-_, _<_}
-use mathlib.Core.Path.{_≡_}
+use Prim.Native.Nat.{ℕ, _+_, _-_, _<_}
+use mathlib.Core.Path.{_≡_, refl}
 use mathlib.Core.Bool.{Bool, true, false, cond}
 use mathlib.Core.List.{List, [], _∷_}
 use native.Mathlib.Omega.{arith}
@@ -32,12 +32,14 @@ use Rattle.end.specs.declared.Done.{Done}
 use Rattle.joined.specs.Joined.{Call, act, At, first, second, Acted, Took, apply, step, run}
 use Rattle.joined.specs.Joined as J
 use Rattle.joined.specs.Ends.{Station, Verb, Reply, Buffers, OpeningAccepted, openedWith, openedBoth, makes, acts, takes}
-use Rattle.joined.specs.Histories.{Log}
-use Rattle.joined.specs.Claim.{Pair, after}
+use Rattle.joined.specs.Histories.{Log, count, refusedWith}
+use Rattle.joined.specs.SingleCalls.{AllBytes, BytesOf}
+use Rattle.joined.specs.Claim.{Pair, after, LentBytes, BytesIn, BytesAt, BytesOfAll, BothGood, AlwaysGood}
 use Rattle.joined.proofs.Cases.{cases}
 use Rattle.joined.proofs.Acts.{allocate-cases, bidNumber, send-cases, spilledRu, close-cases, confirmed-cases, pace-cases, read-cases, readCount, take-cases, tookKind}
-use Rattle.joined.proofs.ByteLists.{AllBytes, none-bytes, take-bytes, drop-bytes, append-bytes, front-bytes-all, written-bytes-all, next-small, number-small, unit-bytes, fixed-bytes, AllUnits, append-units}
-use Rattle.joined.proofs.KeptCalls.{BytesOf, good-acts, good-takes, good-opened}
+use Rattle.joined.proofs.ByteLists.{none-bytes, take-bytes, drop-bytes, append-bytes, front-bytes-all, written-bytes-all, next-small, number-small, unit-bytes, fixed-bytes, AllUnits, append-units}
+use Rattle.joined.proofs.Refusals.{never-5, take-never-5}
+use Rattle.joined.proofs.KeptCalls.{good-acts, good-takes, good-opened}
 
 -- ---- the cells and units are bytes, and the number owed is one of two bytes
 
@@ -146,42 +148,41 @@ module _ (s : Station) (c : Cells s) where
 
 -- ---- lists of calls
 
--- the bytes that the calls of a list give are bytes
-abbrev pub BytesIn : Call Verb → Type 0
-BytesIn (act v) = BytesOf v
-BytesIn J.take = Unit {0}
-
-abbrev pub BytesAt : At Verb → Type 0
-BytesAt (first c) = BytesIn c
-BytesAt (second c) = BytesIn c
-
-abbrev pub BytesOfAll : List (At Verb) → Type 0
-BytesOfAll [] = Unit {0}
-BytesOfAll (c ∷ l) = BytesAt c × BytesOfAll l
-
 record Sound (s : Station) : Type 0 where
   good : recordGood (s .end) ≡ true
   cells : Cells s
 
--- an end, the line to it, and the units that a call there makes
-record Rests (e : Station) (waiting sent : List (List ℕ)) : Type 0 where
+-- an end, the line to it, what happened at it, and the units that a call there makes
+record Rests (e : Station) (waiting sent : List (List ℕ)) (es : Log) : Type 0 where
   end : Sound e
   line : AllUnits waiting
   made : AllUnits sent
+  never : refusedWith 5 es ≡ 0
+
+one-more : (b : Bool) (n : ℕ) → b ≡ false → n ≡ 0 → count b + n ≡ 0
+one-more true n e z = absurd (let y : _≡_ {A = ℕ} 0 1 = cc in omega arith)
+one-more false n e z = omega arith
 
 module _ (naming : List ℕ → ℕ) where
-  one-call : (e : Station) (es : Log) (us : List (List ℕ)) (c : Call Verb) → BytesIn c → Sound e → AllUnits us
-      → (let r = apply acts (takes naming) e es us c in Rests (r .side .end) (r .side .waiting) (r .sent))
-  one-call e es us (act v) b s f =
+  one-call : (e : Station) (es : Log) (us : List (List ℕ)) (c : Call Verb) → BytesIn c → Sound e → AllUnits us → refusedWith 5 es ≡ 0
+      → (let r = apply acts (takes naming) e es us c in Rests (r .side .end) (r .side .waiting) (r .sent) (r .side .log))
+  unfolding refusedWith
+  one-call e es us (act v) b s f z =
       let q = cells-acts e (s .cells) v b in
-      record { end = record { good = good-acts e v b (s .cells .inbox) (s .good); cells = q .0 }; line = f; made = q .1 }
-  one-call e es [] J.take b s f = record { end = s; line = f; made = tt }
-  one-call e es (u ∷ us) J.take b s f =
+      record {
+        end = record { good = good-acts e v b (s .cells .inbox) (s .good); cells = q .0 };
+        line = f;
+        made = q .1;
+        never = one-more _ _ (never-5 e (s .good) v) z;
+      }
+  one-call e es [] J.take b s f z = record { end = s; line = f; made = tt; never = z }
+  one-call e es (u ∷ us) J.take b s f z =
       let q = cells-takes e (s .cells) naming u (f .0) in
       record {
         end = record { good = good-takes naming e u (f .0) (s .good); cells = q .0 };
         line = cases AllUnits (takes naming e u .removed) (λ y. f .1) (λ y. f);
         made = q .1;
+        never = one-more _ _ (take-never-5 e (s .good) naming u) z;
       }
 
   record Good (p : Pair) : Type 0 where
@@ -189,25 +190,36 @@ module _ (naming : List ℕ → ℕ) where
     two : Sound (p .two .end)
     to-one : AllUnits (p .one .waiting)
     to-two : AllUnits (p .two .waiting)
+    never-one : refusedWith 5 (p .one .log) ≡ 0
+    never-two : refusedWith 5 (p .two .log) ≡ 0
 
   step-good : (p : Pair) (c : At Verb) → BytesAt c → Good p → Good (step acts (takes naming) p c)
   step-good p (first c) b g =
-      let r = one-call (p .one .end) (p .one .log) (p .one .waiting) c b (g .one) (g .to-one) in
-      record { one = r .end; two = g .two; to-one = r .line; to-two = append-units (p .two .waiting) _ (g .to-two) (r .made) }
+      let r = one-call (p .one .end) (p .one .log) (p .one .waiting) c b (g .one) (g .to-one) (g .never-one) in
+      record {
+        one = r .end;
+        two = g .two;
+        to-one = r .line;
+        to-two = append-units (p .two .waiting) _ (g .to-two) (r .made);
+        never-one = r .never;
+        never-two = g .never-two;
+      }
   step-good p (second c) b g =
-      let r = one-call (p .two .end) (p .two .log) (p .two .waiting) c b (g .two) (g .to-two) in
-      record { one = g .one; two = r .end; to-one = append-units (p .one .waiting) _ (g .to-one) (r .made); to-two = r .line }
+      let r = one-call (p .two .end) (p .two .log) (p .two .waiting) c b (g .two) (g .to-two) (g .never-two) in
+      record {
+        one = g .one;
+        two = r .end;
+        to-one = append-units (p .one .waiting) _ (g .to-one) (r .made);
+        to-two = r .line;
+        never-one = g .never-one;
+        never-two = r .never;
+      }
 
   run-good : (p : Pair) (l : List (At Verb)) → BytesOfAll l → Good p → Good (run acts (takes naming) p l)
   run-good p [] b g = g
   run-good p (c ∷ l) b g = run-good (step acts (takes naming) p c) l (b .1) (step-good p c (b .0) g)
 
 -- ---- from openings
-
--- the cells lent at opening are bytes
-pub record LentBytes (b : Buffers) : Type 0 where
-  pub send : AllBytes (b .send)
-  pub inbox : AllBytes (b .inbox)
 
 opened-owed : (s : Session) (n m k : ℕ) → opened s n m k .end .owed < 65536
 unfolding opened
@@ -220,17 +232,18 @@ opened-sound s b a l =
     let k = length (b .inbox) in
     record { good = good-opened s n m k a; cells = record { send = l .send; inbox = l .inbox; owed = opened-owed s n m k } }
 
--- after every list of calls from two accepted openings, question 5 is answered yes at both ends
-pub always-good :
-    (naming : List ℕ → ℕ) (s t : Session) (b c : Buffers) (l : List (At Verb))
-    → OpeningAccepted s b
-    → OpeningAccepted t c
-    → LentBytes b
-    → LentBytes c
-    → BytesOfAll l
-    → (recordGood (after naming s t b c l .one .end .end) ≡ true) × (recordGood (after naming s t b c l .two .end .end) ≡ true)
+-- after every list of calls from two accepted openings, question 5 is answered yes at both ends, and it was at every call
+pub always-good : AlwaysGood
+unfolding refusedWith
 always-good naming s t b c l x y f h v =
     let g =
     run-good naming (openedBoth s t b c) l v
-    (record { one = opened-sound s b x f; two = opened-sound t c y h; to-one = tt; to-two = tt }) in
-    (g .one .good, g .two .good)
+    (record {
+      one = opened-sound s b x f;
+      two = opened-sound t c y h;
+      to-one = tt;
+      to-two = tt;
+      never-one = refl;
+      never-two = refl;
+    }) in
+    record { one = g .one .good; two = g .two .good; never-5-one = g .never-one; never-5-two = g .never-two }

@@ -14,9 +14,7 @@ use Rattle.unit.specs.Unit.{unitBytes, unitOf, numberIn}
 use Rattle.header.specs.declared.Header.{Header}
 use Rattle.header.specs.declared.Header.the-variants.{Data, Bid, PositiveBidResponse, NegativeBidResponse, Confirmation, PacingResponse}
 use Rattle.sides.specs.Shared.{nextNumber}
-
-abbrev pub AllBytes : List ℕ → Type 0
-AllBytes bs = (k : ℕ) → getD bs k 0 < 256
+use Rattle.joined.specs.SingleCalls.{AllBytes}
 
 pub none-bytes : AllBytes []
 none-bytes k = omega arith

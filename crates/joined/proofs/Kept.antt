@@ -28,11 +28,11 @@ use Rattle.sides.specs.Receiving.{mayPace, windowAnswered}
 use Rattle.end.specs.declared.End.{End}
 use Rattle.sides.specs.declared.Sending.{Sending}
 use Rattle.sides.specs.declared.Receiving.{Receiving}
+use Rattle.joined.specs.SingleCalls.{AllBytes}
 use Rattle.joined.proofs.Cases.{split}
 use Rattle.joined.proofs.Rows.{left, right}
 use Rattle.joined.proofs.Good.{both, control-good, sending-good, receiving-good, size-least}
 use Rattle.joined.proofs.Counts.{request-costs, response-raises}
-use Rattle.joined.proofs.ByteLists.{AllBytes}
 use Rattle.joined.proofs.Controls.{heldFits, within}
 
 -- ---- taken apart, and put together

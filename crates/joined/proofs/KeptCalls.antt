@@ -43,24 +43,13 @@ use Rattle.sides.specs.declared.Session.{Session}
 use Rattle.end.specs.declared.Done.{Done}
 use Rattle.joined.specs.Joined.{Acted, Took}
 use Rattle.joined.specs.Ends.{Station, Verb, Reply, makes, acts, takes}
+use Rattle.joined.specs.SingleCalls.{AllBytes, BytesOf}
 use Rattle.joined.proofs.Rows.{left, right, all-yes}
 use Rattle.joined.proofs.Good.{both, control-good}
 use Rattle.joined.proofs.Acts.{allocate-cases, send-cases, close-cases, confirmed-cases, pace-cases, read-cases, readCount, take-cases, tookKind}
-use Rattle.joined.proofs.ByteLists.{AllBytes, take-bytes, drop-bytes}
+use Rattle.joined.proofs.ByteLists.{take-bytes, drop-bytes}
 use Rattle.joined.proofs.Controls.{within, allocated-keeps, confirmed-keeps, answered-keeps, bid-keeps, grant-keeps, refusal-keeps, confirmation-keeps, data-keeps, given-leaves, spilled-leaves, closed-leaves, fresh-within}
 use Rattle.joined.proofs.Kept.{Fits, fits-of, out-of, in-of, good-from, answered-good, request-out, request-in, paced-in, place-good}
-
--- the bytes that a call gives are bytes
-abbrev pub BytesOf : Verb → Type 0
-BytesOf Verb.allocate = Unit {0}
-BytesOf Verb.flush = Unit {0}
-BytesOf Verb.confirm = Unit {0}
-BytesOf Verb.confirmed = Unit {0}
-BytesOf Verb.pace = Unit {0}
-BytesOf (Verb.sendData bytes) = AllBytes bytes
-BytesOf (Verb.prepareToReceive b) = Unit {0}
-BytesOf (Verb.deallocate b) = Unit {0}
-BytesOf (Verb.receive buffer) = Unit {0}
 
 -- the cells of the inbox are bytes
 abbrev pub InboxBytes : Station → Type 0

@@ -20,6 +20,7 @@ pub mod StreamCalls
 pub mod PacesCalls
 pub mod BytesCalls
 pub mod NoBreach
+pub mod CreditCalls
 pub mod LocalCalls
 pub mod Sizes
 pub mod Proved
@@ -27,5 +28,6 @@ pub mod ByteLists
 pub mod Controls
 pub mod Kept
 pub mod KeptCalls
-pub mod AlwaysGood
 pub mod Refusals
+pub mod AlwaysGood
+pub mod SingleCalls

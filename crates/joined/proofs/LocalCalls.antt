@@ -66,34 +66,11 @@ use Rattle.joined.proofs.Acts.{allocate-cases, bidNumber, send-cases, S
 use Rattle.joined.proofs.Good.{never, window-out, inbox-most, position-in, marked-in-receive, reset-not-send, receive-not-send}
 use Rattle.joined.proofs.Units.{asksFor, requests-unit, pacing-taken}
 use Rattle.joined.proofs.Paces.{isPacing, paces-answered}
-use Rattle.joined.proofs.Counts.{request-costs, response-raises}
+use Rattle.joined.proofs.Counts.{response-raises}
+use Rattle.joined.proofs.CreditCalls.{request-made, other-made, none-made, data-asks, answer-asks}
 use Rattle.joined.proofs.Bytes.{held-more}
 use Rattle.joined.proofs.BytesCalls.{count-held, moved-left, read-parts, inbox-holds, read-copied}
 use Rattle.joined.proofs.Local.{Values, valuesOf, Local, local-act, local-refused, local-read, local-took, local-take-refused}
-
--- ---- units and credit
-
--- a request made costs 1, any other unit nothing
-request-made : (s : Station) (n : ℕ) (h : Header) (ru : List ℕ) → asksFor h ≡ true → recordGood (s .end) ≡ true → hasCredit (s .end .sending .window) ≡ true
-    → requestsAmong (unitOf n h ru ∷ []) + credit (advanced (s .end .sending .window)) ≡ credit (s .end .sending .window)
-request-made s n h ru e g k =
-    let w = s .end .sending .window in
-    let q = requests-unit n h ru ∙ ap (λ (b : Bool). count b + 0) e in
-    let c = request-costs w (window-out (s .end) g) k in
-    ap (λ (m : ℕ). m + credit (advanced w)) q ∙ (let z : 1 + 0 + credit (advanced w) ≡ credit w = omega (arith, c) in z)
-
-other-made : (n c : ℕ) (h : Header) (ru : List ℕ) → asksFor h ≡ false → requestsAmong (unitOf n h ru ∷ []) + c ≡ c
-other-made n c h ru e =
-    let q = requests-unit n h ru ∙ ap (λ (b : Bool). count b + 0) e in
-    ap (λ (m : ℕ). m + c) q ∙ (let z : 0 + 0 + c ≡ c = omega arith in z)
-
-none-made : (c : ℕ) → requestsAmong [] + c ≡ c
-unfolding requestsAmong
-none-made c = let z : 0 + c ≡ c = omega arith in z
-
-data-asks : (s : Station) (ends : ChainEnd) → asksFor (dataHeader (s .end) ends) ≡ true
-unfolding dataHeader
-data-asks s ends = refl
 
 -- ---- states
 
@@ -316,13 +293,6 @@ bid-state c n = by (isReset (c .state)) refl n
     by : (b : Bool) → isReset (c .state) ≡ b → isSend (cond b (setState Receive c) c .state) ≡ false → isSend (c .state) ≡ false
     by true e m = reset-not-send (c .state) e
     by false e m = m
-
-answer-asks : (c : Control) → asksFor (bidAnswer c) ≡ false
-answer-asks c = by (isReset (c .state))
-  where
-    by : (b : Bool) → asksFor (cond b PositiveBidResponse NegativeBidResponse) ≡ false
-    by true = refl
-    by false = refl
 
 module _ (s : Station) (xs : Log) (u : List ℕ) (l : Local (valuesOf s) xs) where
   abbrev Left : Took Station Reply (List ℕ) → Type 0

@@ -85,6 +85,9 @@ pub requests-unit : (n : ℕ) (h : Header) (ru : List ℕ) → requestsAmong (un
 unfolding requestsAmong
 requests-unit n h ru = ap (λ (b : Bool). count b + 0) (request-unit n h ru)
 
+pub request-taken : (u : List ℕ) → headerGood (headerIn u) ≡ true → isRequest u ≡ asksFor (headerTaken u)
+request-taken u g = ap (λ (x : HeaderBytes). not (on 0x80 (x .b0))) (sym (read-bytes (headerIn u) g)) ∙ asks (headerTaken u)
+
 -- ---- pacing responses
 
 data-no-response : (a b : Bool) (x : Bool) → eqb (bit a FIRST + bit b LAST) 0x83 && x ≡ false

@@ -9,11 +9,13 @@ use Rattle.logical_record.specs.Walk.{walk}
 use Rattle.logical_record.specs.Records.{wholeRecords}
 use Rattle.logical_record.specs.declared.Walked.the-variants as walked
 use Rattle.control.specs.Questions.{holdsSend}
-use Rattle.end.specs.Record.{creditOf}
+use Rattle.answers.specs.Answers.{BAD-RECORD}
+use Rattle.end.specs.Record.{recordGood, creditOf}
 use Rattle.sides.specs.declared.Session.{Session}
-use Rattle.joined.specs.Joined.{At, Side, Both, firsts, seconds, run, AllFed}
-use Rattle.joined.specs.Ends.{Station, Verb, Reply, Buffers, JoinedOpenings, openedBoth, acts, takes}
-use Rattle.joined.specs.Histories.{bytesAccepted, bytesRead, bytesOnLine, bytesInInbox, bytesInSendBuffer, requestsMade, pacingResponsesTaken, breaches, badReads, CompleteIsRight, NoneCrosses}
+use Rattle.joined.specs.Joined.{Call, act, take, At, first, second, Side, Both, firsts, seconds, run, AllFed}
+use Rattle.joined.specs.Ends.{Station, Verb, Reply, Buffers, OpeningAccepted, JoinedOpenings, openedBoth, acts, takes}
+use Rattle.joined.specs.Histories.{bytesAccepted, bytesRead, bytesOnLine, bytesInInbox, bytesInSendBuffer, requestsMade, pacingResponsesTaken, breaches, refusedWith, badReads, CompleteIsRight, NoneCrosses}
+use Rattle.joined.specs.SingleCalls.{AllBytes, BytesOf}
 
 abbrev pub Pair : Type 0
 Pair = Both Station Verb Reply (List ℕ)
@@ -101,3 +103,41 @@ TheRecords =
     (naming : List ℕ → ℕ) (s t : Session) (b c : Buffers) (l : List (At Verb))
     → JoinedOpenings s t b c
     → Records (after naming s t b c l)
+
+-- ---- question 5
+
+-- the cells lent at opening are bytes
+pub record LentBytes (b : Buffers) : Type 0 where
+  pub send : AllBytes (b .send)
+  pub inbox : AllBytes (b .inbox)
+
+-- the bytes that the calls of a list give are bytes
+abbrev pub BytesIn : Call Verb → Type 0
+BytesIn (act v) = BytesOf v
+BytesIn take = Unit {0}
+
+abbrev pub BytesAt : At Verb → Type 0
+BytesAt (first c) = BytesIn c
+BytesAt (second c) = BytesIn c
+
+abbrev pub BytesOfAll : List (At Verb) → Type 0
+BytesOfAll [] = Unit {0}
+BytesOfAll (c ∷ l) = BytesAt c × BytesOfAll l
+
+-- both records are within the section 'The end's record', and no call was refused with 5
+pub record BothGood (p : Pair) : Type 0 where
+  pub one : recordGood (p .one .end .end) ≡ true
+  pub two : recordGood (p .two .end .end) ≡ true
+  pub never-5-one : refusedWith BAD-RECORD (p .one .log) ≡ 0
+  pub never-5-two : refusedWith BAD-RECORD (p .two .log) ≡ 0
+
+-- THE RECORD IS NEVER REFUSED: after every list of calls from two accepted openings, joined or not
+abbrev pub AlwaysGood : Type 0
+AlwaysGood =
+    (naming : List ℕ → ℕ) (s t : Session) (b c : Buffers) (l : List (At Verb))
+    → OpeningAccepted s b
+    → OpeningAccepted t c
+    → LentBytes b
+    → LentBytes c
+    → BytesOfAll l
+    → BothGood (after naming s t b c l)

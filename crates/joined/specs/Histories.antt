@@ -99,6 +99,14 @@ breaches [] = 0
 breaches (acted v r us ∷ es) = breaches es
 breaches (took u r us ∷ es) = count (isBreach (refusalIn r)) + breaches es
 
+-- ---- refusals
+
+-- the calls and takes that were refused with the number n
+unfoldable pub refusedWith : ℕ → Log → ℕ
+refusedWith n [] = 0
+refusedWith n (acted v r us ∷ es) = count (eqb (refusalIn r) n) + refusedWith n es
+refusedWith n (took u r us ∷ es) = count (eqb (refusalIn r) n) + refusedWith n es
+
 -- ---- reads
 
 -- the reads that were refused with 8

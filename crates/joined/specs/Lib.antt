@@ -1,4 +1,5 @@
 pub mod Joined
 pub mod Ends
 pub mod Histories
+pub mod SingleCalls
 pub mod Claim
