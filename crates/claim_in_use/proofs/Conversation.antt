@@ -1,0 +1,192 @@
+-- The claim read off one conversation: what it asks holds by computation, and each of its fields is what is written there.
+-- Assumes nothing.
+use Prim.Native.Nat.{ℕ, zero, suc, _<_}
+use mathlib.Core.Path.{_≡_, refl}
+use mathlib.Core.Bool.{Bool, true, false, _&&_}
+use mathlib.Core.List.{List, [], _∷_}
+use native.Mathlib.Omega.{arith}
+use borrow.Author.Tests.{ltb-true}
+use lib.Dec.{ltb}
+use lib.ListN.{getD}
+use Rattle.cells.specs.Cells.{front, written}
+use Rattle.cells.specs.Equal.{sameBytes}
+use Rattle.logical_record.specs.Walk.{thenWalk}
+use Rattle.logical_record.specs.Records.{recordsFrom}
+use Rattle.header.specs.Rules.{headerGood}
+use Rattle.header.specs.Header.{headerBytes, fieldsOf}
+use Rattle.unit.specs.Ru.{ruGood}
+use Rattle.unit.specs.Unit.{unitBytes, unitOf}
+use Rattle.pacing.specs.Pacing.{credit, advanced, answered}
+use Rattle.control.specs.Within.{controlGood}
+use Rattle.transitions.specs.Transitions.{allocated, spilled, closed, confirmationMade, markAnswered, dataTaken, bidTaken, grantTaken, refusalTaken, confirmationTaken}
+use Rattle.sides.specs.Sending.{sendingGood, requestMade}
+use Rattle.sides.specs.Receiving.{receivingGood, requestTaken}
+use Rattle.sides.specs.Opening.{openingRefusal}
+use Rattle.session.specs.Opening.{opened}
+use Rattle.end.specs.Record.{recordGood}
+use Rattle.end.specs.Requests.{dataHeader}
+use Rattle.end.specs.Allocate.{allocateRefusal, bidMade, allocateDecision, allocate}
+use Rattle.end.specs.SendData.{sendRefusal, bytesKept, bytesSpilled, sendDecision, sendCells, sendData}
+use Rattle.end.specs.Close.{closeRefusal, lastMade, closeDecision, close}
+use Rattle.end.specs.ReceiveUnit.{takeRefusal, dataJoined, bidAnswered, creditRaised, takeDecision, inboxCells, receiveUnit}
+use Rattle.end.specs.Receive.{readRefusal, copyCount, bytesRead, markRead, readDecision, inboxMoved, receive}
+use Rattle.end.specs.Pace.{paceRefusal, paceDecision, pace}
+use Rattle.joined.specs.Joined as J
+use Rattle.joined.specs.Joined.{At, first, second, act, Fed, step, AllFed}
+use Rattle.joined.specs.Ends.{Verb, acts, takes}
+use Rattle.joined.specs.Histories as H
+use Rattle.joined.specs.Histories.{bytesAccepted, bytesOnLine, requestsAmong, requestsMade, pacingResponsesTaken}
+use Rattle.joined.specs.SingleCalls.{AllBytes, BytesOf}
+use Rattle.joined.specs.Claim.{Pair, Claim, TheRecords, LentBytes, AlwaysGood, BytesOfAll}
+use Rattle.worked_examples.specs.Stations.{anyRule}
+use Rattle.claim_in_use.specs.OtherWords.{bytesOf}
+use Rattle.claim_in_use.specs.Conversation.{speaker, bidder, lent, ends, calls, reordered, Happened, Asked, Said, OneConversation}
+
+-- ---- bytes
+
+abbrev below256 : List ℕ → Bool
+below256 [] = true
+below256 (b ∷ bs) = ltb b 256 && below256 bs
+
+halves : (a b : Bool) → a && b ≡ true → (a ≡ true) × (b ≡ true)
+halves true b e = (refl, e)
+halves false b e = absurd (let z : _≡_ {A = ℕ} 0 1 = cc in omega arith)
+
+are-bytes : (bs : List ℕ) → below256 bs ≡ true → AllBytes bs
+are-bytes [] e k = omega arith
+are-bytes (b ∷ bs) e zero = ltb-true b 256 (halves (ltb b 256) (below256 bs) e .0)
+are-bytes (b ∷ bs) e (suc k) = are-bytes bs (halves (ltb b 256) (below256 bs) e .1) k
+
+lent-bytes : LentBytes lent
+lent-bytes = record { send = are-bytes (lent .send) refl; inbox = are-bytes (lent .inbox) refl }
+
+-- the bytes that each call of a list gives
+abbrev allBelow256 : List (At Verb) → Bool
+allBelow256 [] = true
+allBelow256 (first (act v) ∷ l) = below256 (bytesOf v) && allBelow256 l
+allBelow256 (first J.take ∷ l) = allBelow256 l
+allBelow256 (second (act v) ∷ l) = below256 (bytesOf v) && allBelow256 l
+allBelow256 (second J.take ∷ l) = allBelow256 l
+
+gives-bytes : (v : Verb) → below256 (bytesOf v) ≡ true → BytesOf v
+gives-bytes Verb.allocate e = tt
+gives-bytes Verb.flush e = tt
+gives-bytes Verb.confirm e = tt
+gives-bytes Verb.confirmed e = tt
+gives-bytes Verb.pace e = tt
+gives-bytes (Verb.sendData bytes) e = are-bytes bytes e
+gives-bytes (Verb.prepareToReceive b) e = tt
+gives-bytes (Verb.deallocate b) e = tt
+gives-bytes (Verb.receive buffer) e = tt
+
+all-bytes : (l : List (At Verb)) → allBelow256 l ≡ true → BytesOfAll l
+all-bytes [] e = tt
+all-bytes (first (act v) ∷ l) e = let h = halves (below256 (bytesOf v)) (allBelow256 l) e in (gives-bytes v (h .0), all-bytes l (h .1))
+all-bytes (first J.take ∷ l) e = (tt, all-bytes l e)
+all-bytes (second (act v) ∷ l) e = let h = halves (below256 (bytesOf v)) (allBelow256 l) e in (gives-bytes v (h .0), all-bytes l (h .1))
+all-bytes (second J.take ∷ l) e = (tt, all-bytes l e)
+
+-- ---- takes
+
+abbrev waits : List (List ℕ) → Bool
+waits [] = false
+waits (u ∷ us) = true
+
+waits-fed : (us : List (List ℕ)) → waits us ≡ true → Fed {C = Verb} us J.take
+waits-fed [] e = absurd (let z : _≡_ {A = ℕ} 0 1 = cc in omega arith)
+waits-fed (u ∷ us) e = tt
+
+-- every take of the list finds a unit
+abbrev allFind : Pair → List (At Verb) → Bool
+allFind p [] = true
+allFind p (first (act v) ∷ l) = allFind (step acts (takes anyRule) p (first (act v))) l
+allFind p (first J.take ∷ l) = waits (p .one .waiting) && allFind (step acts (takes anyRule) p (first J.take)) l
+allFind p (second (act v) ∷ l) = allFind (step acts (takes anyRule) p (second (act v))) l
+allFind p (second J.take ∷ l) = waits (p .two .waiting) && allFind (step acts (takes anyRule) p (second J.take)) l
+
+all-fed : (p : Pair) (l : List (At Verb)) → allFind p l ≡ true → AllFed acts (takes anyRule) p l
+all-fed p [] e = tt
+all-fed p (first (act v) ∷ l) e = (tt, all-fed (step acts (takes anyRule) p (first (act v))) l e)
+all-fed p (first J.take ∷ l) e =
+    let q = step acts (takes anyRule) p (first J.take) in
+    let h = halves (waits (p .one .waiting)) (allFind q l) e in
+    (waits-fed (p .one .waiting) (h .0), all-fed q l (h .1))
+all-fed p (second (act v) ∷ l) e = (tt, all-fed (step acts (takes anyRule) p (second (act v))) l e)
+all-fed p (second J.take ∷ l) e =
+    let q = step acts (takes anyRule) p (second J.take) in
+    let h = halves (waits (p .two .waiting)) (allFind q l) e in
+    (waits-fed (p .two .waiting) (h .0), all-fed q l (h .1))
+
+-- ---- what happened
+
+happened : Happened
+unfolding front written thenWalk headerGood headerBytes fieldsOf sameBytes ruGood unitBytes unitOf credit advanced answered controlGood allocated spilled closed markAnswered dataTaken bidTaken refusalTaken sendingGood receivingGood recordGood requestMade requestTaken dataHeader openingRefusal opened allocateRefusal bidMade allocateDecision allocate sendRefusal bytesKept bytesSpilled sendDecision sendCells sendData closeRefusal lastMade closeDecision close takeRefusal dataJoined bidAnswered creditRaised takeDecision inboxCells receiveUnit readRefusal copyCount bytesRead markRead readDecision inboxMoved receive paceRefusal paceDecision pace acts takes H.bytesRead bytesAccepted bytesOnLine requestsAmong requestsMade pacingResponsesTaken
+happened =
+    record {
+      given-out = refl;
+      read-out = refl;
+      given-back = refl;
+      read-back = refl;
+      inbox-back = refl;
+      line-back = refl;
+      held-back = refl;
+      counts-one = (refl, refl, refl);
+      counts-two = (refl, refl, refl);
+      state-one = refl;
+      state-two = refl;
+    }
+
+-- ---- what is asked
+
+asked : Asked
+unfolding front written thenWalk headerGood headerBytes fieldsOf sameBytes ruGood unitBytes unitOf credit advanced answered controlGood allocated spilled closed markAnswered dataTaken bidTaken refusalTaken sendingGood receivingGood recordGood requestMade requestTaken dataHeader openingRefusal opened allocateRefusal bidMade allocateDecision allocate sendRefusal bytesKept bytesSpilled sendDecision sendCells sendData closeRefusal lastMade closeDecision close takeRefusal dataJoined bidAnswered creditRaised takeDecision inboxCells receiveUnit readRefusal copyCount bytesRead markRead readDecision inboxMoved receive paceRefusal paceDecision pace acts takes
+asked =
+    record {
+      openings =
+          record { speaker = refl; bidder = refl; window-out = refl; window-back = refl; max-out = refl; max-back = refl; one = refl; two = refl };
+      fed = all-fed ends calls refl;
+      fed-reordered = all-fed ends reordered refl;
+    }
+
+-- ---- what is said
+
+module _ (claim : Claim) (records : TheRecords) (always : AlwaysGood) where
+  said : Said
+  unfolding front written thenWalk headerGood headerBytes fieldsOf sameBytes ruGood unitBytes unitOf credit advanced answered controlGood allocated spilled closed markAnswered dataTaken bidTaken refusalTaken sendingGood receivingGood recordGood requestMade requestTaken dataHeader openingRefusal opened allocateRefusal bidMade allocateDecision allocate sendRefusal bytesKept bytesSpilled sendDecision sendCells sendData closeRefusal lastMade closeDecision close takeRefusal dataJoined bidAnswered creditRaised takeDecision inboxCells receiveUnit readRefusal copyCount bytesRead markRead readDecision inboxMoved receive paceRefusal paceDecision pace acts takes recordsFrom H.bytesRead bytesAccepted bytesOnLine requestsAmong requestsMade pacingResponsesTaken
+  said =
+      let both = claim anyRule speaker bidder lent lent calls (asked .openings) in
+      let joint = both .0 in
+      let r = records anyRule speaker bidder lent lent calls (asked .openings) in
+      let good = always anyRule speaker bidder lent lent calls (asked .openings .one) (asked .openings .two) lent-bytes lent-bytes (all-bytes calls refl) in
+      record {
+        not-both = joint .not-both;
+        no-breach-one = joint .no-breach-one;
+        no-breach-two = joint .no-breach-two;
+        bytes-out = joint .bytes-out;
+        bytes-back = joint .bytes-back;
+        credit-one = joint .credit-one;
+        credit-two = joint .credit-two;
+        same = both .1 reordered refl refl (asked .fed) (asked .fed-reordered);
+        to-come-out = r .out .still-to-come;
+        records-out = r .out .first-are-read;
+        to-come-back = r .back .still-to-come;
+        records-back = r .back .first-are-read;
+        given-two = r .two .given;
+        read-one = r .one .read;
+        inbox-one = r .one .inbox;
+        given-one = r .one .given;
+        read-two = r .two .read;
+        complete-one = r .one .complete;
+        complete-two = r .two .complete;
+        apart-one = r .one .apart;
+        apart-two = r .two .apart;
+        never-8-one = r .one .never-8;
+        never-8-two = r .two .never-8;
+        good-one = good .one;
+        good-two = good .two;
+        never-5-one = good .never-5-one;
+        never-5-two = good .never-5-two;
+      }
+
+  pub one-conversation : OneConversation
+  one-conversation = record { happened = happened; asked = asked; said = said }

@@ -1,0 +1,5 @@
+mod Stories
+mod Openings
+mod Orders
+mod OtherWords
+mod Conversation

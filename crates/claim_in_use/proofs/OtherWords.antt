@@ -1,0 +1,105 @@
+-- The claim in other words follows from the claim and from what is said of the records, and from nothing else that crate joined proves.
+-- Assumes nothing.
+use Prim.Native.Nat.{ℕ, _+_, _*_}
+use mathlib.Core.Path.{_≡_, refl, sym, ap, _∙_}
+use mathlib.Core.Bool.{Bool, true, false}
+use mathlib.Core.List.{List, [], _∷_, _++_}
+use lib.ListN.{length, take}
+use Rattle.logical_record.specs.Positions.{start}
+use Rattle.logical_record.specs.Walk.{walk}
+use Rattle.logical_record.specs.Records.{wholeRecords}
+use Rattle.pacing.specs.Pacing.{credit}
+use Rattle.control.specs.Tests.{isSend}
+use Rattle.control.specs.declared.State.{State}
+use Rattle.control.specs.declared.State.the-variants.{Reset, Send, Receive, ConfirmOwed, ConfirmAwaited}
+use Rattle.joined.specs.Joined.{Call, At}
+use Rattle.joined.specs.Ends.{Station, Verb, Buffers}
+use Rattle.joined.specs.Histories.{bytesAccepted, bytesRead, bytesOnLine, breaches}
+use Rattle.joined.specs.Claim.{Claim, BytesConserved, CreditCounted, ReadsRight, RecordsArrive, TheRecords}
+use Rattle.claim_in_use.specs.OtherWords.{Numbers, speaker, bidder, InRange, Seen, story, each, gave, copied, made, request, pacingAnswer, dataBytes, creditLeft, Ends, OneEnd, given, hasRead, AtOneEnd, OneWay, Agree, Interleaves, after, TakesFind, SameEnd, InOtherWords, answer}
+use Rattle.claim_in_use.proofs.Stories.{given-is, read-is, line-is, requests-are, answers-are, no-breach-in, ends-there, says-so, none-before}
+use Rattle.claim_in_use.proofs.Openings.{openings}
+use Rattle.claim_in_use.proofs.Orders.{firsts-are, seconds-are, fed}
+
+not-send : (s : State) → (s ≡ Send → ⊥) → isSend s ≡ false
+not-send Reset h = refl
+not-send Send h = absurd (h refl)
+not-send Receive h = refl
+not-send ConfirmOwed h = refl
+not-send ConfirmAwaited h = refl
+
+counted : (w : ℕ) (x : OneEnd) → CreditCounted w x
+    → length (each request (each made (story (x .log)))) + creditLeft (x .end .end .sending .window)
+    ≡ w * (1 + length (each pacingAnswer (story (x .log))))
+unfolding credit
+counted w x h = rw (requests-are (x .log), answers-are (x .log)) h
+
+at-one-end : (w : ℕ) (x : OneEnd) → breaches (x .log) ≡ 0 → CreditCounted w x → ReadsRight x → AtOneEnd w x
+at-one-end w x b c r =
+    record {
+      no-breach = no-breach-in (x .log) b;
+      credit = counted w x c;
+      unfinished = ap (walk start) (given-is (x .log)) ∙ r .given;
+      finished = λ n. r .whole (not-send (x .end .end .control .state) n);
+      cut = λ later earlier v y us e. (
+        ends-there (x .log) later earlier v y us e (r .complete),
+        says-so (x .log) later earlier v y us e (r .complete),
+        none-before (x .log) later earlier v y us e (r .apart),
+      );
+    }
+
+one-way : (x y : OneEnd) → BytesConserved x y → RecordsArrive x y → OneWay x y
+one-way x y b r =
+    record {
+      bytes =
+          given-is (x .log) ∙ b
+          ∙ ap (λ (bs : List ℕ). bs ++ (take (y .end .end .receiving .held) (y .end .inbox) ++ (bytesOnLine (y .waiting) ++ take (x .end .end .sending .held) (x .end .send))))
+          (sym (read-is (y .log)))
+          ∙ ap (λ (bs : List ℕ). hasRead y ++ (take (y .end .end .receiving .held) (y .end .inbox) ++ (bs ++ take (x .end .end .sending .held) (x .end .send))))
+          (sym (line-is (y .waiting)));
+      to-come = r .still-to-come;
+      records =
+          ap wholeRecords (given-is (x .log)) ∙ r .first-are-read
+          ∙ ap (λ (bs : List ℕ). wholeRecords bs ++ r .still-to-come) (sym (read-is (y .log)));
+    }
+
+same-end : (x y : OneEnd) → x ≡ y → SameEnd x y
+same-end x y e =
+    record {
+      end = ap (λ (z : OneEnd). z .end) e;
+      waiting = ap (λ (z : OneEnd). z .waiting) e;
+      answers = ap (λ (z : OneEnd). each answer (story (z .log))) e;
+    }
+
+module _ (claim : Claim) (records : TheRecords) where
+  agrees : (naming : List ℕ → ℕ) (n : Numbers) (b c : Buffers) → InRange n b c → (l : List (At Verb)) → Agree n (after naming n b c l)
+  agrees naming n b c r l =
+      let p = after naming n b c l in
+      let o = openings n b c r in
+      let j = claim naming (speaker n) (bidder n) b c l o .0 in
+      let k = records naming (speaker n) (bidder n) b c l o in
+      record {
+        one-sends = λ x y. j .not-both (ap isSend x) (ap isSend y);
+        at-one = at-one-end (n .window-out) (p .one) (j .no-breach-one) (j .credit-one) (k .one);
+        at-two = at-one-end (n .window-back) (p .two) (j .no-breach-two) (j .credit-two) (k .two);
+        out = one-way (p .one) (p .two) (j .bytes-out) (k .out);
+        back = one-way (p .two) (p .one) (j .bytes-back) (k .back);
+      }
+
+  alike : (naming : List ℕ → ℕ) (n : Numbers) (b c : Buffers) → InRange n b c → (xs ys : List (Call Verb)) (l m : List (At Verb))
+      → Interleaves xs ys l
+      → Interleaves xs ys m
+      → TakesFind naming (after naming n b c []) l
+      → TakesFind naming (after naming n b c []) m
+      → SameEnd (after naming n b c l .one) (after naming n b c m .one) × SameEnd (after naming n b c l .two) (after naming n b c m .two)
+  alike naming n b c r xs ys l m i j f g =
+      let p = after naming n b c [] in
+      let e =
+      claim naming (speaker n) (bidder n) b c l (openings n b c r) .1 m (firsts-are i ∙ sym (firsts-are j)) (seconds-are i ∙ sym (seconds-are j))
+      (fed naming p l f) (fed naming p m g) in (
+        same-end (after naming n b c l .one) (after naming n b c m .one) (ap (λ (q : Ends). q .one) e),
+        same-end (after naming n b c l .two) (after naming n b c m .two) (ap (λ (q : Ends). q .two) e),
+      )
+
+  pub in-other-words : InOtherWords
+  in-other-words = record { agree = agrees; same = alike }

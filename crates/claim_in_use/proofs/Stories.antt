@@ -1,0 +1,170 @@
+-- What the programs saw, oldest first, is what the histories of crate joined count.
+-- Assumes nothing.
+use Prim.Native.Nat.{ℕ, _+_, _≤_, _<_}
+use mathlib.Core.Path.{_≡_, refl, sym, ap, _∙_, subst}
+use mathlib.Core.Bool.{Bool, true, false, not, cond, _&&_}
+use mathlib.Core.List.{List, [], _∷_, _++_, append-nil, append-assoc}
+use native.Mathlib.Omega.{arith}
+use borrow.Author.Tests.{le-leb, ne-eqb}
+use lib.Dec.{eqb, leb}
+use lib.ListN.{length, take, getD, length-append}
+use Rattle.header.specs.Weights.{on}
+use Rattle.logical_record.specs.Positions.{start}
+use Rattle.logical_record.specs.Walk.{walk}
+use Rattle.logical_record.specs.Records.{ended}
+use Rattle.joined.specs.Joined.{Event, acted, took}
+use Rattle.joined.specs.Ends.{Verb, Reply}
+use Rattle.joined.specs.Histories as H
+use Rattle.joined.specs.Histories.{Log, bytesAccepted, bytesRead, bytesOnLine, count, isBreach, breaches, requestsAmong, requestsMade, pacingResponsesTaken, CompleteIsRight, NoneCrosses}
+use Rattle.claim_in_use.specs.OtherWords.{Seen, story, each, All, numberOf, gave, copied, made, takeNumber, request, pacingAnswer, dataBytes}
+
+-- ---- lists
+
+each-append : {A B : Type 0} (f : A → List B) (xs ys : List A) → each f (xs ++ ys) ≡ each f xs ++ each f ys
+each-append f [] ys = refl
+each-append f (x ∷ xs) ys = ap (λ (r : List _). f x ++ r) (each-append f xs ys) ∙ sym (append-assoc (f x) (each f xs) (each f ys))
+
+-- the story goes on with what happened last
+goes-on : {B : Type 0} (f : Seen → List B) (e : Seen) (es : List Seen) → each f (story (e ∷ es)) ≡ each f (story es) ++ f e
+goes-on f e es = each-append f (story es) (e ∷ []) ∙ ap (λ (r : List _). each f (story es) ++ r) (append-nil (f e))
+
+all-append : {A : Type 0} (P : A → Type 0) (xs ys : List A) → All P xs → All P ys → All P (xs ++ ys)
+all-append P [] ys h k = k
+all-append P (x ∷ xs) ys h k = (h .0, all-append P xs ys (h .1) k)
+
+-- ---- bytes
+
+gave-none : (b : Bool) → _≡_ {A = List ℕ} (cond b [] []) []
+gave-none true = refl
+gave-none false = refl
+
+gave-is : (v : Verb) (r : Reply) (us : List (List ℕ)) → gave (acted v r us) ≡ H.given v (numberOf r)
+gave-is Verb.allocate r us = gave-none (eqb (numberOf r) 0)
+gave-is Verb.flush r us = gave-none (eqb (numberOf r) 0)
+gave-is Verb.confirm r us = gave-none (eqb (numberOf r) 0)
+gave-is Verb.confirmed r us = gave-none (eqb (numberOf r) 0)
+gave-is Verb.pace r us = gave-none (eqb (numberOf r) 0)
+gave-is (Verb.sendData bytes) r us = refl
+gave-is (Verb.prepareToReceive b) r us = gave-none (eqb (numberOf r) 0)
+gave-is (Verb.deallocate b) r us = gave-none (eqb (numberOf r) 0)
+gave-is (Verb.receive buffer) r us = gave-none (eqb (numberOf r) 0)
+
+pub given-is : (es : Log) → each gave (story es) ≡ bytesAccepted es
+unfolding bytesAccepted
+given-is [] = refl
+given-is (acted v r us ∷ es) = goes-on gave (acted v r us) es ∙ rw (given-is es, gave-is v r us)
+given-is (took u r us ∷ es) = goes-on gave (took u r us) es ∙ append-nil (each gave (story es)) ∙ given-is es
+
+pub read-is : (es : Log) → each copied (story es) ≡ bytesRead es
+unfolding bytesRead
+read-is [] = refl
+read-is (acted v r us ∷ es) = goes-on copied (acted v r us) es ∙ rw (read-is es)
+read-is (took u r us ∷ es) = goes-on copied (took u r us) es ∙ append-nil (each copied (story es)) ∙ read-is es
+
+pub line-is : (us : List (List ℕ)) → each dataBytes us ≡ bytesOnLine us
+unfolding bytesOnLine
+line-is [] = refl
+line-is (u ∷ us) = ap (λ (r : List ℕ). dataBytes u ++ r) (line-is us)
+
+-- ---- counts
+
+requests-in : (us : List (List ℕ)) → length (each request us) ≡ requestsAmong us
+unfolding requestsAmong
+requests-in [] = refl
+requests-in (u ∷ us) = by (on 0x80 (getD u 2 0)) (requests-in us)
+  where
+    by : (b : Bool) → length (each request us) ≡ requestsAmong us → length (cond b [] (u ∷ []) ++ each request us) ≡ count (not b) + requestsAmong us
+    by true h = omega (arith, h)
+    by false h = omega (arith, h)
+
+more-requests : (e : Seen) (us : List (List ℕ)) (es : Log) → made e ≡ us → length (each request (each made (story es))) ≡ requestsMade es
+    → length (each request (each made (story (e ∷ es)))) ≡ requestsAmong us + requestsMade es
+more-requests e us es m h =
+    ap (λ (x : List (List ℕ)). length (each request x)) (goes-on made e es ∙ ap (λ (x : List (List ℕ)). each made (story es) ++ x) m)
+    ∙ ap length (each-append request (each made (story es)) us)
+    ∙ length-append (each request (each made (story es))) (each request us)
+    ∙ (let r = requests-in us in omega (arith, h, r))
+
+pub requests-are : (es : Log) → length (each request (each made (story es))) ≡ requestsMade es
+unfolding requestsMade
+requests-are [] = refl
+requests-are (acted v r us ∷ es) = more-requests (acted v r us) us es refl (requests-are es)
+requests-are (took u r us ∷ es) = more-requests (took u r us) us es refl (requests-are es)
+
+pub answers-are : (es : Log) → length (each pacingAnswer (story es)) ≡ pacingResponsesTaken es
+unfolding pacingResponsesTaken
+answers-are [] = refl
+answers-are (acted v r us ∷ es) =
+    ap length (goes-on pacingAnswer (acted v r us) es ∙ append-nil (each pacingAnswer (story es))) ∙ answers-are es
+answers-are (took u r us ∷ es) =
+    ap length (goes-on pacingAnswer (took u r us) es)
+    ∙ length-append (each pacingAnswer (story es)) (pacingAnswer (took u r us))
+    ∙ by (eqb (numberOf r) 0 && H.isPacingResponse u) (answers-are es)
+  where
+    by : (b : Bool) → length (each pacingAnswer (story es)) ≡ pacingResponsesTaken es
+        → length (each pacingAnswer (story es)) + length (cond b (u ∷ []) []) ≡ count b + pacingResponsesTaken es
+    by true h = omega (arith, h)
+    by false h = omega (arith, h)
+
+-- ---- takes
+
+abbrev pub NoBreach : ℕ → Type 0
+NoBreach q = 20 ≤ q → q ≤ 29 → ⊥
+
+not-counted : (b : Bool) (n : ℕ) → count b + n ≡ 0 → (b ≡ false) × (n ≡ 0)
+not-counted true n e = absurd (omega (arith, e))
+not-counted false n e = (refl, omega (arith, e))
+
+outside : (q : ℕ) → isBreach q ≡ false → NoBreach q
+outside q e l m = let z : true ≡ false = sym (rw (le-leb 20 q l, le-leb q 29 m)) ∙ e in absurd (let y : _≡_ {A = ℕ} 0 1 = cc in omega arith)
+
+pub no-breach-in : (es : Log) → breaches es ≡ 0 → All NoBreach (each takeNumber (story es))
+unfolding breaches
+no-breach-in [] e = tt
+no-breach-in (acted v r us ∷ es) e =
+    subst (All NoBreach) (sym (goes-on takeNumber (acted v r us) es ∙ append-nil (each takeNumber (story es)))) (no-breach-in es e)
+no-breach-in (took u r us ∷ es) e =
+    let n = not-counted (isBreach (numberOf r)) (breaches es) e in
+    subst (All NoBreach) (sym (goes-on takeNumber (took u r us) es))
+    (all-append NoBreach (each takeNumber (story es)) (numberOf r ∷ []) (no-breach-in es (n .1)) (outside (numberOf r) (n .0), tt))
+
+-- ---- reads
+
+complete-at : (later earlier : Log) → CompleteIsRight (later ++ earlier) → CompleteIsRight earlier
+unfolding CompleteIsRight
+complete-at [] earlier h = h
+complete-at (acted v r us ∷ later) earlier h = complete-at later earlier (h .1)
+complete-at (took u r us ∷ later) earlier h = complete-at later earlier (h .1)
+
+apart-at : (later earlier : Log) → NoneCrosses (later ++ earlier) → NoneCrosses earlier
+unfolding NoneCrosses
+apart-at [] earlier h = h
+apart-at (acted v r us ∷ later) earlier h = apart-at later earlier (h .1)
+apart-at (took u r us ∷ later) earlier h = apart-at later earlier h
+
+and-right : (a b : Bool) → a && b ≡ true → b ≡ true
+and-right true b e = e
+and-right false b e = absurd (let y : _≡_ {A = ℕ} 0 1 = cc in omega arith)
+
+-- what a call says of the record's end, where it stands in the log
+module _ (log later earlier : Log) (v : Verb) (r : Reply) (us : List (List ℕ)) (here : log ≡ later ++ (acted v r us ∷ earlier)) where
+  abbrev until : List ℕ
+  until = each copied (story (acted v r us ∷ earlier))
+
+  said : CompleteIsRight log → r .answer .complete ≡ (not (eqb (r .answer .copied) 0) && ended (walk start until))
+  unfolding CompleteIsRight
+  said h =
+      let c = complete-at later (acted v r us ∷ earlier) (subst CompleteIsRight here h) in
+      c .0 ∙ ap (λ (bs : List ℕ). not (eqb (r .answer .copied) 0) && ended (walk start bs)) (sym (read-is (acted v r us ∷ earlier)))
+
+  pub ends-there : CompleteIsRight log → r .answer .complete ≡ true → ended (walk start until) ≡ true
+  ends-there h e = and-right (not (eqb (r .answer .copied) 0)) (ended (walk start until)) (sym (said h) ∙ e)
+
+  pub says-so : CompleteIsRight log → 0 < r .answer .copied → ended (walk start until) ≡ true → r .answer .complete ≡ true
+  says-so h some e = said h ∙ rw (ne-eqb (r .answer .copied) 0 (λ z. omega (arith, z, some)), e)
+
+  pub none-before : NoneCrosses log → (n : ℕ) → 0 < n → n < r .answer .copied → ended (walk start (each copied (story earlier) ++ take n (r .buffer))) ≡ false
+  unfolding NoneCrosses
+  none-before h n some few =
+      ap (λ (bs : List ℕ). ended (walk start (bs ++ take n (r .buffer)))) (read-is earlier)
+      ∙ apart-at later (acted v r us ∷ earlier) (subst NoneCrosses here h) .0 n some few

@@ -1,0 +1,189 @@
+-- One conversation, with the claim read off it: a bid that is refused, pacing answers that cross, a table cut over three units and by a read, and a way
+-- back that is under way. What the claim says of it is written out in bytes and numbers.
+-- Assumes nothing.
+use Prim.Native.Nat.{ℕ, _+_, _*_}
+use mathlib.Core.Path.{_≡_}
+use mathlib.Core.Bool.{Bool, true, false}
+use mathlib.Core.List.{List, [], _∷_, _++_}
+use Rattle.logical_record.specs.Positions.{start}
+use Rattle.logical_record.specs.Walk.{walk}
+use Rattle.logical_record.specs.declared.Position.the-variants.{Between, AfterFirst, Remaining}
+use Rattle.logical_record.specs.declared.Walked.the-variants.{At}
+use Rattle.control.specs.Tests.{isSend}
+use Rattle.control.specs.declared.State.the-variants.{Send, Receive}
+use Rattle.end.specs.Record.{recordGood, creditOf}
+use Rattle.sides.specs.declared.Session.{Session}
+use Rattle.joined.specs.Joined as J
+use Rattle.joined.specs.Joined.{first, second, act, AllFed, run}
+use Rattle.joined.specs.Ends.{Verb, Buffers, JoinedOpenings, openedBoth, acts, takes}
+use Rattle.joined.specs.Histories.{bytesAccepted, bytesRead, bytesInInbox, bytesOnLine, bytesInSendBuffer, requestsMade, pacingResponsesTaken, breaches, refusedWith, badReads, CompleteIsRight, NoneCrosses}
+use Rattle.joined.specs.Claim.{Pair}
+use Rattle.worked_examples.specs.Stations.{zeros, session, anyRule}
+
+-- ---- the calls
+
+-- W 2 and M 8 each way, inboxes of 32
+abbrev pub speaker : Session
+speaker = session 0 2 8
+
+abbrev pub bidder : Session
+bidder = session 1 2 8
+
+abbrev pub lent : Buffers
+lent = record { send = zeros 8; unit = zeros 13; inbox = zeros 32 }
+
+abbrev pub ends : Pair
+ends = openedBoth speaker bidder lent lent
+
+-- the table that goes out, as it is given
+abbrev pub table1 : List ℕ
+table1 = 0x00 ∷ 0x14 ∷ 0x01 ∷ 0x02 ∷ 0x03 ∷ 0x04 ∷ 0x05 ∷ 0x06 ∷ []
+
+abbrev pub table2 : List ℕ
+table2 = 0x07 ∷ 0x08 ∷ 0x09 ∷ 0x0A ∷ 0x0B ∷ 0x0C ∷ 0x0D ∷ 0x0E ∷ []
+
+abbrev pub table3 : List ℕ
+table3 = 0x0F ∷ 0x10 ∷ 0x11 ∷ 0x12 ∷ []
+
+-- and what comes back: three records and the beginning of a fourth
+abbrev pub reply1 : List ℕ
+reply1 = 0x00 ∷ 0x06 ∷ 0x20 ∷ 0x21 ∷ 0x22 ∷ 0x23 ∷ []
+
+abbrev pub reply2 : List ℕ
+reply2 = 0x00 ∷ 0x05 ∷ 0x30 ∷ 0x31 ∷ 0x32 ∷ []
+
+abbrev pub reply3 : List ℕ
+reply3 = 0x00 ∷ 0x02 ∷ []
+
+abbrev pub reply4 : List ℕ
+reply4 = 0x2B ∷ 0x01 ∷ 0x02 ∷ 0x03 ∷ 0x04 ∷ 0x05 ∷ 0x06 ∷ 0x07 ∷ 0x08 ∷ []
+
+abbrev pub calls : List (J.At Verb)
+calls =
+    second (act Verb.allocate)
+    ∷ first (act Verb.allocate)
+    ∷ first (act (Verb.sendData table1))
+    ∷ first (act (Verb.sendData table2))
+    ∷ first J.take
+    ∷ first (act Verb.pace)
+    ∷ second J.take
+    ∷ second (act Verb.pace)
+    ∷ second (act (Verb.receive (zeros 5)))
+    ∷ first (act (Verb.sendData table3))
+    ∷ first J.take
+    ∷ first (act (Verb.prepareToReceive false))
+    ∷ second J.take
+    ∷ second J.take
+    ∷ second J.take
+    ∷ second J.take
+    ∷ second (act (Verb.receive (zeros 32)))
+    ∷ second (act (Verb.receive (zeros 32)))
+    ∷ second (act (Verb.sendData (0x00 ∷ 0x06 ∷ 0x20 ∷ 0x21 ∷ 0x22 ∷ 0x23 ∷ 0x00 ∷ 0x05 ∷ [])))
+    ∷ second (act (Verb.sendData (0x30 ∷ 0x31 ∷ 0x32 ∷ 0x00 ∷ 0x02 ∷ 0x2B ∷ [])))
+    ∷ first J.take
+    ∷ first (act (Verb.receive (zeros 64)))
+    ∷ second (act (Verb.sendData (0x01 ∷ 0x02 ∷ 0x03 ∷ 0x04 ∷ 0x05 ∷ 0x06 ∷ 0x07 ∷ 0x08 ∷ [])))
+    ∷ []
+
+-- the same calls at each end, in another order between the ends
+abbrev pub reordered : List (J.At Verb)
+reordered =
+    first (act Verb.allocate)
+    ∷ first (act (Verb.sendData table1))
+    ∷ first (act (Verb.sendData table2))
+    ∷ second (act Verb.allocate)
+    ∷ second J.take
+    ∷ second (act Verb.pace)
+    ∷ first J.take
+    ∷ second (act (Verb.receive (zeros 5)))
+    ∷ first (act Verb.pace)
+    ∷ first (act (Verb.sendData table3))
+    ∷ second J.take
+    ∷ first J.take
+    ∷ second J.take
+    ∷ second J.take
+    ∷ first (act (Verb.prepareToReceive false))
+    ∷ second J.take
+    ∷ second (act (Verb.receive (zeros 32)))
+    ∷ second (act (Verb.receive (zeros 32)))
+    ∷ second (act (Verb.sendData (0x00 ∷ 0x06 ∷ 0x20 ∷ 0x21 ∷ 0x22 ∷ 0x23 ∷ 0x00 ∷ 0x05 ∷ [])))
+    ∷ second (act (Verb.sendData (0x30 ∷ 0x31 ∷ 0x32 ∷ 0x00 ∷ 0x02 ∷ 0x2B ∷ [])))
+    ∷ second (act (Verb.sendData (0x01 ∷ 0x02 ∷ 0x03 ∷ 0x04 ∷ 0x05 ∷ 0x06 ∷ 0x07 ∷ 0x08 ∷ [])))
+    ∷ first J.take
+    ∷ first (act (Verb.receive (zeros 64)))
+    ∷ []
+
+abbrev pub talked : Pair
+talked = run acts (takes anyRule) ends calls
+
+-- ---- what happened, by computation
+
+pub record Happened : Type 0 where
+  pub given-out : bytesAccepted (talked .one .log) ≡ table1 ++ (table2 ++ table3)
+  pub read-out : bytesRead (talked .two .log) ≡ table1 ++ (table2 ++ table3)
+  pub given-back : bytesAccepted (talked .two .log) ≡ reply1 ++ (reply2 ++ (reply3 ++ reply4))
+  -- back: one record is read; two bytes are in the inbox, a unit of eight on the line, six bytes in the send buffer
+  pub read-back : bytesRead (talked .one .log) ≡ reply1
+  pub inbox-back : bytesInInbox (talked .one .end) ≡ 0x00 ∷ 0x05 ∷ []
+  pub line-back : bytesOnLine (talked .one .waiting) ≡ 0x30 ∷ 0x31 ∷ 0x32 ∷ 0x00 ∷ 0x02 ∷ 0x2B ∷ 0x01 ∷ 0x02 ∷ []
+  pub held-back : bytesInSendBuffer (talked .two .end) ≡ 0x03 ∷ 0x04 ∷ 0x05 ∷ 0x06 ∷ 0x07 ∷ 0x08 ∷ []
+  -- at each end: the requests made, the credit left, the pacing answers taken
+  pub counts-one : (requestsMade (talked .one .log) ≡ 3) × (creditOf (talked .one .end .end) ≡ 1) × (pacingResponsesTaken (talked .one .log) ≡ 1)
+  pub counts-two : (requestsMade (talked .two .log) ≡ 3) × (creditOf (talked .two .end .end) ≡ 1) × (pacingResponsesTaken (talked .two .log) ≡ 1)
+  -- the bidder has the turn, the first speaker waits
+  pub state-one : talked .one .end .end .control .state ≡ Receive
+  pub state-two : talked .two .end .end .control .state ≡ Send
+
+-- ---- what the claim asks, by computation
+
+pub record Asked : Type 0 where
+  pub openings : JoinedOpenings speaker bidder lent lent
+  pub fed : AllFed acts (takes anyRule) ends calls
+  pub fed-reordered : AllFed acts (takes anyRule) ends reordered
+
+-- ---- what the claim says, in bytes and numbers
+
+pub record Said : Type 0 where
+  pub not-both : isSend Receive ≡ true → isSend Send ≡ true → ⊥
+  pub no-breach-one : breaches (talked .one .log) ≡ 0
+  pub no-breach-two : breaches (talked .two .log) ≡ 0
+  -- read, in the inbox, on the line, in the send buffer
+  pub bytes-out : table1 ++ (table2 ++ table3) ≡ (table1 ++ (table2 ++ table3)) ++ ([] ++ ([] ++ []))
+  pub bytes-back :
+      reply1 ++ (reply2 ++ (reply3 ++ reply4))
+      ≡ reply1
+      ++ ((0x00 ∷ 0x05 ∷ [])
+      ++ ((0x30 ∷ 0x31 ∷ 0x32 ∷ 0x00 ∷ 0x02 ∷ 0x2B ∷ 0x01 ∷ 0x02 ∷ [])
+      ++ (0x03 ∷ 0x04 ∷ 0x05 ∷ 0x06 ∷ 0x07 ∷ 0x08 ∷ [])))
+  -- three requests and one answer at each end, W 2: one credit is left
+  pub credit-one : 3 + 1 ≡ 2 * (1 + 1)
+  pub credit-two : 3 + 1 ≡ 2 * (1 + 1)
+  -- the same outcome
+  pub same : talked ≡ run acts (takes anyRule) ends reordered
+  -- the records read are the first of those given
+  pub to-come-out : List (List ℕ)
+  pub records-out : (table1 ++ (table2 ++ table3)) ∷ [] ≡ ((table1 ++ (table2 ++ table3)) ∷ []) ++ to-come-out
+  pub to-come-back : List (List ℕ)
+  pub records-back : reply1 ∷ reply2 ∷ reply3 ∷ [] ≡ (reply1 ∷ []) ++ to-come-back
+  -- the places: the fourth record given is unfinished; the second is begun in the inbox
+  pub given-two : walk start (reply1 ++ (reply2 ++ (reply3 ++ reply4))) ≡ At (Remaining 11000)
+  pub read-one : walk start reply1 ≡ At Between
+  pub inbox-one : walk Between (0x00 ∷ 0x05 ∷ []) ≡ At (Remaining 3)
+  pub given-one : walk start (table1 ++ (table2 ++ table3)) ≡ At Between
+  pub read-two : walk start (table1 ++ (table2 ++ table3)) ≡ At Between
+  pub complete-one : CompleteIsRight (talked .one .log)
+  pub complete-two : CompleteIsRight (talked .two .log)
+  pub apart-one : NoneCrosses (talked .one .log)
+  pub apart-two : NoneCrosses (talked .two .log)
+  pub never-8-one : badReads (talked .one .log) ≡ 0
+  pub never-8-two : badReads (talked .two .log) ≡ 0
+  -- question 5
+  pub good-one : recordGood (talked .one .end .end) ≡ true
+  pub good-two : recordGood (talked .two .end .end) ≡ true
+  pub never-5-one : refusedWith 5 (talked .one .log) ≡ 0
+  pub never-5-two : refusedWith 5 (talked .two .log) ≡ 0
+
+pub record OneConversation : Type 0 where
+  pub happened : Happened
+  pub asked : Asked
+  pub said : Said

@@ -1,0 +1,2 @@
+pub mod OtherWords
+pub mod Conversation

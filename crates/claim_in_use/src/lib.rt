@@ -1,0 +1,24 @@
+// The claim about two joined ends put to use: said once more in other words, and read off one conversation. The functions do nothing
+// but call those that carry the claim; their contracts follow from the contracts of these.
+use joined::always_good;
+use joined::joined_ends;
+use joined::the_records;
+ghost use Rattle.claim_in_use.specs.Conversation.{OneConversation};
+ghost use Rattle.claim_in_use.specs.OtherWords.{InOtherWords};
+
+// The claim in other words, of every two sessions and every list of calls.
+pub fn in_other_words()
+    ensures { λ _. ⌜ InOtherWords ⌝ }
+{
+    joined_ends();
+    the_records();
+}
+
+// The claim of one conversation and of one other order of its calls, in bytes and numbers.
+pub fn one_conversation()
+    ensures { λ _. ⌜ OneConversation ⌝ }
+{
+    joined_ends();
+    the_records();
+    always_good();
+}
