@@ -1,5 +1,5 @@
 -- Forged units, W 3 and M 64 unless said: for each of 20 to 29 units that are refused with that number and its sense, in the order in which document
--- 01 asks. Beside them stand units that are taken at the same end. Before all of them, 13 under an unread mark.
+-- 01 asks. Beside them stand units that are taken there. 13, under an unread mark, comes before all of them.
 -- Assumes nothing.
 use Prim.Native.Nat.{ℕ}
 use mathlib.Core.Path.{_≡_, refl}
@@ -10,7 +10,7 @@ use Rattle.control.specs.declared.State.{State}
 use Rattle.control.specs.declared.State.the-variants.{Reset, Send, Receive, ConfirmOwed, ConfirmAwaited}
 use Rattle.joined.specs.Ends.{Station, Verb, takes, plain}
 use Rattle.worked_examples.specs.Computed.{computed}
-use Rattle.worked_examples.specs.Stations.{zeros, firstSpeaker, bidder, after, takeRefuses, afterTaking, shortestRecord, secondUnit, thirdUnit, aBid, aPacingAnswer, sending, oneSent, hasBid, receiving}
+use Rattle.worked_examples.specs.Stations.{zeros, firstSpeaker, bidder, after, takeRefuses, afterTaking, shortestRecord, firstUnit, secondUnit, thirdUnit, aBid, aPacingAnswer, sending, oneSent, hasBid, receiving}
 
 -- a take of u at s is refused with this number and sense, whatever rule 21 would name: the record and every lent cell are as before, no unit is
 -- made, and u stays on its line
@@ -30,9 +30,12 @@ Accepted s u = takeRefuses s u ≡ 0
 
 -- ---- the ends
 
--- a bidder that has taken the first unit of a chain, not last
+-- a bidder that has taken the first unit of a chain, not last; and a first speaker that has, once it granted a bid
 abbrev pub inChain : Station
 inChain = afterTaking (bidder 3 64) ((0x00 ∷ 0x01 ∷ 0x02 ∷ 0x91 ∷ 0x80 ∷ 0x00 ∷ 0x02 ∷ []) ∷ [])
+
+abbrev pub speakerInChain : Station
+speakerInChain = afterTaking (firstSpeaker 3 64) (aBid ∷ (0x00 ∷ 0x02 ∷ 0x02 ∷ 0x90 ∷ 0x00 ∷ 0x00 ∷ 0x02 ∷ []) ∷ [])
 
 -- a bidder that has taken a whole window: open is 0; and once it has read all and paced
 abbrev pub noneOpen : Station
@@ -54,6 +57,10 @@ waits = after sending (Verb.sendData shortestRecord ∷ Verb.confirm ∷ [])
 -- a bidder that has taken a unit with CD and has not read it: the mark is turn
 abbrev pub marked : Station
 marked = afterTaking (bidder 3 64) ((0x00 ∷ 0x01 ∷ 0x03 ∷ 0x91 ∷ 0xA0 ∷ 0x00 ∷ 0x02 ∷ []) ∷ [])
+
+-- the first data unit but for BB
+abbrev pub withoutBB : List ℕ
+withoutBB = 0x00 ∷ 0x01 ∷ 0x03 ∷ 0x91 ∷ 0x00 ∷ 0x00 ∷ 0x02 ∷ []
 
 abbrev pub stateOf : Station → State
 stateOf s = s .end .control .state
@@ -94,12 +101,13 @@ pub record Breaches : Type 0 where
   pub first-in-chain : Refused inChain secondUnit 24 0x20020000
   pub last-in-chain : Accepted inChain (0x00 ∷ 0x02 ∷ 0x01 ∷ 0x90 ∷ 0x00 ∷ 0x00 ∷ 0x02 ∷ [])
   pub no-first : Refused receiving (0x00 ∷ 0x02 ∷ 0x01 ∷ 0x90 ∷ 0x00 ∷ 0x00 ∷ 0x02 ∷ []) 24 0x20020000
-  pub bid-in-chain : Refused inChain (0x00 ∷ 0x02 ∷ 0x4B ∷ 0x80 ∷ 0x80 ∷ 0x04 ∷ 0x00 ∷ 0x06 ∷ 0x00 ∷ 0x00 ∷ []) 24 0x20020000
+  pub bid-in-chain : Refused speakerInChain (0x00 ∷ 0x03 ∷ 0x4B ∷ 0x80 ∷ 0x80 ∷ 0x04 ∷ 0x00 ∷ 0x06 ∷ 0x00 ∷ 0x00 ∷ []) 24 0x20020000
   -- is a bid at role 0 only, and data's BB on exactly at a bidder in Reset?
   pub bid-at-bidder : Refused (bidder 3 64) aBid 25 0x20030000
   pub bb-in-receive : Refused receiving (0x00 ∷ 0x02 ∷ 0x03 ∷ 0x90 ∷ 0x80 ∷ 0x00 ∷ 0x02 ∷ []) 25 0x20030000
-  pub bb-at-speaker : Refused (firstSpeaker 3 64) (0x00 ∷ 0x01 ∷ 0x03 ∷ 0x91 ∷ 0x80 ∷ 0x00 ∷ 0x02 ∷ []) 25 0x20030000
-  pub no-bb-in-reset : Refused (bidder 3 64) (0x00 ∷ 0x01 ∷ 0x03 ∷ 0x91 ∷ 0x00 ∷ 0x00 ∷ 0x02 ∷ []) 25 0x20030000
+  pub bb-at-speaker : Refused (firstSpeaker 3 64) firstUnit 25 0x20030000
+  pub bb-in-reset : Accepted (bidder 3 64) firstUnit
+  pub no-bb-in-reset : Refused (bidder 3 64) withoutBB 25 0x20030000
   -- data: is the state Receive, or Reset made Receive by BB? In each of the other states
   pub states :
       (stateOf (firstSpeaker 3 64) ≡ Reset)
@@ -107,10 +115,10 @@ pub record Breaches : Type 0 where
       × (stateOf receiving ≡ Receive)
       × (stateOf owes ≡ ConfirmOwed)
       × (stateOf waits ≡ ConfirmAwaited)
-  pub data-in-reset : Refused (firstSpeaker 3 64) (0x00 ∷ 0x01 ∷ 0x03 ∷ 0x91 ∷ 0x00 ∷ 0x00 ∷ 0x02 ∷ []) 26 0x20040000
-  pub data-in-send : Refused sending (0x00 ∷ 0x01 ∷ 0x03 ∷ 0x91 ∷ 0x00 ∷ 0x00 ∷ 0x02 ∷ []) 26 0x20040000
+  pub data-in-reset : Refused (firstSpeaker 3 64) withoutBB 26 0x20040000
+  pub data-in-send : Refused sending withoutBB 26 0x20040000
   pub data-in-owes : Refused owes secondUnit 26 0x20040000
-  pub data-in-waits : Refused waits (0x00 ∷ 0x01 ∷ 0x03 ∷ 0x91 ∷ 0x00 ∷ 0x00 ∷ 0x02 ∷ []) 26 0x20040000
+  pub data-in-waits : Refused waits withoutBB 26 0x20040000
   -- is every LL good, and the record whole at a mark?
   pub length-1 : Refused receiving (0x00 ∷ 0x02 ∷ 0x03 ∷ 0x90 ∷ 0x00 ∷ 0x00 ∷ 0x01 ∷ []) 29 0
   pub part-at-mark : Refused receiving (0x00 ∷ 0x02 ∷ 0x03 ∷ 0x90 ∷ 0x20 ∷ 0x00 ∷ 0x05 ∷ 0x41 ∷ []) 29 0
@@ -171,6 +179,7 @@ breached =
       bid-at-bidder = λ naming. refl;
       bb-in-receive = λ naming. refl;
       bb-at-speaker = λ naming. refl;
+      bb-in-reset = refl;
       no-bb-in-reset = λ naming. refl;
       states = (refl, refl, refl, refl, refl);
       data-in-reset = λ naming. refl;

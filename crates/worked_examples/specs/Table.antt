@@ -11,6 +11,7 @@ use Rattle.logical_record.specs.declared.Position.the-variants.{Between}
 use Rattle.header.specs.Rules.{bytes, keeps, breaks, ruleNumber, headerGood}
 use Rattle.header.specs.declared.Rule.{Rule}
 use Rattle.header.specs.declared.Rule.the-variants.{H1, H2, H3, H4, H5, H6}
+use Rattle.unit.specs.Unit.{headerIn}
 use Rattle.control.specs.Parts.{setState}
 use Rattle.control.specs.declared.State.the-variants.{ConfirmOwed}
 use Rattle.control.specs.declared.WhatReceived.the-variants as mark
@@ -100,7 +101,7 @@ pub record Table : Type 0 where
   pub breaks-no-other : (n : ℕ) → NamesBroken n (bytes 0x03 0x90 0x21) → n ≡ 5
   pub bad-header :
       (naming : List ℕ → ℕ)
-      → NamesBroken (naming badUnit) (bytes 0x03 0x90 0x21)
+      → NamesBroken (naming badUnit) (headerIn badUnit)
       → takes naming receiving badUnit .answer .answer .answer ≡ record { refusal = 21; sense = 0; rule = 5; unit = 0 }
   -- LL 00 02 given: accepted, a whole record; the place is between records, and the end carries the record
   pub good-length : refuses sending (Verb.sendData length2) ≡ 0
