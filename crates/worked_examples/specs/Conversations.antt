@@ -2,41 +2,18 @@
 -- Assumes nothing.
 use Prim.Native.Nat.{ℕ}
 use mathlib.Core.Path.{_≡_, refl}
-use mathlib.Core.Bool.{Bool, true, false}
+use mathlib.Core.Bool.{true, false}
 use mathlib.Core.List.{List, [], _∷_, _++_}
-use Rattle.cells.specs.Cells.{front, written}
-use Rattle.logical_record.specs.Walk.{thenWalk}
-use Rattle.logical_record.specs.Records.{wholeRecords, recordsFrom}
-use Rattle.header.specs.Rules.{headerGood}
-use Rattle.header.specs.Header.{headerBytes, fieldsOf}
-use Rattle.cells.specs.Equal.{sameBytes}
-use Rattle.unit.specs.Ru.{ruGood}
-use Rattle.unit.specs.Unit.{unitBytes, unitOf}
-use Rattle.pacing.specs.Pacing.{credit, advanced, answered}
-use Rattle.control.specs.Within.{controlGood}
-use Rattle.transitions.specs.Transitions.{allocated, spilled, closed, confirmationMade, markAnswered, dataTaken, bidTaken, grantTaken, refusalTaken, confirmationTaken}
+use Rattle.logical_record.specs.Records.{wholeRecords}
 use Rattle.control.specs.declared.State.{State}
-use Rattle.control.specs.declared.State.the-variants.{Reset, Send, Receive, ConfirmOwed, ConfirmAwaited}
-use Rattle.sides.specs.Sending.{sendingGood}
-use Rattle.sides.specs.Receiving.{receivingGood}
-use Rattle.end.specs.Record.{recordGood, creditOf}
-use Rattle.sides.specs.Sending.{requestMade}
-use Rattle.sides.specs.Receiving.{requestTaken}
-use Rattle.end.specs.Requests.{dataHeader}
-use Rattle.sides.specs.Opening.{openingRefusal}
-use Rattle.session.specs.Opening.{opened}
-use Rattle.end.specs.Allocate.{allocateRefusal, bidMade, allocateDecision, allocate}
-use Rattle.end.specs.SendData.{sendRefusal, bytesKept, bytesSpilled, sendDecision, sendCells, sendData}
-use Rattle.end.specs.Close.{closeRefusal, lastMade, closeDecision, close}
-use Rattle.end.specs.Confirmed.{confirmedRefusal, confirmedDecision, confirmed}
-use Rattle.end.specs.ReceiveUnit.{takeRefusal, dataJoined, bidAnswered, creditRaised, takeDecision, inboxCells, receiveUnit}
-use Rattle.end.specs.Receive.{readRefusal, copyCount, bytesRead, markRead, readDecision, inboxMoved, receive}
-use Rattle.end.specs.Pace.{paceRefusal, paceDecision, pace}
-use Rattle.joined.specs.Joined.{At, first, second, Call, act, take, Event, acted, took, Side, Both}
-use Rattle.joined.specs.Ends.{Station, Verb, Reply, acts, takes, refusalIn, openedBoth}
+use Rattle.control.specs.declared.State.the-variants.{Reset, Send, Receive}
+use Rattle.end.specs.Record.{creditOf}
+use Rattle.joined.specs.Joined.{At, first, second, act, take, acted, took, Side, Both}
+use Rattle.joined.specs.Ends.{Station, Verb, Reply, refusalIn, openedBoth}
 use Rattle.joined.specs.Histories as H
-use Rattle.joined.specs.Histories.{Log, bytesAccepted, pacingResponsesTaken, requestsMade, breaches}
-use Rattle.worked_examples.specs.Stations.{zeros, session, buffers, joined, runs}
+use Rattle.joined.specs.Histories.{Log, pacingResponsesTaken, requestsMade}
+use Rattle.worked_examples.specs.Computed.{computed}
+use Rattle.worked_examples.specs.Stations.{zeros, session, joined, runs}
 
 -- the refusal numbers of an end's calls, in order
 abbrev pub numbers : Log → List ℕ
@@ -173,7 +150,7 @@ pub record Conversations : Type 0 where
   pub confirm-turn : ConfirmTurn
 
 pub held : Conversations
-unfolding front written thenWalk recordsFrom headerGood headerBytes fieldsOf sameBytes ruGood unitBytes unitOf credit advanced answered controlGood allocated spilled closed confirmationMade markAnswered dataTaken bidTaken grantTaken refusalTaken confirmationTaken sendingGood receivingGood recordGood requestMade requestTaken dataHeader openingRefusal opened allocateRefusal bidMade allocateDecision allocate sendRefusal bytesKept bytesSpilled sendDecision sendCells sendData closeRefusal lastMade closeDecision close confirmedRefusal confirmedDecision confirmed takeRefusal dataJoined bidAnswered creditRaised takeDecision inboxCells receiveUnit readRefusal copyCount bytesRead markRead readDecision inboxMoved receive paceRefusal paceDecision pace acts takes H.bytesRead bytesAccepted pacingResponsesTaken requestsMade H.requestsAmong breaches
+unfolding computed
 held =
     record {
       race =

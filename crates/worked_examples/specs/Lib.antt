@@ -1,3 +1,6 @@
+pub mod Computed
 pub mod Stations
 pub mod Table
+pub mod Breaches
+pub mod Further
 pub mod Conversations

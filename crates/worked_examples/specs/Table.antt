@@ -1,49 +1,26 @@
 -- Document 01's table 'Proved examples', a row a field, W 3 and M 64 unless said. One statement, proved by computation.
 -- Assumes nothing.
 use Prim.Native.Nat.{ℕ}
-use mathlib.Core.Path.{_≡_, refl}
+use mathlib.Core.Path.{_≡_, refl, sym, ap, subst, _∙_}
 use mathlib.Core.Bool.{Bool, true, false}
 use mathlib.Core.List.{List, [], _∷_}
+use lib.Dec.{T}
 use lib.ListN.{take}
-use Rattle.cells.specs.Cells.{front, written}
-use Rattle.logical_record.specs.Walk.{thenWalk}
-use Rattle.header.specs.Rules.{bytes, keeps, headerGood}
-use Rattle.header.specs.Header.{headerBytes, fieldsOf}
-use Rattle.cells.specs.Equal.{sameBytes}
-use Rattle.unit.specs.Ru.{ruGood}
-use Rattle.unit.specs.Unit.{unitBytes, unitOf}
+use Rattle.logical_record.specs.Records.{wholeRecords}
+use Rattle.logical_record.specs.declared.Position.the-variants.{Between}
+use Rattle.header.specs.Rules.{bytes, keeps, breaks, ruleNumber, headerGood}
+use Rattle.header.specs.declared.Rule.{Rule}
 use Rattle.header.specs.declared.Rule.the-variants.{H1, H2, H3, H4, H5, H6}
-use Rattle.header.specs.declared.Follows.the-variants.{Stay}
-use Rattle.pacing.specs.Pacing.{credit, advanced, answered}
-use Rattle.control.specs.Within.{controlGood}
+use Rattle.unit.specs.Unit.{headerIn}
 use Rattle.control.specs.Parts.{setState}
-use Rattle.transitions.specs.Transitions.{allocated, spilled, closed, confirmationMade, markAnswered, dataTaken, bidTaken, grantTaken, refusalTaken, confirmationTaken}
 use Rattle.control.specs.declared.State.the-variants.{ConfirmOwed}
-use Rattle.sides.specs.Sending.{sendingGood}
-use Rattle.sides.specs.Receiving.{receivingGood}
-use Rattle.end.specs.Record.{recordGood}
-use Rattle.sides.specs.Sending.{requestMade}
-use Rattle.sides.specs.Receiving.{requestTaken}
-use Rattle.end.specs.Requests.{dataHeader}
+use Rattle.control.specs.declared.WhatReceived.the-variants as mark
 use Rattle.end.specs.Outcome.{withControl, withOwed}
-use Rattle.sides.specs.Opening.{openingRefusal}
-use Rattle.session.specs.Opening.{opened}
-use Rattle.end.specs.Allocate.{allocateRefusal, bidMade, allocateDecision, allocate}
-use Rattle.end.specs.SendData as S
-use Rattle.end.specs.SendData.{sendRefusal, bytesKept, bytesSpilled, sendDecision, sendCells, sendData}
-use Rattle.end.specs.Close.{closeRefusal, lastMade, closeDecision, close}
-use Rattle.end.specs.Confirmed.{confirmedRefusal, confirmedDecision, confirmed}
-use Rattle.end.specs.ReceiveUnit.{takeRefusal, dataJoined, bidAnswered, creditRaised, takeDecision, inboxCells, receiveUnit}
-use Rattle.end.specs.Receive.{readRefusal, copyCount, bytesRead, markRead, readDecision, inboxMoved, receive}
-use Rattle.end.specs.Pace.{paceRefusal, paceDecision, pace}
-use Rattle.joined.specs.Joined.{Took}
-use Rattle.joined.specs.Ends as J
-use Rattle.joined.specs.Ends.{Station, Verb, Reply, acts, takes}
-use Rattle.worked_examples.specs.Stations.{zeros, firstSpeaker, bidder, after, makes, refuses, taking}
-
--- the unit of the first row
-abbrev pub aBid : List ℕ
-aBid = 0x00 ∷ 0x01 ∷ 0x4B ∷ 0x81 ∷ 0x80 ∷ 0x04 ∷ 0x00 ∷ 0x06 ∷ 0x00 ∷ 0x00 ∷ []
+use Rattle.end.specs.RuleNamed.{NamesBroken}
+use Rattle.joined.specs.Ends.{Station, Verb, acts, takes}
+use Rattle.joined.specs.Histories.{bytesInSendBuffer}
+use Rattle.worked_examples.specs.Computed.{computed}
+use Rattle.worked_examples.specs.Stations.{zeros, firstSpeaker, bidder, after, makes, refuses, taking, takeRefuses, shortestRecord, flushed, aBid, sending, receiving}
 
 -- a record in Owes, stay, number owed 7
 abbrev pub owing : Station
@@ -60,18 +37,27 @@ eightGiven =
 abbrev pub twoMore : Verb
 twoMore = Verb.sendData (0x37 ∷ 0x38 ∷ [])
 
--- in Send, nothing given
-abbrev pub sending : Station
-sending = after (firstSpeaker 3 64) (Verb.allocate ∷ [])
+-- second units at a bidder, empty: the header 03 90 20, and 03 90 21
+abbrev pub goodUnit : List ℕ
+goodUnit = 0x00 ∷ 0x02 ∷ 0x03 ∷ 0x90 ∷ 0x20 ∷ []
 
--- a record of LL alone, given and flushed
-abbrev pub anEmptyRecord : List Verb
-anEmptyRecord = Verb.sendData (0x00 ∷ 0x02 ∷ []) ∷ Verb.flush ∷ []
+abbrev pub badUnit : List ℕ
+badUnit = 0x00 ∷ 0x02 ∷ 0x03 ∷ 0x90 ∷ 0x21 ∷ []
+
+-- an LL alone: 2, and 1
+abbrev pub length2 : List ℕ
+length2 = 0x00 ∷ 0x02 ∷ []
+
+abbrev pub length1 : List ℕ
+length1 = 0x00 ∷ 0x01 ∷ []
+
+abbrev pub length2Given : Station
+length2Given = after sending (Verb.sendData length2 ∷ [])
 
 -- W 2: two units have gone, and bytes for a third are held
 abbrev pub twoGone : Station
 twoGone =
-    after (after (after (firstSpeaker 2 64) (Verb.allocate ∷ [])) anEmptyRecord) (Verb.sendData (0x00 ∷ 0x02 ∷ []) ∷ Verb.flush ∷ Verb.sendData (0x00 ∷ 0x02 ∷ []) ∷ [])
+    after (after (after (after (firstSpeaker 2 64) (Verb.allocate ∷ [])) flushed) flushed) (Verb.sendData shortestRecord ∷ [])
 
 -- a bidder whose inbox holds 00 05 41 42 43 00, by a take
 abbrev pub holding : Station
@@ -106,19 +92,24 @@ pub record Table : Type 0 where
       ≡ (0x00 ∷ 0x01 ∷ 0x02 ∷ 0x91 ∷ 0x80 ∷ 0x00 ∷ 0x0A ∷ 0x31 ∷ 0x32 ∷ 0x33 ∷ 0x34 ∷ 0x35 ∷ 0x36 ∷ []) ∷ []
   -- then confirm
   pub confirm : makes (after eightGiven (twoMore ∷ [])) Verb.confirm ≡ (0x00 ∷ 0x02 ∷ 0x01 ∷ 0x20 ∷ 0x00 ∷ 0x37 ∷ 0x38 ∷ []) ∷ []
-  -- header 03 90 20 is good; 03 90 21 is refused with 21, and breaks H5 alone
+  -- header 03 90 20 is good: a unit of it is taken where it fits, and leaves the mark of a turn
   pub good-header : headerGood (bytes 0x03 0x90 0x20) ≡ true
-  pub bad-header : taking (bidder 3 64) (0x00 ∷ 0x01 ∷ 0x03 ∷ 0x90 ∷ 0x21 ∷ []) .answer .answer .answer .refusal ≡ 21
-  pub breaks-H5 : keeps H5 (bytes 0x03 0x90 0x21) ≡ false
-  pub breaks-no-other :
-      (keeps H1 (bytes 0x03 0x90 0x21) ≡ true)
-      × (keeps H2 (bytes 0x03 0x90 0x21) ≡ true)
-      × (keeps H3 (bytes 0x03 0x90 0x21) ≡ true)
-      × (keeps H4 (bytes 0x03 0x90 0x21) ≡ true)
-      × (keeps H6 (bytes 0x03 0x90 0x21) ≡ true)
-  -- LL 00 02 given: a whole record, so that an end is not refused; LL 00 01 given: 8
-  pub whole-record : refuses (after sending (Verb.sendData (0x00 ∷ 0x02 ∷ []) ∷ [])) (Verb.deallocate false) ≡ 0
-  pub bad-length : refuses sending (Verb.sendData (0x00 ∷ 0x01 ∷ [])) ≡ 8
+  pub good-taken : takeRefuses receiving goodUnit ≡ 0
+  pub good-mark : taking receiving goodUnit .end .end .control .mark ≡ mark.Turn
+  -- header 03 90 21, there: it breaks H5 and no other rule, so that a rule named as promised (`NamesBroken`) is 5; the answer is 21, H5
+  pub breaks-H5 : NamesBroken 5 (bytes 0x03 0x90 0x21)
+  pub breaks-no-other : (n : ℕ) → NamesBroken n (bytes 0x03 0x90 0x21) → n ≡ 5
+  pub bad-header :
+      (naming : List ℕ → ℕ)
+      → NamesBroken (naming badUnit) (headerIn badUnit)
+      → takes naming receiving badUnit .answer .answer .answer ≡ record { refusal = 21; sense = 0; rule = 5; unit = 0 }
+  -- LL 00 02 given: accepted, a whole record; the place is between records, and the end carries the record
+  pub good-length : refuses sending (Verb.sendData length2) ≡ 0
+  pub whole-record : wholeRecords (bytesInSendBuffer length2Given) ≡ (0x00 ∷ 0x02 ∷ []) ∷ []
+  pub whole-place : length2Given .end .sending .given ≡ Between
+  pub whole-carried : makes length2Given (Verb.deallocate false) ≡ (0x00 ∷ 0x01 ∷ 0x03 ∷ 0x91 ∷ 0x81 ∷ 0x00 ∷ 0x02 ∷ []) ∷ []
+  -- LL 00 01 given: 8
+  pub bad-length : refuses sending (Verb.sendData length1) ≡ 8
   -- W 2: third unit before a pacing answer
   pub no-credit : refuses twoGone Verb.flush ≡ 10
   -- inbox 00 05 41 42 43 00, read 4, 4, 4
@@ -129,8 +120,21 @@ pub record Table : Type 0 where
   pub read-third : copied (after holding (read4 ∷ read4 ∷ [])) read4 ≡ 0x00 ∷ []
   pub not-complete-again : complete (after holding (read4 ∷ read4 ∷ [])) read4 ≡ false
 
+-- of the six rules only H5 is broken by 03 90 21
+only-H5 : (r : Rule) → breaks r (bytes 0x03 0x90 0x21) ≡ true → ruleNumber r ≡ 5
+unfolding keeps
+only-H5 H1 e = absurd (subst T (sym e) tt)
+only-H5 H2 e = absurd (subst T (sym e) tt)
+only-H5 H3 e = absurd (subst T (sym e) tt)
+only-H5 H4 e = absurd (subst T (sym e) tt)
+only-H5 H5 e = refl
+only-H5 H6 e = absurd (subst T (sym e) tt)
+
+names-5 : (n : ℕ) → NamesBroken n (bytes 0x03 0x90 0x21) → n ≡ 5
+names-5 n b = b .number-is ∙ only-H5 (b .rule) (b .is-broken)
+
 pub proved : Table
-unfolding front written thenWalk keeps headerGood headerBytes fieldsOf sameBytes ruGood unitBytes unitOf credit advanced answered controlGood allocated spilled closed confirmationMade markAnswered dataTaken bidTaken grantTaken refusalTaken confirmationTaken sendingGood receivingGood recordGood requestMade requestTaken dataHeader openingRefusal opened allocateRefusal bidMade allocateDecision allocate sendRefusal bytesKept bytesSpilled sendDecision sendCells sendData closeRefusal lastMade closeDecision close confirmedRefusal confirmedDecision confirmed takeRefusal dataJoined bidAnswered creditRaised takeDecision inboxCells receiveUnit readRefusal copyCount bytesRead markRead readDecision inboxMoved receive paceRefusal paceDecision pace acts takes
+unfolding computed
 proved =
     record {
       bid = refl;
@@ -141,10 +145,15 @@ proved =
       cut = refl;
       confirm = refl;
       good-header = refl;
-      bad-header = refl;
-      breaks-H5 = refl;
-      breaks-no-other = (refl, refl, refl, refl, refl);
+      good-taken = refl;
+      good-mark = refl;
+      breaks-H5 = record { rule = H5; number-is = refl; is-broken = refl };
+      breaks-no-other = names-5;
+      bad-header = λ naming b. ap (λ (n : ℕ). record { refusal = 21; sense = 0; rule = n; unit = 0 }) (names-5 (naming badUnit) b);
+      good-length = refl;
       whole-record = refl;
+      whole-place = refl;
+      whole-carried = refl;
       bad-length = refl;
       no-credit = refl;
       read-first = refl;

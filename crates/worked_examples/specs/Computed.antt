@@ -1,0 +1,32 @@
+-- The definitions that the rows compute through, named once: a proof that unfolds `computed` unfolds them all.
+-- Assumes nothing.
+use Rattle.cells.specs.Cells.{front, written}
+use Rattle.cells.specs.Equal.{sameBytes}
+use Rattle.logical_record.specs.Walk.{thenWalk}
+use Rattle.logical_record.specs.Records.{recordsFrom}
+use Rattle.header.specs.Rules.{keeps, headerGood}
+use Rattle.header.specs.Header.{headerBytes, fieldsOf}
+use Rattle.unit.specs.Ru.{ruGood}
+use Rattle.unit.specs.Unit.{unitBytes, unitOf}
+use Rattle.pacing.specs.Pacing.{credit, advanced, answered}
+use Rattle.control.specs.Within.{controlGood}
+use Rattle.transitions.specs.Transitions.{allocated, spilled, closed, confirmationMade, markAnswered, dataTaken, bidTaken, grantTaken, refusalTaken, confirmationTaken}
+use Rattle.sides.specs.Sending.{sendingGood, requestMade}
+use Rattle.sides.specs.Receiving.{receivingGood, requestTaken}
+use Rattle.sides.specs.Opening.{openingRefusal}
+use Rattle.session.specs.Opening.{opened}
+use Rattle.end.specs.Record.{recordGood}
+use Rattle.end.specs.Requests.{dataHeader}
+use Rattle.end.specs.Allocate.{allocateRefusal, bidMade, allocateDecision, allocate}
+use Rattle.end.specs.SendData.{sendRefusal, bytesKept, bytesSpilled, sendDecision, sendCells, sendData}
+use Rattle.end.specs.Close.{closeRefusal, lastMade, closeDecision, close}
+use Rattle.end.specs.Confirmed.{confirmedRefusal, confirmedDecision, confirmed}
+use Rattle.end.specs.ReceiveUnit.{takeRefusal, dataJoined, bidAnswered, creditRaised, takeDecision, inboxCells, receiveUnit}
+use Rattle.end.specs.Receive.{readRefusal, copyCount, bytesRead, markRead, readDecision, inboxMoved, receive}
+use Rattle.end.specs.Pace.{paceRefusal, paceDecision, pace}
+use Rattle.joined.specs.Ends.{acts, takes}
+use Rattle.joined.specs.Histories as H
+
+unfoldable pub computed : Unit {0}
+unfolding front written sameBytes thenWalk recordsFrom keeps headerGood headerBytes fieldsOf ruGood unitBytes unitOf credit advanced answered controlGood allocated spilled closed confirmationMade markAnswered dataTaken bidTaken grantTaken refusalTaken confirmationTaken sendingGood requestMade receivingGood requestTaken openingRefusal opened recordGood dataHeader allocateRefusal bidMade allocateDecision allocate sendRefusal bytesKept bytesSpilled sendDecision sendCells sendData closeRefusal lastMade closeDecision close confirmedRefusal confirmedDecision confirmed takeRefusal dataJoined bidAnswered creditRaised takeDecision inboxCells receiveUnit readRefusal copyCount bytesRead markRead readDecision inboxMoved receive paceRefusal paceDecision pace acts takes H.bytesRead H.pacingResponsesTaken H.requestsMade H.requestsAmong
+computed = tt
