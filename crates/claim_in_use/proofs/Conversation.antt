@@ -8,37 +8,13 @@ use native.Mathlib.Omega.{arith}
 use borrow.Author.Tests.{ltb-true}
 use lib.Dec.{ltb}
 use lib.ListN.{getD}
-use Rattle.cells.specs.Cells.{front, written}
-use Rattle.cells.specs.Equal.{sameBytes}
-use Rattle.logical_record.specs.Walk.{thenWalk}
-use Rattle.logical_record.specs.Records.{recordsFrom}
-use Rattle.header.specs.Rules.{headerGood}
-use Rattle.header.specs.Header.{headerBytes, fieldsOf}
-use Rattle.unit.specs.Ru.{ruGood}
-use Rattle.unit.specs.Unit.{unitBytes, unitOf}
-use Rattle.pacing.specs.Pacing.{credit, advanced, answered}
-use Rattle.control.specs.Within.{controlGood}
-use Rattle.transitions.specs.Transitions.{allocated, spilled, closed, confirmationMade, markAnswered, dataTaken, bidTaken, grantTaken, refusalTaken, confirmationTaken}
-use Rattle.sides.specs.Sending.{sendingGood, requestMade}
-use Rattle.sides.specs.Receiving.{receivingGood, requestTaken}
-use Rattle.sides.specs.Opening.{openingRefusal}
-use Rattle.session.specs.Opening.{opened}
-use Rattle.end.specs.Record.{recordGood}
-use Rattle.end.specs.Requests.{dataHeader}
-use Rattle.end.specs.Allocate.{allocateRefusal, bidMade, allocateDecision, allocate}
-use Rattle.end.specs.SendData.{sendRefusal, bytesKept, bytesSpilled, sendDecision, sendCells, sendData}
-use Rattle.end.specs.Close.{closeRefusal, lastMade, closeDecision, close}
-use Rattle.end.specs.ReceiveUnit.{takeRefusal, dataJoined, bidAnswered, creditRaised, takeDecision, inboxCells, receiveUnit}
-use Rattle.end.specs.Receive.{readRefusal, copyCount, bytesRead, markRead, readDecision, inboxMoved, receive}
-use Rattle.end.specs.Pace.{paceRefusal, paceDecision, pace}
 use Rattle.joined.specs.Joined as J
 use Rattle.joined.specs.Joined.{At, first, second, act, Fed, step, AllFed}
 use Rattle.joined.specs.Ends.{Verb, acts, takes}
-use Rattle.joined.specs.Histories as H
-use Rattle.joined.specs.Histories.{bytesAccepted, bytesOnLine, requestsAmong, requestsMade, pacingResponsesTaken}
 use Rattle.joined.specs.SingleCalls.{AllBytes, BytesOf}
 use Rattle.joined.specs.Claim.{Pair, Claim, TheRecords, LentBytes, AlwaysGood, BytesOfAll}
 use Rattle.worked_examples.specs.Stations.{anyRule}
+use Rattle.worked_examples.specs.Computed.{computed}
 use Rattle.claim_in_use.specs.OtherWords.{bytesOf}
 use Rattle.claim_in_use.specs.Conversation.{speaker, bidder, lent, ends, calls, reordered, Happened, Asked, Said, OneConversation}
 
@@ -120,7 +96,7 @@ all-fed p (second J.take ∷ l) e =
 -- ---- what happened
 
 happened : Happened
-unfolding front written thenWalk headerGood headerBytes fieldsOf sameBytes ruGood unitBytes unitOf credit advanced answered controlGood allocated spilled closed markAnswered dataTaken bidTaken refusalTaken sendingGood receivingGood recordGood requestMade requestTaken dataHeader openingRefusal opened allocateRefusal bidMade allocateDecision allocate sendRefusal bytesKept bytesSpilled sendDecision sendCells sendData closeRefusal lastMade closeDecision close takeRefusal dataJoined bidAnswered creditRaised takeDecision inboxCells receiveUnit readRefusal copyCount bytesRead markRead readDecision inboxMoved receive paceRefusal paceDecision pace acts takes H.bytesRead bytesAccepted bytesOnLine requestsAmong requestsMade pacingResponsesTaken
+unfolding computed
 happened =
     record {
       given-out = refl;
@@ -139,7 +115,7 @@ happened =
 -- ---- what is asked
 
 asked : Asked
-unfolding front written thenWalk headerGood headerBytes fieldsOf sameBytes ruGood unitBytes unitOf credit advanced answered controlGood allocated spilled closed markAnswered dataTaken bidTaken refusalTaken sendingGood receivingGood recordGood requestMade requestTaken dataHeader openingRefusal opened allocateRefusal bidMade allocateDecision allocate sendRefusal bytesKept bytesSpilled sendDecision sendCells sendData closeRefusal lastMade closeDecision close takeRefusal dataJoined bidAnswered creditRaised takeDecision inboxCells receiveUnit readRefusal copyCount bytesRead markRead readDecision inboxMoved receive paceRefusal paceDecision pace acts takes
+unfolding computed
 asked =
     record {
       openings =
@@ -152,7 +128,7 @@ asked =
 
 module _ (claim : Claim) (records : TheRecords) (always : AlwaysGood) where
   said : Said
-  unfolding front written thenWalk headerGood headerBytes fieldsOf sameBytes ruGood unitBytes unitOf credit advanced answered controlGood allocated spilled closed markAnswered dataTaken bidTaken refusalTaken sendingGood receivingGood recordGood requestMade requestTaken dataHeader openingRefusal opened allocateRefusal bidMade allocateDecision allocate sendRefusal bytesKept bytesSpilled sendDecision sendCells sendData closeRefusal lastMade closeDecision close takeRefusal dataJoined bidAnswered creditRaised takeDecision inboxCells receiveUnit readRefusal copyCount bytesRead markRead readDecision inboxMoved receive paceRefusal paceDecision pace acts takes recordsFrom H.bytesRead bytesAccepted bytesOnLine requestsAmong requestsMade pacingResponsesTaken
+  unfolding computed
   said =
       let both = claim anyRule speaker bidder lent lent calls (asked .openings) in
       let joint = both .0 in
