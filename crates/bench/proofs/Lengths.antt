@@ -11,8 +11,6 @@ use lib.ListN.{length, length-append, length-take}
 use Rattle.cells.specs.Cells.{front}
 use Rattle.unit.specs.Ru.{bidRu, fixedRu}
 use Rattle.unit.specs.Unit.{unitOf, numberIn}
-use Rattle.header.specs.declared.Follows.{Follows}
-use Rattle.header.specs.declared.Follows.the-variants.{Stay, ChangeDirection, EndBracket}
 use Rattle.header.specs.declared.Header.{Header}
 use Rattle.header.specs.declared.Header.the-variants.{Data, Bid, PositiveBidResponse, NegativeBidResponse, Confirmation, PacingResponse}
 use Rattle.unit.proofs.Units.{unit-length}
@@ -23,11 +21,10 @@ use Rattle.sides.specs.Sending.{sendingGood}
 use Rattle.end.specs.Record.{recordGood}
 use Rattle.end.specs.SendData.{heldBytes}
 use Rattle.end.specs.Receive.{bytesRead, markRead}
-use Rattle.end.specs.Close.{close}
 use Rattle.end.specs.ReceiveUnit.{headerTaken, ruTaken}
 use Rattle.end.specs.declared.End.{End}
 use Rattle.joined.specs.Joined.{Acted, Took}
-use Rattle.joined.specs.Ends.{Station, Verb, Reply, makes, acts, takes}
+use Rattle.joined.specs.Ends.{Station, Verb, Reply, acts, takes}
 use Rattle.joined.proofs.Rows.{left, right}
 use Rattle.joined.proofs.Good.{sending-good, held-most}
 use Rattle.joined.proofs.Acts.{spilledRu, allocate-cases, send-cases, close-cases, confirmed-cases, pace-cases, read-cases, take-cases, tookKind}
@@ -62,24 +59,18 @@ module _ (s : Station) where
   abbrev After : Acted Station Reply (List ℕ) → Type 0
   After m = Fits (m .answer .answer .answer .unit) (m .end .unit)
 
-  closes : (f : Follows) (c : Bool) → After (makes s (close f c (s .end) (s .send) (s .unit)))
-  closes f c =
-      close-cases After s f c (λ q n. none (s .unit)) (λ a n. none (s .unit))
-      (λ a n k. unit-fits _ _ (heldBytes (s .end) (s .send)) (s .unit) (held-short (s .end) (s .send) (a .good)))
-
   pub acts-fit : (v : Verb) → After (acts s v)
   unfolding acts bytesRead markRead
   acts-fit Verb.allocate =
       allocate-cases After s (λ q n. none (s .unit)) (λ g a w. none (s .unit)) (λ g a w k. unit-fits _ _ bidRu (s .unit) (omega arith))
-  acts-fit Verb.flush = closes Stay false
-  acts-fit Verb.confirm = closes Stay true
   acts-fit Verb.confirmed = confirmed-cases After s (λ q n. none (s .unit)) (λ g a. unit-fits _ _ _ (s .unit) (omega arith))
   acts-fit Verb.pace = pace-cases After s (λ q n. none (s .unit)) (λ g a. unit-fits _ _ _ (s .unit) (omega arith))
   acts-fit (Verb.sendData bytes) =
       send-cases After s bytes (λ q n. none (s .unit)) (λ a k. none (s .unit))
       (λ a k h. unit-fits _ _ (spilledRu s bytes) (s .unit) (spilled-short s bytes (a .good)))
-  acts-fit (Verb.prepareToReceive b) = closes ChangeDirection b
-  acts-fit (Verb.deallocate b) = closes EndBracket b
+  acts-fit (Verb.close f c) =
+      close-cases After s f c (λ q n. none (s .unit)) (λ a n. none (s .unit))
+      (λ a n k. unit-fits _ _ (heldBytes (s .end) (s .send)) (s .unit) (held-short (s .end) (s .send) (a .good)))
   acts-fit (Verb.receive buffer) =
       read-cases After s buffer (λ q w n. none (s .unit)) (λ a h. none (s .unit)) (λ a h m. none (s .unit))
 

@@ -46,13 +46,10 @@ allBelow256 (second J.take ∷ l) = allBelow256 l
 
 gives-bytes : (v : Verb) → below256 (bytesOf v) ≡ true → BytesOf v
 gives-bytes Verb.allocate e = tt
-gives-bytes Verb.flush e = tt
-gives-bytes Verb.confirm e = tt
 gives-bytes Verb.confirmed e = tt
 gives-bytes Verb.pace e = tt
 gives-bytes (Verb.sendData bytes) e = are-bytes bytes e
-gives-bytes (Verb.prepareToReceive b) e = tt
-gives-bytes (Verb.deallocate b) e = tt
+gives-bytes (Verb.close f b) e = tt
 gives-bytes (Verb.receive buffer) e = tt
 
 all-bytes : (l : List (At Verb)) → allBelow256 l ≡ true → BytesOfAll l

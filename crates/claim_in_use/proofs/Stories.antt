@@ -40,13 +40,10 @@ gave-none false = refl
 
 gave-is : (v : Verb) (r : Reply) (us : List (List ℕ)) → gave (acted v r us) ≡ H.given v (numberOf r)
 gave-is Verb.allocate r us = gave-none (eqb (numberOf r) 0)
-gave-is Verb.flush r us = gave-none (eqb (numberOf r) 0)
-gave-is Verb.confirm r us = gave-none (eqb (numberOf r) 0)
 gave-is Verb.confirmed r us = gave-none (eqb (numberOf r) 0)
 gave-is Verb.pace r us = gave-none (eqb (numberOf r) 0)
 gave-is (Verb.sendData bytes) r us = refl
-gave-is (Verb.prepareToReceive b) r us = gave-none (eqb (numberOf r) 0)
-gave-is (Verb.deallocate b) r us = gave-none (eqb (numberOf r) 0)
+gave-is (Verb.close f b) r us = gave-none (eqb (numberOf r) 0)
 gave-is (Verb.receive buffer) r us = gave-none (eqb (numberOf r) 0)
 
 pub given-is : (es : Log) → each gave (story es) ≡ bytesAccepted es

@@ -15,7 +15,7 @@ use Rattle.end.specs.Record.{recordGood, creditOf}
 use Rattle.sides.specs.declared.Session.{Session}
 use Rattle.joined.specs.Joined as J
 use Rattle.joined.specs.Joined.{first, second, act, AllFed, run}
-use Rattle.joined.specs.Ends.{Verb, Buffers, JoinedOpenings, openedBoth, acts, takes}
+use Rattle.joined.specs.Ends.{Verb, prepareToReceive, Buffers, JoinedOpenings, openedBoth, acts, takes}
 use Rattle.joined.specs.Histories.{bytesAccepted, bytesRead, bytesInInbox, bytesOnLine, bytesInSendBuffer, requestsMade, pacingResponsesTaken, breaches, refusedWith, badReads, CompleteIsRight, NoneCrosses}
 use Rattle.joined.specs.Claim.{Pair}
 use Rattle.worked_examples.specs.Stations.{zeros, session, anyRule}
@@ -71,7 +71,7 @@ calls =
     ∷ second (act (Verb.receive (zeros 5)))
     ∷ first (act (Verb.sendData table3))
     ∷ first J.take
-    ∷ first (act (Verb.prepareToReceive false))
+    ∷ first (act (prepareToReceive false))
     ∷ second J.take
     ∷ second J.take
     ∷ second J.take
@@ -102,7 +102,7 @@ reordered =
     ∷ first J.take
     ∷ second J.take
     ∷ second J.take
-    ∷ first (act (Verb.prepareToReceive false))
+    ∷ first (act (prepareToReceive false))
     ∷ second J.take
     ∷ second (act (Verb.receive (zeros 32)))
     ∷ second (act (Verb.receive (zeros 32)))

@@ -82,13 +82,10 @@ numberOf r = r .answer .answer .refusal
 -- the bytes of a send data
 abbrev pub bytesOf : Verb → List ℕ
 bytesOf Verb.allocate = []
-bytesOf Verb.flush = []
-bytesOf Verb.confirm = []
 bytesOf Verb.confirmed = []
 bytesOf Verb.pace = []
 bytesOf (Verb.sendData bytes) = bytes
-bytesOf (Verb.prepareToReceive b) = []
-bytesOf (Verb.deallocate b) = []
+bytesOf (Verb.close f b) = []
 bytesOf (Verb.receive buffer) = []
 
 -- the bytes that an accepted call gave

@@ -243,8 +243,8 @@ pub close-cases :
     → ((q : ℕ) → eqb q 0 ≡ false → P (refusedAct s q))
     → (CloseAsked s f c → nothingGoes (s .end) f c ≡ true → P (quietAct s (s .end)))
     → (CloseAsked s f c → nothingGoes (s .end) f c ≡ false → hasCredit (s .end .sending .window) ≡ true → P (lastAct s f c))
-    → P (makes s (close f c (s .end) (s .send) (s .unit)))
-unfolding close closeDecision closeRefusal lastMade
+    → P (acts s (Verb.close f c))
+unfolding acts close closeDecision closeRefusal lastMade
 close-cases P s f c refuses none goes =
     let e = s .end in
     let q : ℕ = closeRefusal e f c (length (s .send)) (length (s .unit)) in

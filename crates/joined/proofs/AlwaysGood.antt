@@ -11,7 +11,6 @@ use Rattle.header.specs.Header.{confirms}
 use Rattle.unit.specs.Ru.{bidRu, fixedRu}
 use Rattle.unit.specs.Unit.{RU-START, unitOf, numberIn}
 use Rattle.header.specs.declared.Follows.{Follows}
-use Rattle.header.specs.declared.Follows.the-variants.{Stay, ChangeDirection, EndBracket}
 use Rattle.header.specs.declared.ChainEnd.the-variants.{Continues, Last}
 use Rattle.header.specs.declared.Header.{Header}
 use Rattle.header.specs.declared.Header.the-variants.{Data, Bid, PositiveBidResponse, NegativeBidResponse, Confirmation, PacingResponse}
@@ -24,14 +23,14 @@ use Rattle.sides.specs.Opening.{openingRefusal}
 use Rattle.session.specs.Opening.{opened}
 use Rattle.end.specs.Allocate.{bidMade}
 use Rattle.end.specs.SendData.{heldBytes, gone, bytesKept, bytesSpilled}
-use Rattle.end.specs.Close.{lastMade, close}
+use Rattle.end.specs.Close.{lastMade}
 use Rattle.end.specs.ReceiveUnit.{headerTaken, ruTaken, dataJoined, bidAnswered, creditRaised}
 use Rattle.end.specs.Receive.{inboxBytes, bytesRead, inboxMoved}
 use Rattle.sides.specs.declared.Session.{Session}
 use Rattle.end.specs.declared.Done.{Done}
 use Rattle.joined.specs.Joined.{Call, act, At, first, second, Acted, Took, apply, step, run}
 use Rattle.joined.specs.Joined as J
-use Rattle.joined.specs.Ends.{Station, Verb, Reply, Buffers, OpeningAccepted, openedWith, openedBoth, makes, acts, takes}
+use Rattle.joined.specs.Ends.{Station, Verb, Reply, Buffers, OpeningAccepted, openedWith, openedBoth, acts, takes}
 use Rattle.joined.specs.Histories.{Log, count, refusedWith}
 use Rattle.joined.specs.SingleCalls.{AllBytes, BytesOf}
 use Rattle.joined.specs.Claim.{Pair, after, LentBytes, BytesIn, BytesAt, BytesOfAll, BothGood, AlwaysGood}
@@ -58,7 +57,7 @@ module _ (s : Station) (c : Cells s) where
   held-bytes : AllBytes (heldBytes (s .end) (s .send))
   held-bytes = take-bytes (s .end .sending .held) (s .send) (c .send)
 
-  closes : (f : Follows) (b : Bool) → After (makes s (close f b (s .end) (s .send) (s .unit)))
+  closes : (f : Follows) (b : Bool) → After (acts s (Verb.close f b))
   unfolding lastMade
   closes f b =
       close-cases After s f b (λ q n. (c, tt)) (λ a n. (record { send = c .send; inbox = c .inbox; owed = c .owed }, tt))
@@ -99,8 +98,6 @@ module _ (s : Station) (c : Cells s) where
         one-unit (bidNumber (s .end)) (Bid (paced (s .end .sending .window))) bidRu (next-small (s .end .sending .number))
             (fixed-bytes (Bid (paced (s .end .sending .window)))),
       ))
-  cells-acts Verb.flush b = closes Stay false
-  cells-acts Verb.confirm b = closes Stay true
   cells-acts Verb.confirmed b =
       confirmed-cases After s (λ q n. (c, tt))
       (λ g a. (record { send = c .send; inbox = c .inbox; owed = c .owed }, one-unit (s .end .owed) Confirmation [] (c .owed) none-bytes))
@@ -108,8 +105,7 @@ module _ (s : Station) (c : Cells s) where
       pace-cases After s (λ q n. (c, tt))
       (λ g a. (record { send = c .send; inbox = c .inbox; owed = c .owed }, one-unit 0 PacingResponse [] (omega arith) none-bytes))
   cells-acts (Verb.sendData bytes) b = gives bytes b
-  cells-acts (Verb.prepareToReceive x) b = closes ChangeDirection x
-  cells-acts (Verb.deallocate x) b = closes EndBracket x
+  cells-acts (Verb.close f x) b = closes f x
   cells-acts (Verb.receive buffer) b =
       read-cases After s buffer (λ q w n. (c, tt))
       (λ a h. (record { send = c .send; inbox = moved-bytes (readCount s buffer); owed = c .owed }, tt))

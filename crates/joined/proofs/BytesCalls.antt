@@ -13,7 +13,6 @@ use Rattle.cells.specs.Cells.{front, written}
 use Rattle.unit.specs.Ru.{fixedRu, bidRu}
 use Rattle.unit.specs.Unit.{unitOf, numberIn}
 use Rattle.header.specs.declared.Follows.{Follows}
-use Rattle.header.specs.declared.Follows.the-variants.{Stay, ChangeDirection, EndBracket}
 use Rattle.header.specs.declared.ChainEnd.{ChainEnd}
 use Rattle.header.specs.declared.ChainEnd.the-variants.{Continues, Last}
 use Rattle.header.specs.declared.DataHeader.{DataHeader}
@@ -29,13 +28,13 @@ use Rattle.sides.specs.Receiving.{requestTaken}
 use Rattle.end.specs.Requests.{dataHeader}
 use Rattle.end.specs.Allocate.{bidMade}
 use Rattle.end.specs.SendData.{heldBytes, gone, bytesKept, bytesSpilled}
-use Rattle.end.specs.Close.{lastMade, close}
+use Rattle.end.specs.Close.{lastMade}
 use Rattle.end.specs.ReceiveUnit.{headerTaken, ruTaken, dataJoined, bidAnswered, creditRaised}
 use Rattle.reading.specs.Reading.{restBytes}
 use Rattle.end.specs.Receive.{recordRest, copyCount, bytesRead, inboxMoved, someHeld}
 use Rattle.end.specs.Receive as R
 use Rattle.joined.specs.Joined.{Acted, Took, acted, took}
-use Rattle.joined.specs.Ends.{Station, Verb, Reply, makes, acts, takes}
+use Rattle.joined.specs.Ends.{Station, Verb, Reply, acts, takes}
 use Rattle.joined.specs.Histories.{Log, bytesAccepted, bytesInSendBuffer, bytesInInbox}
 use Rattle.joined.specs.Histories as H
 use Rattle.joined.proofs.Good.{held-most, inbox-most}
@@ -70,11 +69,6 @@ module _ (s : Station) (xs : Log) (line : List (List ℕ)) (read inbox : List �
       let ru = heldBytes (s .end) (s .send) in
       carried-sent (nextNumber (s .end .sending .number)) d ru [] (subst (λ (h : List ℕ). Carried (bytesAccepted xs) h line read inbox) (sym (append-nil ru)) c)
 
-  closes : (v : Verb) (f : Follows) (b : Bool) → H.given v 0 ≡ [] → After v (makes s (close f b (s .end) (s .send) (s .unit)))
-  unfolding bytesAccepted lastMade requestMade
-  closes v f b e =
-      close-cases (After v) s f b (λ q n. same (refused-accepts v q [] [] xs n) c) (λ a n. rw e (quiet c)) (λ a n k. rw e (nothing-more (last f b)))
-
   spill : (bytes : List ℕ) → SendAsked s bytes
       → Carried (bytesAccepted xs ++ bytes) (take (length bytes - gone (s .end)) (front (drop (gone (s .end)) bytes) (s .send))) (line ++ (spilledUnit s bytes ∷ [])) read inbox
   unfolding dataHeader
@@ -90,12 +84,10 @@ module _ (s : Station) (xs : Log) (line : List (List ℕ)) (read inbox : List �
       (subst (λ (h : List ℕ). Carried (bytesAccepted xs ++ bytes) h line read inbox) parts (carried-kept bytes c)))
 
   pub bytes-acts : (v : Verb) → After v (acts s v)
-  unfolding acts bytesAccepted bytesKept bytesSpilled bytesRead bidMade requestMade
+  unfolding acts bytesAccepted bytesKept bytesSpilled bytesRead bidMade lastMade requestMade
   bytes-acts Verb.allocate =
       allocate-cases (After Verb.allocate) s (λ q n. same (refused-accepts Verb.allocate q [] [] xs n) c) (λ g a w. quiet c)
       (λ g a w k. nothing-more (carried-other (bidNumber (s .end)) (Bid (paced (s .end .sending .window))) bidRu refl c))
-  bytes-acts Verb.flush = closes Verb.flush Stay false refl
-  bytes-acts Verb.confirm = closes Verb.confirm Stay true refl
   bytes-acts Verb.confirmed =
       confirmed-cases (After Verb.confirmed) s (λ q n. same (refused-accepts Verb.confirmed q [] [] xs n) c)
       (λ g a. nothing-more (carried-other (s .end .owed) Confirmation [] refl c))
@@ -110,8 +102,9 @@ module _ (s : Station) (xs : Log) (line : List (List ℕ)) (read inbox : List �
       subst (λ (l : List (List ℕ)). Carried (bytesAccepted xs ++ bytes) (take (s .end .sending .held + length bytes) (written (s .end .sending .held) bytes (s .send))) l read inbox) (sym (append-nil line))
       (subst (λ (x : List ℕ). Carried (bytesAccepted xs ++ bytes) x line read inbox) (sym more) (carried-kept bytes c)))
       (λ a k h. spill bytes a)
-  bytes-acts (Verb.prepareToReceive b) = closes (Verb.prepareToReceive b) ChangeDirection b refl
-  bytes-acts (Verb.deallocate b) = closes (Verb.deallocate b) EndBracket b refl
+  bytes-acts (Verb.close f b) =
+      close-cases (After (Verb.close f b)) s f b (λ q n. same (refused-accepts (Verb.close f b) q [] [] xs n) c) (λ a n. quiet c)
+      (λ a n k. nothing-more (last f b))
   bytes-acts (Verb.receive buffer) =
       read-cases (After (Verb.receive buffer)) s buffer (λ q w n. same (refused-accepts (Verb.receive buffer) q buffer [] xs n) c) (λ a h. quiet c) (λ a h m. quiet c)
 
@@ -184,10 +177,6 @@ module _ (s : Station) (xs : Log) (acc held : List ℕ) (back : List (List ℕ))
     quiet-in : Carried acc held back (H.bytesRead xs ++ []) (bytesInInbox s)
     quiet-in = subst (λ (r : List ℕ). Carried acc held back r (bytesInInbox s)) (sym (append-nil (H.bytesRead xs))) c
 
-    closes-in : (v : Verb) (f : Follows) (b : Bool) → AfterIn v (makes s (close f b (s .end) (s .send) (s .unit)))
-    unfolding H.bytesRead lastMade
-    closes-in v f b = close-cases (AfterIn v) s f b (λ q n. quiet-in) (λ a n. quiet-in) (λ a n k. quiet-in)
-
     read-in : (buffer : List ℕ) → ReadAsked s buffer
         → Carried acc held back (H.bytesRead xs ++ take (readCount s buffer) (front (take (readCount s buffer) (s .inbox)) buffer))
         (take (s .end .receiving .held - readCount s buffer) (inboxMoved (s .end) (readCount s buffer) (s .inbox)))
@@ -198,15 +187,12 @@ module _ (s : Station) (xs : Log) (acc held : List ℕ) (back : List (List ℕ))
         (carried-read (take k (s .inbox)) (drop k (bytesInInbox s)) (read-parts s buffer) c))
 
     pub bytes-in-acts : (v : Verb) → AfterIn v (acts s v)
-    unfolding acts H.bytesRead bytesKept bytesSpilled bytesRead bidMade R.markRead
+    unfolding acts H.bytesRead bytesKept bytesSpilled bytesRead bidMade lastMade R.markRead
     bytes-in-acts Verb.allocate = allocate-cases (AfterIn Verb.allocate) s (λ q n. quiet-in) (λ g a w. quiet-in) (λ g a w k. quiet-in)
-    bytes-in-acts Verb.flush = closes-in Verb.flush Stay false
-    bytes-in-acts Verb.confirm = closes-in Verb.confirm Stay true
     bytes-in-acts Verb.confirmed = confirmed-cases (AfterIn Verb.confirmed) s (λ q n. quiet-in) (λ g a. quiet-in)
     bytes-in-acts Verb.pace = pace-cases (AfterIn Verb.pace) s (λ q n. quiet-in) (λ g a. quiet-in)
     bytes-in-acts (Verb.sendData bytes) = send-cases (AfterIn (Verb.sendData bytes)) s bytes (λ q n. quiet-in) (λ a k. quiet-in) (λ a k h. quiet-in)
-    bytes-in-acts (Verb.prepareToReceive b) = closes-in (Verb.prepareToReceive b) ChangeDirection b
-    bytes-in-acts (Verb.deallocate b) = closes-in (Verb.deallocate b) EndBracket b
+    bytes-in-acts (Verb.close f b) = close-cases (AfterIn (Verb.close f b)) s f b (λ q n. quiet-in) (λ a n. quiet-in) (λ a n k. quiet-in)
     bytes-in-acts (Verb.receive buffer) =
         read-cases (AfterIn (Verb.receive buffer)) s buffer (λ q w n. quiet-in) (λ a h. read-in buffer a) (λ a h m. quiet-in)
 

@@ -6,8 +6,6 @@ use mathlib.Core.Bool.{Bool, true, false, cond, _&&_}
 use mathlib.Core.List.{List, [], _∷_}
 use native.Mathlib.Omega.{arith}
 use lib.Dec.{eqb, leb}
-use Rattle.header.specs.declared.Follows.{Follows}
-use Rattle.header.specs.declared.Follows.the-variants.{Stay, ChangeDirection, EndBracket}
 use Rattle.header.specs.declared.ChainEnd.{ChainEnd}
 use Rattle.header.specs.declared.ChainEnd.the-variants.{Continues, Last}
 use Rattle.header.specs.declared.Header.{Header}
@@ -26,11 +24,11 @@ use Rattle.end.specs.Record.{recordGood, creditOf, openOf}
 use Rattle.end.specs.Requests.{dataHeader}
 use Rattle.end.specs.Allocate.{bidMade}
 use Rattle.end.specs.SendData.{heldBytes, bytesKept, bytesSpilled}
-use Rattle.end.specs.Close.{lastMade, close}
+use Rattle.end.specs.Close.{lastMade}
 use Rattle.end.specs.ReceiveUnit.{kindQuestions, headerTaken, ruTaken, dataJoined, bidAnswered, creditRaised}
 use Rattle.end.specs.Receive.{bytesRead, markRead}
 use Rattle.joined.specs.Joined.{Acted, Took}
-use Rattle.joined.specs.Ends.{Station, Verb, Reply, refusalIn, makes, acts, takes}
+use Rattle.joined.specs.Ends.{Station, Verb, Reply, refusalIn, acts, takes}
 use Rattle.joined.specs.Histories.{count, isRequest, requestsAmong, isPacingResponse}
 use Rattle.joined.specs.SingleCalls.{isPace, CreditExact}
 use Rattle.joined.proofs.Rows.{left, all-yes}
@@ -80,20 +78,11 @@ module _ (s : Station) where
   free : requestsAmong [] + creditOf (s .end) ≡ creditOf (s .end)
   free = none-made (creditOf (s .end))
 
-  closes : (f : Follows) (b : Bool) → Costs (makes s (close f b (s .end) (s .send) (s .unit)))
-  unfolding lastMade requestMade
-  closes f b =
-      close-cases Costs s f b (λ q n. free) (λ a n. free)
-      (λ a n k.
-      request-made s (nextNumber (s .end .sending .number)) (dataHeader (s .end) (Last f b)) (heldBytes (s .end) (s .send)) (data-asks s (Last f b)) (a .good) k)
-
   request-costs-one : (v : Verb) → Costs (acts s v)
-  unfolding acts bidMade bytesKept bytesSpilled requestMade bytesRead markRead
+  unfolding acts bidMade bytesKept bytesSpilled lastMade requestMade bytesRead markRead
   request-costs-one Verb.allocate =
       allocate-cases Costs s (λ q n. free) (λ g a w. free)
       (λ g a w k. request-made s (bidNumber (s .end)) (Bid (paced (s .end .sending .window))) bidRu refl g k)
-  request-costs-one Verb.flush = closes Stay false
-  request-costs-one Verb.confirm = closes Stay true
   request-costs-one Verb.confirmed =
       confirmed-cases Costs s (λ q n. free) (λ g a. other-made (s .end .owed) (creditOf (s .end)) Confirmation [] refl)
   request-costs-one Verb.pace = pace-cases Costs s (λ q n. free) (λ g a. other-made 0 (creditOf (s .end)) PacingResponse [] refl)
@@ -101,8 +90,10 @@ module _ (s : Station) where
       send-cases Costs s bytes (λ q n. free) (λ a k. free)
       (λ a k h.
       request-made s (nextNumber (s .end .sending .number)) (dataHeader (s .end) Continues) (spilledRu s bytes) (data-asks s Continues) (a .good) h)
-  request-costs-one (Verb.prepareToReceive b) = closes ChangeDirection b
-  request-costs-one (Verb.deallocate b) = closes EndBracket b
+  request-costs-one (Verb.close f b) =
+      close-cases Costs s f b (λ q n. free) (λ a n. free)
+      (λ a n k.
+      request-made s (nextNumber (s .end .sending .number)) (dataHeader (s .end) (Last f b)) (heldBytes (s .end) (s .send)) (data-asks s (Last f b)) (a .good) k)
   request-costs-one (Verb.receive buffer) = read-cases Costs s buffer (λ q w n. free) (λ a h. free) (λ a h m. free)
 
   -- open, and the window that it rises by
@@ -123,16 +114,10 @@ module _ (s : Station) where
   unpaced : (q : ℕ) (b : Bool) → eqb q 0 ≡ false → openOf (s .end) ≡ openOf (s .end) + s .end .receiving .window .size * count (eqb q 0 && b)
   unpaced q b n = same (eqb q 0 && b) (ap (λ (x : Bool). x && b) n)
 
-  opens-closing : (v : Verb) → isPace v ≡ false → (f : Follows) (b : Bool) → Opens v (makes s (close f b (s .end) (s .send) (s .unit)))
-  unfolding lastMade requestMade
-  opens-closing v e f b = close-cases (Opens v) s f b (λ q n. no-rise q (isPace v) e) (λ a n. no-rise 0 (isPace v) e) (λ a n k. no-rise 0 (isPace v) e)
-
   pace-opens : (v : Verb) → Opens v (acts s v)
-  unfolding acts bidMade bytesKept bytesSpilled requestMade bytesRead markRead
+  unfolding acts bidMade bytesKept bytesSpilled lastMade requestMade bytesRead markRead
   pace-opens Verb.allocate =
       allocate-cases (Opens Verb.allocate) s (λ q n. no-rise q false refl) (λ g a w. no-rise 0 false refl) (λ g a w k. no-rise 0 false refl)
-  pace-opens Verb.flush = opens-closing Verb.flush refl Stay false
-  pace-opens Verb.confirm = opens-closing Verb.confirm refl Stay true
   pace-opens Verb.confirmed = confirmed-cases (Opens Verb.confirmed) s (λ q n. no-rise q false refl) (λ g a. no-rise 0 false refl)
   pace-opens Verb.pace =
       pace-cases (Opens Verb.pace) s (λ q n. unpaced q true n)
@@ -141,8 +126,8 @@ module _ (s : Station) where
       response-raises w (left (w .pending) _ a) ∙ (let z : credit w + w .size ≡ credit w + w .size * 1 = omega arith in z))
   pace-opens (Verb.sendData bytes) =
       send-cases (Opens (Verb.sendData bytes)) s bytes (λ q n. no-rise q false refl) (λ a k. no-rise 0 false refl) (λ a k h. no-rise 0 false refl)
-  pace-opens (Verb.prepareToReceive b) = opens-closing (Verb.prepareToReceive b) refl ChangeDirection b
-  pace-opens (Verb.deallocate b) = opens-closing (Verb.deallocate b) refl EndBracket b
+  pace-opens (Verb.close f b) =
+      close-cases (Opens (Verb.close f b)) s f b (λ q n. no-rise q false refl) (λ a n. no-rise 0 false refl) (λ a n k. no-rise 0 false refl)
   pace-opens (Verb.receive buffer) =
       read-cases (Opens (Verb.receive buffer)) s buffer (λ q w n. no-rise q false refl) (λ a h. no-rise 0 false refl) (λ a h m. no-rise 0 false refl)
 

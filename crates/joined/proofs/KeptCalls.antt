@@ -12,7 +12,6 @@ use Rattle.header.specs.Header.{beginsBracket}
 use Rattle.unit.specs.Ru.{marks, ruGood}
 use Rattle.unit.specs.Unit.{RU-START, numberIn}
 use Rattle.header.specs.declared.Follows.{Follows}
-use Rattle.header.specs.declared.Follows.the-variants.{Stay, ChangeDirection, EndBracket}
 use Rattle.header.specs.declared.DataHeader.{DataHeader}
 use Rattle.header.specs.declared.Header.{Header}
 use Rattle.header.specs.declared.Header.the-variants.{Data, Bid, PositiveBidResponse, NegativeBidResponse, Confirmation, PacingResponse}
@@ -35,14 +34,14 @@ use Rattle.session.specs.Opening.{freshEnd, zeroEnd, opened}
 use Rattle.end.specs.Outcome.{withControl, withReceiving}
 use Rattle.end.specs.Allocate.{bidMade}
 use Rattle.end.specs.SendData.{given, gone, bytesKept, bytesSpilled}
-use Rattle.end.specs.Close.{lastMade, close}
+use Rattle.end.specs.Close.{lastMade}
 use Rattle.end.specs.ReceiveUnit.{kindQuestions, headerTaken, ruTaken, dataJoined, bidAnswered, creditRaised}
 use Rattle.end.specs.Receive.{bytesRead}
 use Rattle.sides.specs.Receiving.{windowAnswered}
 use Rattle.sides.specs.declared.Session.{Session}
 use Rattle.end.specs.declared.Done.{Done}
 use Rattle.joined.specs.Joined.{Acted, Took}
-use Rattle.joined.specs.Ends.{Station, Verb, Reply, makes, acts, takes}
+use Rattle.joined.specs.Ends.{Station, Verb, Reply, acts, takes}
 use Rattle.joined.specs.SingleCalls.{AllBytes, BytesOf}
 use Rattle.joined.proofs.Rows.{left, right, all-yes}
 use Rattle.joined.proofs.Good.{both, control-good}
@@ -81,7 +80,7 @@ module _ (s : Station) (g : recordGood (s .end) ≡ true) where
       good-from (bidMade e .end) (allocated-keeps (e .control) (leb 1 n) (eqb n 0) a (fits-of e g))
       (request-out (e .sending) n (e .sending .given) (o .most) (o .place) o) (in-of e g))
 
-  closes : (f : Follows) (b : Bool) → After (makes s (close f b (s .end) (s .send) (s .unit)))
+  closes : (f : Follows) (b : Bool) → After (acts s (Verb.close f b))
   unfolding lastMade requestMade
   closes f b =
       let e = s .end in
@@ -136,8 +135,6 @@ module _ (s : Station) (g : recordGood (s .end) ≡ true) where
   calls : (v : Verb) → BytesOf v → InboxBytes s → After (acts s v)
   unfolding acts
   calls Verb.allocate b i = allocates
-  calls Verb.flush b i = closes Stay false
-  calls Verb.confirm b i = closes Stay true
   calls Verb.confirmed b i =
       let e = s .end in
       let n = e .sending .held in
@@ -149,8 +146,7 @@ module _ (s : Station) (g : recordGood (s .end) ≡ true) where
       (λ x a.
       good-from (withReceiving (windowAnswered (e .receiving)) e) (fits-of e g) (out-of e g) (paced-in (e .receiving) a (in-of e g)))
   calls (Verb.sendData bytes) b i = gives bytes b
-  calls (Verb.prepareToReceive c) b i = closes ChangeDirection c
-  calls (Verb.deallocate c) b i = closes EndBracket c
+  calls (Verb.close f c) b i = closes f c
   calls (Verb.receive buffer) b i = reads buffer i
 
 -- every call leaves a good record

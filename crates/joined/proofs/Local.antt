@@ -103,13 +103,10 @@ local-act {v} {xs} verb k m buffer us w l g h r t i z c b =
 
 refused-gives : (verb : Verb) (q : ℕ) → eqb q 0 ≡ false → given verb q ≡ []
 refused-gives Verb.allocate q e = refl
-refused-gives Verb.flush q e = refl
-refused-gives Verb.confirm q e = refl
 refused-gives Verb.confirmed q e = refl
 refused-gives Verb.pace q e = refl
 refused-gives (Verb.sendData bytes) q e = ap (λ (b : Bool). cond b bytes []) e
-refused-gives (Verb.prepareToReceive b) q e = refl
-refused-gives (Verb.deallocate b) q e = refl
+refused-gives (Verb.close f b) q e = refl
 refused-gives (Verb.receive buffer) q e = refl
 
 pub refused-accepts : (verb : Verb) (q : ℕ) (buffer : List ℕ) (us : List (List ℕ)) (xs : Log) → eqb q 0 ≡ false

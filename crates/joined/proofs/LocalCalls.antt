@@ -51,14 +51,14 @@ use Rattle.end.specs.Requests.{dataHeader}
 use Rattle.end.specs.Allocate.{bidMade}
 use Rattle.logical_record.specs.Walk.{placeOr}
 use Rattle.end.specs.SendData.{heldBytes, bytesKept, bytesSpilled}
-use Rattle.end.specs.Close.{nothingGoes, lastMade, close}
+use Rattle.end.specs.Close.{nothingGoes, lastMade}
 use Rattle.end.specs.ReceiveUnit.{kindQuestions, headerTaken, ruTaken, dataJoined, bidAnswered, creditRaised, takeRefusal}
 use Rattle.sides.specs.Receiving.{recordsFit}
 use Rattle.end.specs.Receive.{inboxBytes, recordRest, someHeld, readRefusal, copyCount, bytesRead, markRead}
 use Rattle.reading.specs.Reading.{restGood, restBytes}
 use Rattle.end.specs.declared.End.{End}
 use Rattle.joined.specs.Joined.{Acted, Took, acted, took}
-use Rattle.joined.specs.Ends.{Station, Verb, Reply, makes, acts, takes}
+use Rattle.joined.specs.Ends.{Station, Verb, Reply, acts, takes}
 use Rattle.joined.specs.Histories.{Log, isBreach, bytesInInbox, requestsAmong, count, isPacingResponse}
 use Rattle.joined.specs.Histories as H
 use Rattle.joined.proofs.Rows.{left, right, all-yes}
@@ -133,19 +133,18 @@ module _ (s : Station) (xs : Log) (l : Local (valuesOf s) xs) where
   closed-whole EndBracket true p w n = w
   closed-whole EndBracket false p w n = w
 
-  closes : (v : Verb) → H.given v 0 ≡ [] → ((q : ℕ) → H.isBadRead v q ≡ false) → (f : Follows) (c : Bool) → After v (makes s (close f c (s .end) (s .send) (s .unit)))
+  closes : (f : Follows) (c : Bool) → After (Verb.close f c) (acts s (Verb.close f c))
   unfolding lastMade requestMade advanced
-  closes v z b f c =
-      let still : walk (s .end .sending .given) (H.given v 0) ≡ At (s .end .sending .given) = ap (walk (s .end .sending .given)) z ∙ here in
-      close-cases (After v) s f c (refuses v b)
-      (λ a n. local-act v 0 mark.Nothing [] [] (valuesOf s) l still (l .whole) refl refl refl refl (none-made (credit (s .end .sending .window))) (b 0))
+  closes f c =
+      let v = Verb.close f c in
+      close-cases (After v) s f c (refuses v (λ q. refl))
+      (λ a n. local-act v 0 mark.Nothing [] [] (valuesOf s) l here (l .whole) refl refl refl refl (none-made (credit (s .end .sending .window))) refl)
       (λ a n k.
       let h = dataHeader (s .end) (Last f c) in
       let ru = heldBytes (s .end) (s .send) in
       let u = unitOf (nextNumber (s .end .sending .number)) h ru in
-      local-act v (RU-START + length ru) mark.Nothing [] (u ∷ []) _ l still
-      (closed-whole f c (s .end .sending .given) (a .whole)) refl refl refl refl
-      (request-made s (nextNumber (s .end .sending .number)) h ru (data-asks s (Last f c)) (a .good) k) (b 0))
+      local-act v (RU-START + length ru) mark.Nothing [] (u ∷ []) _ l here (closed-whole f c (s .end .sending .given) (a .whole)) refl refl refl refl
+      (request-made s (nextNumber (s .end .sending .number)) h ru (data-asks s (Last f c)) (a .good) k) refl)
 
   speaking : isFirstSpeaker (s .end .control .role) ≡ true → isSend (allocated (s .end .control) .state) ≡ true
   unfolding allocated
@@ -251,8 +250,6 @@ module _ (s : Station) (xs : Log) (l : Local (valuesOf s) xs) where
       local-act Verb.allocate 10 mark.Nothing [] (unitOf (bidNumber (s .end)) (Bid (paced (s .end .sending .window))) bidRu ∷ []) _ l here
       (λ n. l .whole (reset-not-send (s .end .control .state) (left (isReset (s .end .control .state)) (not (s .end .control .bid)) a))) refl refl refl refl
       (request-made s (bidNumber (s .end)) (Bid (paced (s .end .sending .window))) bidRu refl g k) refl)
-  local-acts Verb.flush = closes Verb.flush refl (λ q. refl) Stay false
-  local-acts Verb.confirm = closes Verb.confirm refl (λ q. refl) Stay true
   local-acts Verb.confirmed =
       confirmed-cases (After Verb.confirmed) s (refuses Verb.confirmed (λ q. refl))
       (λ g a.
@@ -276,8 +273,7 @@ module _ (s : Station) (xs : Log) (l : Local (valuesOf s) xs) where
       (unitOf (nextNumber (s .end .sending .number)) hd (spilledRu s bytes) ∷ []) _ l
       (at-place g (a .place) (walk g bytes) (a .walked)) (λ n. absurd (never (sym (a .sending) ∙ n))) refl refl refl refl
       (request-made s (nextNumber (s .end .sending .number)) hd (spilledRu s bytes) (data-asks s Continues) (a .good) h) refl)
-  local-acts (Verb.prepareToReceive b) = closes (Verb.prepareToReceive b) refl (λ q. refl) ChangeDirection b
-  local-acts (Verb.deallocate b) = closes (Verb.deallocate b) refl (λ q. refl) EndBracket b
+  local-acts (Verb.close f c) = closes f c
   local-acts (Verb.receive buffer) = reads buffer
 
 -- ---- takes

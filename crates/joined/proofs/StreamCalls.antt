@@ -20,7 +20,6 @@ use Rattle.header.specs.Header.{isFirst, isLast}
 use Rattle.unit.specs.Ru.{marks, bidRu, fixedRu, dataRuGood, ruGood}
 use Rattle.unit.specs.Unit.{unitOf, numberIn}
 use Rattle.header.specs.declared.Follows.{Follows}
-use Rattle.header.specs.declared.Follows.the-variants.{Stay, ChangeDirection, EndBracket}
 use Rattle.header.specs.declared.ChainEnd.{ChainEnd}
 use Rattle.header.specs.declared.ChainEnd.the-variants.{Continues, Last}
 use Rattle.header.specs.declared.DataHeader.{DataHeader}
@@ -41,11 +40,11 @@ use Rattle.end.specs.Allocate.{bidMade}
 use Rattle.logical_record.specs.Walk.{placeOr}
 use Rattle.sides.specs.Sending.{keeps}
 use Rattle.end.specs.SendData.{heldBytes, gone, bytesKept, bytesSpilled}
-use Rattle.end.specs.Close.{nothingGoes, lastMade, close}
+use Rattle.end.specs.Close.{nothingGoes, lastMade}
 use Rattle.end.specs.ReceiveUnit.{headerTaken, ruTaken, dataJoined, bidAnswered, creditRaised}
 use Rattle.end.specs.Receive.{bytesRead}
 use Rattle.joined.specs.Joined.{Acted, Took}
-use Rattle.joined.specs.Ends.{Station, Verb, Reply, makes, acts, takes}
+use Rattle.joined.specs.Ends.{Station, Verb, Reply, acts, takes}
 use Rattle.joined.specs.Histories.{bytesInSendBuffer}
 use Rattle.joined.proofs.Rows.{left, right}
 use Rattle.joined.proofs.Acts.{allocate-cases, send-cases, SendAsked, spilledRu, spilledUnit, close-cases, CloseAsked, confirmed-cases, pace-cases, read-cases, take-cases, TakeAsked, tookKind}
@@ -148,9 +147,6 @@ module _ (s : Station) (i : Inside) (line : List (List ℕ)) (st : Stream (outsi
       (last-good (e .sending .max) (e .sending .held) d ru (length-take-le (e .sending .held) (s .send) (omega arith)) h n) refl (begins-first (e .control))
       (λ x w. subst (λ (p : Position). not (marks (Last f c)) || isWhole p ≡ true) (sym (same-position x (e .sending .given) w)) (a .whole))
 
-  closes : (f : Follows) (c : Bool) → After (makes s (close f c (s .end) (s .send) (s .unit)))
-  closes f c = close-cases After s f c (λ q n. quiet-line st) (λ a n. quiet-line st) (λ a n k. last f c a n)
-
   pub stream-acts : (v : Verb) → After (acts s v)
   unfolding acts bytesKept bytesRead bidMade requestMade advanced confirmationMade
   stream-acts Verb.allocate =
@@ -160,8 +156,6 @@ module _ (s : Station) (i : Inside) (line : List (List ℕ)) (st : Stream (outsi
       let shut : s .end .control .outchain ≡ false =
       closed-chain (s .end) g (reset-not-send (s .end .control .state) (left (isReset (s .end .control .state)) (not (s .end .control .bid)) a)) in
       same-chain (allocated (s .end .control) .outchain) (allocated-out (s .end .control)) (stream-bid (paced (s .end .sending .window)) st refl shut))
-  stream-acts Verb.flush = closes Stay false
-  stream-acts Verb.confirm = closes Stay true
   stream-acts Verb.confirmed = confirmed-cases After s (λ q n. quiet-line st) (λ g a. stream-response (s .end .owed) Confirmation st refl refl)
   stream-acts Verb.pace = pace-cases After s (λ q n. quiet-line st) (λ g a. stream-response 0 PacingResponse st refl refl)
   stream-acts (Verb.sendData bytes) =
@@ -175,8 +169,7 @@ module _ (s : Station) (i : Inside) (line : List (List ℕ)) (st : Stream (outsi
       (held-more (s .end .sending .held) bytes (s .send) (omega arith)) (ap (placeOr (s .end .sending .given)) (a .walked))
       (stream-keep bytes (a .place) st (a .walked))))
       (λ a k h. spill bytes a k)
-  stream-acts (Verb.prepareToReceive c) = closes ChangeDirection c
-  stream-acts (Verb.deallocate c) = closes EndBracket c
+  stream-acts (Verb.close f c) = close-cases After s f c (λ q n. quiet-line st) (λ a n. quiet-line st) (λ a n k. last f c a n)
   stream-acts (Verb.receive buffer) =
       read-cases After s buffer (λ q w n. quiet-line st) (λ a h. quiet-line st)
       (λ a h m. quiet-line (same-chain (markAnswered (s .end .control) .outchain) (answered-out (s .end .control)) st))
@@ -227,17 +220,11 @@ module _ (s : Station) (o : Outside) (back : List (List ℕ)) where
   stream-in-acts st Verb.allocate =
       allocate-cases AfterIn s (λ q n. st) (λ g a w. same-link (allocated (s .end .control) .inchain) (allocated-in (s .end .control)) st)
       (λ g a w k. same-link (allocated (s .end .control) .inchain) (allocated-in (s .end .control)) st)
-  stream-in-acts st Verb.flush =
-      close-cases AfterIn s Stay false (λ q n. st) (λ a n. st) (λ a n k. same-link _ (closed-in Stay false (s .end .control)) st)
-  stream-in-acts st Verb.confirm =
-      close-cases AfterIn s Stay true (λ q n. st) (λ a n. st) (λ a n k. same-link _ (closed-in Stay true (s .end .control)) st)
   stream-in-acts st Verb.confirmed = confirmed-cases AfterIn s (λ q n. st) (λ g a. st)
   stream-in-acts st Verb.pace = pace-cases AfterIn s (λ q n. st) (λ g a. st)
   stream-in-acts st (Verb.sendData bytes) = send-cases AfterIn s bytes (λ q n. st) (λ a k. st) (λ a k h. st)
-  stream-in-acts st (Verb.prepareToReceive c) =
-      close-cases AfterIn s ChangeDirection c (λ q n. st) (λ a n. st) (λ a n k. same-link _ (closed-in ChangeDirection c (s .end .control)) st)
-  stream-in-acts st (Verb.deallocate c) =
-      close-cases AfterIn s EndBracket c (λ q n. st) (λ a n. st) (λ a n k. same-link _ (closed-in EndBracket c (s .end .control)) st)
+  stream-in-acts st (Verb.close f c) =
+      close-cases AfterIn s f c (λ q n. st) (λ a n. st) (λ a n k. same-link _ (closed-in f c (s .end .control)) st)
   stream-in-acts st (Verb.receive buffer) =
       read-cases AfterIn s buffer (λ q w n. st) (λ a h. st) (λ a h m. same-link _ (answered-in (s .end .control)) st)
 

@@ -6,6 +6,8 @@ use mathlib.Core.List.{List, [], _∷_}
 use mathlib.Core.Path.{_≡_}
 use lib.Dec.{eqb}
 use lib.ListN.{length, take}
+use Rattle.header.specs.declared.Follows.{Follows}
+use Rattle.header.specs.declared.Follows.the-variants.{Stay, ChangeDirection, EndBracket}
 use Rattle.control.specs.declared.WhatReceived.the-variants as mark
 use Rattle.session.specs.Opening as O
 use Rattle.end.specs.Allocate as A
@@ -29,12 +31,26 @@ pub record Station : Type 0 where
   pub unit : List ℕ
   pub inbox : List ℕ
 
--- A call with all that its caller chooses: the bytes given; with or without confirmation; the read's buffer with its former cells.
+-- A call with all that its caller chooses: the bytes given; of a closing call what follows, and whether confirmation is asked; the read's buffer
+-- with its former cells.
 pub data Verb : Type 0 where
-  allocate flush confirm confirmed pace : Verb
+  allocate confirmed pace : Verb
   sendData : List ℕ → Verb
-  prepareToReceive deallocate : Bool → Verb
+  close : Follows → Bool → Verb
   receive : List ℕ → Verb
+
+-- the four closing calls by their names; document 01 says turn and end for the last two
+abbrev pub flush : Verb
+flush = close Stay false
+
+abbrev pub confirm : Verb
+confirm = close Stay true
+
+abbrev pub prepareToReceive : Bool → Verb
+prepareToReceive asked = close ChangeDirection asked
+
+abbrev pub deallocate : Bool → Verb
+deallocate asked = close EndBracket asked
 
 -- An answer, with what a read adds to it and the cells of its buffer.
 pub record Reply : Type 0 where
@@ -80,10 +96,7 @@ copies s m =
 unfoldable pub acts : Station → Verb → Acted Station Reply (List ℕ)
 acts s allocate = makes s (A.allocate (s .end) (s .unit))
 acts s (sendData bytes) = sends s (S.sendData (s .end) bytes (s .send) (s .unit))
-acts s flush = makes s (C.flush (s .end) (s .send) (s .unit))
-acts s confirm = makes s (C.confirm (s .end) (s .send) (s .unit))
-acts s (prepareToReceive b) = makes s (C.prepareToReceive b (s .end) (s .send) (s .unit))
-acts s (deallocate b) = makes s (C.deallocate b (s .end) (s .send) (s .unit))
+acts s (close f b) = makes s (C.close f b (s .end) (s .send) (s .unit))
 acts s confirmed = makes s (F.confirmed (s .end) (s .unit))
 acts s (receive buffer) = copies s (R.receive (s .end) (s .inbox) buffer)
 acts s pace = makes s (P.pace (s .end) (s .unit))

@@ -14,7 +14,7 @@ use Rattle.header.specs.Rules.{isData, bytes, sameHeader}
 use Rattle.unit.specs.Unit.{RU-START, headerIn}
 use Rattle.answers.specs.Answers.{BAD-LL}
 use Rattle.joined.specs.Joined.{Event, acted, took}
-use Rattle.joined.specs.Ends.{Station, Verb, allocate, flush, confirm, confirmed, pace, sendData, prepareToReceive, deallocate, receive, Reply, refusalIn}
+use Rattle.joined.specs.Ends.{Station, Verb, allocate, confirmed, pace, sendData, close, receive, Reply, refusalIn}
 
 abbrev pub Log : Type 0
 Log = List (Event Verb Reply (List ℕ))
@@ -24,13 +24,10 @@ Log = List (Event Verb Reply (List ℕ))
 -- the bytes that a call gives, if it is accepted
 abbrev pub given : Verb → ℕ → List ℕ
 given allocate q = []
-given flush q = []
-given confirm q = []
 given confirmed q = []
 given pace q = []
 given (sendData bytes) q = cond (eqb q 0) bytes []
-given (prepareToReceive b) q = []
-given (deallocate b) q = []
+given (close f b) q = []
 given (receive buffer) q = []
 
 -- accepted are the bytes of accepted send data calls
@@ -112,13 +109,10 @@ refusedWith n (took u r us ∷ es) = count (eqb (refusalIn r) n) + refusedWith n
 -- the reads that were refused with 8
 abbrev pub isBadRead : Verb → ℕ → Bool
 isBadRead allocate q = false
-isBadRead flush q = false
-isBadRead confirm q = false
 isBadRead confirmed q = false
 isBadRead pace q = false
 isBadRead (sendData bytes) q = false
-isBadRead (prepareToReceive b) q = false
-isBadRead (deallocate b) q = false
+isBadRead (close f b) q = false
 isBadRead (receive buffer) q = eqb q BAD-LL
 
 unfoldable pub badReads : Log → ℕ

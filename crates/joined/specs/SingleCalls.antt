@@ -7,7 +7,6 @@ use mathlib.Core.Bool.{Bool, true, false, _&&_}
 use mathlib.Core.List.{List, [], _++_}
 use lib.Dec.{eqb}
 use lib.ListN.{length, getD}
-use Rattle.header.specs.declared.Follows.the-variants.{Stay, ChangeDirection, EndBracket}
 use Rattle.unit.specs.Unit.{numberIn}
 use Rattle.answers.specs.Questions.{firstNo}
 use Rattle.session.specs.Opening.{opened}
@@ -20,7 +19,7 @@ use Rattle.end.specs.ReceiveUnit.{headQuestions, kindQuestions, headerTaken, ru
 use Rattle.end.specs.Receive.{readQuestions}
 use Rattle.end.specs.Pace.{paceQuestions}
 use Rattle.sides.specs.declared.Session.{Session}
-use Rattle.joined.specs.Ends.{Station, Verb, allocate, flush, confirm, confirmed, pace, sendData, prepareToReceive, deallocate, receive, refusalIn, acts, takes}
+use Rattle.joined.specs.Ends.{Station, Verb, allocate, confirmed, pace, sendData, close, receive, refusalIn, acts, takes}
 use Rattle.joined.specs.Histories.{count, isRequest, requestsAmong, isPacingResponse}
 
 -- ---- refusals
@@ -28,13 +27,10 @@ use Rattle.joined.specs.Histories.{count, isRequest, requestsAmong, isPa
 -- the questions of a call in document 01's order, each with its number
 abbrev pub questions : Station → Verb → List (Bool × ℕ)
 questions s allocate = allocateQuestions (s .end) (length (s .unit))
-questions s flush = closeQuestions (s .end) Stay false (length (s .send)) (length (s .unit))
-questions s confirm = closeQuestions (s .end) Stay true (length (s .send)) (length (s .unit))
 questions s confirmed = confirmedQuestions (s .end) (length (s .unit))
 questions s pace = paceQuestions (s .end) (length (s .unit))
 questions s (sendData bytes) = sendQuestions (s .end) bytes (length (s .send)) (length (s .unit))
-questions s (prepareToReceive b) = closeQuestions (s .end) ChangeDirection b (length (s .send)) (length (s .unit))
-questions s (deallocate b) = closeQuestions (s .end) EndBracket b (length (s .send)) (length (s .unit))
+questions s (close f b) = closeQuestions (s .end) f b (length (s .send)) (length (s .unit))
 questions s (receive buffer) = readQuestions (s .end) (s .inbox) (length buffer)
 
 abbrev pub takeQuestions : Station → List ℕ → List (Bool × ℕ)
@@ -64,13 +60,10 @@ AllBytes bs = (k : ℕ) → getD bs k 0 < 256
 -- the bytes that a call gives are bytes
 abbrev pub BytesOf : Verb → Type 0
 BytesOf allocate = Unit {0}
-BytesOf flush = Unit {0}
-BytesOf confirm = Unit {0}
 BytesOf confirmed = Unit {0}
 BytesOf pace = Unit {0}
 BytesOf (sendData bytes) = AllBytes bytes
-BytesOf (prepareToReceive b) = Unit {0}
-BytesOf (deallocate b) = Unit {0}
+BytesOf (close f b) = Unit {0}
 BytesOf (receive buffer) = Unit {0}
 
 -- An accepted call's record was within the section 'The end's record', and the record that it leaves is; so is that of an accepted opening.
@@ -86,13 +79,10 @@ pub record StaysGood : Type 0 where
 
 abbrev pub isPace : Verb → Bool
 isPace allocate = false
-isPace flush = false
-isPace confirm = false
 isPace confirmed = false
 isPace pace = true
 isPace (sendData bytes) = false
-isPace (prepareToReceive b) = false
-isPace (deallocate b) = false
+isPace (close f b) = false
 isPace (receive buffer) = false
 
 -- A request made costs exactly 1 credit and a pacing answer taken raises it by exactly W; a request taken lowers open by exactly 1 and pace raises it by

@@ -16,19 +16,16 @@ use Rattle.joined.specs.Joined.{Acted}
 use Rattle.joined.specs.Ends.{Station, Reply, unitsOf, makes, sends, copies}
 use Rattle.joined.proofs.Cases.{cases}
 use Rattle.script.specs.declared.Verb.{Verb}
-use Rattle.script.specs.declared.Verb.the-variants.{Allocate, Flush, Confirm, Confirmed, SendPacingResponse, SendData, PrepareToReceive, Deallocate, Receive}
+use Rattle.script.specs.declared.Verb.the-variants.{Allocate, Confirmed, SendPacingResponse, SendData, Close, Receive}
 use Rattle.script_calls.specs.Calls.{isRead, stationOf, plainDone}
 
 -- one call alone is a read
 pub read-is : (v : Verb) → isRead v ≡ true → v ≡ Receive
 read-is Allocate e = absurd (false≢true e)
-read-is Flush e = absurd (false≢true e)
-read-is Confirm e = absurd (false≢true e)
 read-is Confirmed e = absurd (false≢true e)
 read-is SendPacingResponse e = absurd (false≢true e)
 read-is SendData e = absurd (false≢true e)
-read-is (PrepareToReceive b) e = absurd (false≢true e)
-read-is (Deallocate b) e = absurd (false≢true e)
+read-is (Close f b) e = absurd (false≢true e)
 read-is Receive e = refl
 
 -- the end, the cells, the reply's buffer and the unit made, of what is handed back

@@ -11,29 +11,23 @@ use Rattle.joined.specs.Joined.{Acted}
 use Rattle.joined.specs.Ends as J
 use Rattle.joined.specs.Ends.{Station, Reply, plain, unitsOf}
 use Rattle.script.specs.declared.Verb.{Verb}
-use Rattle.script.specs.declared.Verb.the-variants.{Allocate, Flush, Confirm, Confirmed, SendPacingResponse, SendData, PrepareToReceive, Deallocate, Receive}
+use Rattle.script.specs.declared.Verb.the-variants.{Allocate, Confirmed, SendPacingResponse, SendData, Close, Receive}
 
 -- the call of two joined ends, with the bytes given and the cells of a read's buffer
 abbrev pub verbOf : Verb → List ℕ → List ℕ → J.Verb
 verbOf Allocate given buffer = J.allocate
-verbOf Flush given buffer = J.flush
-verbOf Confirm given buffer = J.confirm
 verbOf Confirmed given buffer = J.confirmed
 verbOf SendPacingResponse given buffer = J.pace
 verbOf SendData given buffer = J.sendData given
-verbOf (PrepareToReceive b) given buffer = J.prepareToReceive b
-verbOf (Deallocate b) given buffer = J.deallocate b
+verbOf (Close f b) given buffer = J.close f b
 verbOf Receive given buffer = J.receive buffer
 
 abbrev pub isRead : Verb → Bool
 isRead Allocate = false
-isRead Flush = false
-isRead Confirm = false
 isRead Confirmed = false
 isRead SendPacingResponse = false
 isRead SendData = false
-isRead (PrepareToReceive b) = false
-isRead (Deallocate b) = false
+isRead (Close f b) = false
 isRead Receive = true
 
 -- only a read's reply has the cells of a buffer

@@ -9,6 +9,7 @@ use Rattle.control.specs.declared.State.{State}
 use Rattle.control.specs.declared.State.the-variants.{Reset, Send, Receive}
 use Rattle.end.specs.Record.{creditOf}
 use Rattle.joined.specs.Joined.{At, first, second, act, take, acted, took, Side, Both}
+use Rattle.joined.specs.Ends as J
 use Rattle.joined.specs.Ends.{Station, Verb, Reply, refusalIn, openedBoth}
 use Rattle.joined.specs.Histories as H
 use Rattle.joined.specs.Histories.{Log, pacingResponsesTaken, requestsMade}
@@ -36,7 +37,7 @@ race =
     second (act Verb.allocate)
     ∷ first (act Verb.allocate)
     ∷ first (act (Verb.sendData aRecord))
-    ∷ first (act (Verb.deallocate false))
+    ∷ first (act (J.deallocate false))
     ∷ first take
     ∷ second take
     ∷ second (act (Verb.receive (zeros 3)))
@@ -64,7 +65,7 @@ refused =
     ∷ first (act Verb.allocate)
     ∷ first (act (Verb.sendData aRecord))
     ∷ first take
-    ∷ first (act (Verb.prepareToReceive false))
+    ∷ first (act (J.prepareToReceive false))
     ∷ second take
     ∷ second take
     ∷ second (act (Verb.receive (zeros 64)))
@@ -103,9 +104,9 @@ cut =
     ∷ second take
     ∷ second (act Verb.pace)
     ∷ first (act (Verb.sendData four))
-    ∷ first (act (Verb.deallocate false))
+    ∷ first (act (J.deallocate false))
     ∷ first take
-    ∷ first (act (Verb.deallocate false))
+    ∷ first (act (J.deallocate false))
     ∷ second (act (Verb.receive (zeros 5)))
     ∷ second take
     ∷ second take
@@ -129,7 +130,7 @@ abbrev pub confirmTurn : List (At Verb)
 confirmTurn =
     first (act Verb.allocate)
     ∷ first (act (Verb.sendData aRecord))
-    ∷ first (act (Verb.prepareToReceive true))
+    ∷ first (act (J.prepareToReceive true))
     ∷ second take
     ∷ second (act (Verb.receive (zeros 8)))
     ∷ second (act (Verb.receive (zeros 8)))

@@ -5,6 +5,7 @@ use mathlib.Core.List.{List, [], _∷_, _++_}
 use lib.ListN.{length}
 use Rattle.sides.specs.declared.Session.{Session}
 use Rattle.joined.specs.Joined.{Acted, Took, Side, Both, At, run}
+use Rattle.joined.specs.Ends as J
 use Rattle.joined.specs.Ends.{Station, Verb, Reply, Buffers, acts, takes, openedWith, openedBoth}
 
 abbrev pub zeros : ℕ → List ℕ
@@ -80,7 +81,7 @@ abbrev pub shortestRecord : List ℕ
 shortestRecord = 0x00 ∷ 0x02 ∷ []
 
 abbrev pub flushed : List Verb
-flushed = Verb.sendData shortestRecord ∷ Verb.flush ∷ []
+flushed = Verb.sendData shortestRecord ∷ J.flush ∷ []
 
 -- the first three such units of a first speaker
 abbrev pub firstUnit : List ℕ
