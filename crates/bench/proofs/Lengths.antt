@@ -2,7 +2,7 @@
 -- Assumes nothing.
 use Prim.Native.Nat.{ℕ, _+_, _-_, _≤_, zero-le}
 use mathlib.Core.Path.{_≡_}
-use mathlib.Core.Bool.{Bool, true, false}
+use mathlib.Core.Bool.{true}
 use mathlib.Core.List.{List}
 use native.Mathlib.Omega.{arith}
 use borrow.Author.Tests.{leb-true}
@@ -24,7 +24,7 @@ use Rattle.end.specs.Receive.{bytesRead, markRead}
 use Rattle.end.specs.ReceiveUnit.{headerTaken, ruTaken}
 use Rattle.end.specs.declared.End.{End}
 use Rattle.joined.specs.Joined.{Acted, Took}
-use Rattle.joined.specs.Ends.{Station, Verb, Reply, acts, takes}
+use Rattle.joined.specs.Ends.{Lane, normal, Station, Verb, Reply, acts, takes}
 use Rattle.joined.proofs.Rows.{left, right}
 use Rattle.joined.proofs.Good.{sending-good, held-most}
 use Rattle.joined.proofs.Acts.{spilledRu, allocate-cases, send-cases, close-cases, confirmed-cases, pace-cases, read-cases, take-cases, tookKind}
@@ -56,7 +56,7 @@ spilled-short : (s : Station) (bytes : List ℕ) → recordGood (s .end) ≡ tru
 spilled-short s bytes g = simp (length-append, length-take) (omega (arith, held-most (s .end) g, greatest-max (s .end) g))
 
 module _ (s : Station) where
-  abbrev After : Acted Station Reply (List ℕ) → Type 0
+  abbrev After : Acted Lane Station Reply (List ℕ) → Type 0
   After m = Fits (m .answer .answer .answer .unit) (m .end .unit)
 
   pub acts-fit : (v : Verb) → After (acts s v)
@@ -82,7 +82,7 @@ module _ (s : Station) where
   fixed-short Confirmation = omega arith
   fixed-short PacingResponse = omega arith
 
-  abbrev AfterTake : Took Station Reply (List ℕ) → Type 0
+  abbrev AfterTake : Took Lane Station Reply (List ℕ) → Type 0
   AfterTake t = Fits (t .answer .answer .answer .unit) (t .end .unit)
 
   kind-fits : (h : Header) (n : ℕ) (ru : List ℕ) → AfterTake (tookKind s h n ru)
@@ -95,6 +95,6 @@ module _ (s : Station) where
   kind-fits Confirmation n ru = none (s .unit)
   kind-fits PacingResponse n ru = none (s .unit)
 
-  pub takes-fit : (naming : List ℕ → ℕ) (u : List ℕ) → AfterTake (takes naming s u)
+  pub takes-fit : (naming : List ℕ → ℕ) (u : List ℕ) → AfterTake (takes naming normal s u)
   takes-fit naming u =
       take-cases AfterTake naming s u (λ q w n. none (s .unit)) (λ a k. kind-fits (headerTaken u) (numberIn u) (ruTaken u))

@@ -28,7 +28,7 @@ use Rattle.end.specs.Close.{lastMade}
 use Rattle.end.specs.ReceiveUnit.{kindQuestions, headerTaken, ruTaken, dataJoined, bidAnswered, creditRaised}
 use Rattle.end.specs.Receive.{bytesRead, markRead}
 use Rattle.joined.specs.Joined.{Acted, Took}
-use Rattle.joined.specs.Ends.{Station, Verb, Reply, refusalIn, acts, takes}
+use Rattle.joined.specs.Ends.{Lane, normal, Station, Verb, Reply, refusalIn, acts, takes}
 use Rattle.joined.specs.Histories.{count, isRequest, requestsAmong, isPacingResponse}
 use Rattle.joined.specs.SingleCalls.{isPace, CreditExact}
 use Rattle.joined.proofs.Rows.{left, all-yes}
@@ -72,8 +72,8 @@ answer-asks c = by (isReset (c .state))
 -- ---- calls that the end answers by itself
 
 module _ (s : Station) where
-  abbrev Costs : Acted Station Reply (List ℕ) → Type 0
-  Costs m = requestsAmong (m .sent) + creditOf (m .end .end) ≡ creditOf (s .end)
+  abbrev Costs : Acted Lane Station Reply (List ℕ) → Type 0
+  Costs m = requestsAmong (m .sent normal) + creditOf (m .end .end) ≡ creditOf (s .end)
 
   free : requestsAmong [] + creditOf (s .end) ≡ creditOf (s .end)
   free = none-made (creditOf (s .end))
@@ -93,11 +93,12 @@ module _ (s : Station) where
   request-costs-one (Verb.close f b) =
       close-cases Costs s f b (λ q n. free) (λ a n. free)
       (λ a n k.
-      request-made s (nextNumber (s .end .sending .number)) (dataHeader (s .end) (Last f b)) (heldBytes (s .end) (s .send)) (data-asks s (Last f b)) (a .good) k)
+      request-made s (nextNumber (s .end .sending .number)) (dataHeader (s .end) (Last f b)) (heldBytes (s .end) (s .send))
+      (data-asks s (Last f b)) (a .good) k)
   request-costs-one (Verb.receive buffer) = read-cases Costs s buffer (λ q w n. free) (λ a h. free) (λ a h m. free)
 
   -- open, and the window that it rises by
-  abbrev Opens : Verb → Acted Station Reply (List ℕ) → Type 0
+  abbrev Opens : Verb → Acted Lane Station Reply (List ℕ) → Type 0
   Opens v m = openOf (m .end .end) ≡ openOf (s .end) + s .end .receiving .window .size * count (eqb (refusalIn (m .answer)) 0 && isPace v)
 
   same : (b : Bool) → b ≡ false → openOf (s .end) ≡ openOf (s .end) + s .end .receiving .window .size * count b
@@ -135,10 +136,10 @@ module _ (s : Station) where
 
 module _ (naming : List ℕ → ℕ) (s : Station) (u : List ℕ) where
   -- what a take gives and costs, by whether the unit is a pacing response and whether it is a request
-  abbrev Raises : Bool → Took Station Reply (List ℕ) → Type 0
+  abbrev Raises : Bool → Took Lane Station Reply (List ℕ) → Type 0
   Raises b t = creditOf (t .end .end) ≡ creditOf (s .end) + s .end .sending .window .size * count (eqb (refusalIn (t .answer)) 0 && b)
 
-  abbrev Lowers : Bool → Took Station Reply (List ℕ) → Type 0
+  abbrev Lowers : Bool → Took Lane Station Reply (List ℕ) → Type 0
   Lowers b t = openOf (t .end .end) + count (eqb (refusalIn (t .answer)) 0 && b) ≡ openOf (s .end)
 
   as-was : (c z : ℕ) → c ≡ c + z * 0
@@ -178,7 +179,7 @@ module _ (naming : List ℕ → ℕ) (s : Station) (u : List ℕ) where
   refused-count : (q : ℕ) (b : Bool) → eqb q 0 ≡ false → count (eqb q 0 && b) ≡ 0
   refused-count q b n = ap (λ (x : Bool). count (x && b)) n
 
-  response-raises-window : Raises (isPacingResponse u) (takes naming s u)
+  response-raises-window : Raises (isPacingResponse u) (takes naming normal s u)
   response-raises-window =
       take-cases (Raises (isPacingResponse u)) naming s u
       (λ q w n.
@@ -187,7 +188,7 @@ module _ (naming : List ℕ → ℕ) (s : Station) (u : List ℕ) where
       (λ a k.
       rw (pacing-taken u (a .header)) (kind-raises (headerTaken u) (numberIn u) (ruTaken u) k))
 
-  request-lowers-one : Lowers (isRequest u) (takes naming s u)
+  request-lowers-one : Lowers (isRequest u) (takes naming normal s u)
   request-lowers-one =
       take-cases (Lowers (isRequest u)) naming s u
       (λ q w n. ap (λ (k : ℕ). openOf (s .end) + k) (refused-count q (isRequest u) n) ∙ unmoved (openOf (s .end)))

@@ -31,7 +31,7 @@ use Rattle.end.specs.Receive.{bytesRead}
 use Rattle.sides.specs.Receiving.{mayPace}
 use Rattle.end.specs.declared.End.{End}
 use Rattle.joined.specs.Joined.{Acted, Took}
-use Rattle.joined.specs.Ends.{Station, Verb, Reply, acts, takes}
+use Rattle.joined.specs.Ends.{Lane, normal, Station, Verb, Reply, acts, takes}
 use Rattle.joined.proofs.Rows.{left, right, all-yes}
 use Rattle.joined.proofs.Good.{never}
 use Rattle.joined.proofs.Acts.{allocate-cases, bidNumber, send-cases, spilledRu, close-cases, confirmed-cases, pace-cases, read-cases, take-cases, TakeAsked, tookKind}
@@ -48,8 +48,8 @@ owedOf s = s .end .receiving .window .pending
 -- ---- as the sending end
 
 module _ (s : Station) (owed : Bool) (line back : List (List ℕ)) (p : Paces (unansweredOf s) owed line back) where
-  abbrev After : Acted Station Reply (List ℕ) → Type 0
-  After m = Paces (unansweredOf (m .end)) owed (line ++ m .sent) back
+  abbrev After : Acted Lane Station Reply (List ℕ) → Type 0
+  After m = Paces (unansweredOf (m .end)) owed (line ++ m .sent normal) back
 
   quiet-line : {b : Bool} → Paces b owed line back → Paces b owed (line ++ []) back
   quiet-line {b} j = subst (λ (l : List (List ℕ)). Paces b owed l back) (sym (append-nil line)) j
@@ -91,8 +91,8 @@ answers-no-pacing c = by (isReset (c .state))
 
 -- a take at the sending end: a pacing response of the line back answers its request
 module _ (s : Station) (owed : Bool) (line back : List (List ℕ)) (u : List ℕ) (p : Paces (unansweredOf s) owed line (u ∷ back)) where
-  abbrev Left : Took Station Reply (List ℕ) → Type 0
-  Left t = Paces (unansweredOf (t .end)) owed (line ++ t .sent) (cond (t .removed) back (u ∷ back))
+  abbrev Left : Took Lane Station Reply (List ℕ) → Type 0
+  Left t = Paces (unansweredOf (t .end)) owed (line ++ t .sent normal) (cond (t .removed) back (u ∷ back))
 
   still : {b : Bool} {rest : List (List ℕ)} → Paces b owed line rest → Paces b owed (line ++ []) rest
   still {b} {rest} j = subst (λ (l : List (List ℕ)). Paces b owed l rest) (sym (append-nil line)) j
@@ -111,14 +111,14 @@ module _ (s : Station) (owed : Bool) (line back : List (List ℕ)) (u : List ℕ
   kind-out Confirmation n ru e = still (other Confirmation e refl)
   kind-out PacingResponse n ru e = still (paces-answered e p .1)
 
-  pub paces-takes : (naming : List ℕ → ℕ) → Left (takes naming s u)
+  pub paces-takes : (naming : List ℕ → ℕ) → Left (takes naming normal s u)
   paces-takes naming = take-cases Left naming s u (λ q w n. still p) (λ a k. kind-out (headerTaken u) (numberIn u) (ruTaken u) refl)
 
 -- ---- as the receiving end
 
 module _ (s : Station) (unanswered : Bool) (back line : List (List ℕ)) (p : Paces unanswered (owedOf s) back line) where
-  abbrev AfterIn : Acted Station Reply (List ℕ) → Type 0
-  AfterIn m = Paces unanswered (owedOf (m .end)) back (line ++ m .sent)
+  abbrev AfterIn : Acted Lane Station Reply (List ℕ) → Type 0
+  AfterIn m = Paces unanswered (owedOf (m .end)) back (line ++ m .sent normal)
 
   quiet-back : {b : Bool} → Paces unanswered b back line → Paces unanswered b back (line ++ [])
   quiet-back {b} j = subst (λ (l : List (List ℕ)). Paces unanswered b back l) (sym (append-nil line)) j
@@ -149,8 +149,8 @@ agrees false true e = e
 agrees false false e = refl
 
 module _ (s : Station) (unanswered : Bool) (back line : List (List ℕ)) (u : List ℕ) (p : Paces unanswered (owedOf s) (u ∷ back) line) where
-  abbrev LeftIn : Took Station Reply (List ℕ) → Type 0
-  LeftIn t = Paces unanswered (owedOf (t .end)) (cond (t .removed) back (u ∷ back)) (line ++ t .sent)
+  abbrev LeftIn : Took Lane Station Reply (List ℕ) → Type 0
+  LeftIn t = Paces unanswered (owedOf (t .end)) (cond (t .removed) back (u ∷ back)) (line ++ t .sent normal)
 
   still-in : {b : Bool} {rest : List (List ℕ)} → Paces unanswered b rest line → Paces unanswered b rest (line ++ [])
   still-in {b} {rest} j = subst (λ (l : List (List ℕ)). Paces unanswered b rest l) (sym (append-nil line)) j
@@ -183,5 +183,5 @@ module _ (s : Station) (unanswered : Bool) (back line : List (List ℕ)) (u : Li
   kind-in Confirmation n ru e k = still-in (unflagged Confirmation e refl)
   kind-in PacingResponse n ru e k = still-in (unflagged PacingResponse e refl)
 
-  pub paces-in-takes : (naming : List ℕ → ℕ) → LeftIn (takes naming s u)
+  pub paces-in-takes : (naming : List ℕ → ℕ) → LeftIn (takes naming normal s u)
   paces-in-takes naming = take-cases LeftIn naming s u (λ q w n. still-in p) (λ a k. kind-in (headerTaken u) (numberIn u) (ruTaken u) refl k)

@@ -29,7 +29,7 @@ use Rattle.end.specs.Pace.{paceRefusal, paceDecision, pace}
 use Rattle.end.specs.declared.End.{End}
 use Rattle.end.specs.declared.ReadDone.{ReadDone}
 use Rattle.joined.specs.Joined.{Acted, Took}
-use Rattle.joined.specs.Ends.{Station, Verb, Reply, refusalIn, acts, takes}
+use Rattle.joined.specs.Ends.{Lane, normal, Station, Verb, Reply, refusalIn, onNormal, acts, takes}
 use Rattle.joined.specs.SingleCalls.{questions, takeQuestions}
 use Rattle.joined.proofs.Cases.{cases}
 use Rattle.joined.proofs.Rows.{left, right}
@@ -91,7 +91,7 @@ kind-accepted e NegativeBidResponse n ru = refl
 kind-accepted e Confirmation n ru = refl
 kind-accepted e PacingResponse n ru = refl
 
-pub take-number-is : (naming : List ℕ → ℕ) (s : Station) (u : List ℕ) → refusalIn (takes naming s u .answer) ≡ firstNo (takeQuestions s u)
+pub take-number-is : (naming : List ℕ → ℕ) (s : Station) (u : List ℕ) → refusalIn (takes naming normal s u .answer) ≡ firstNo (takeQuestions s u)
 unfolding takes receiveUnit takeDecision takeRefusal
 take-number-is naming s u =
     number-of (refusedNaming (naming u)) (λ q. refl) _ (s .end) _ (kind-accepted (s .end) (headerTaken u) (numberIn u) (ruTaken u))
@@ -134,7 +134,7 @@ module _ (s : Station) (g : recordGood (s .end) ≡ true) where
   kind-5 Confirmation n ru = refl
   kind-5 PacingResponse n ru = refl
 
-  pub take-never-5 : (naming : List ℕ → ℕ) (u : List ℕ) → eqb (refusalIn (takes naming s u .answer)) 5 ≡ false
+  pub take-never-5 : (naming : List ℕ → ℕ) (u : List ℕ) → eqb (refusalIn (takes naming normal s u .answer)) 5 ≡ false
   take-never-5 naming u =
       ap (λ (q : ℕ). eqb q 5) (take-number-is naming s u)
       ∙ not-first (takeQuestions s u) 5 refl (both (recordGood (s .end)) _ g (kind-5 (headerTaken u) (numberIn u) (ruTaken u)))
@@ -143,10 +143,10 @@ module _ (s : Station) (g : recordGood (s .end) ≡ true) where
 
 module _ (s : Station) where
   -- neither the record nor a lent cell is changed, and no unit is made
-  abbrev Nothing : Acted Station Reply (List ℕ) → Type 0
-  Nothing m = eqb (refusalIn (m .answer)) 0 ≡ false → (m .end ≡ s) × (m .sent ≡ [])
+  abbrev Nothing : Acted Lane Station Reply (List ℕ) → Type 0
+  Nothing m = eqb (refusalIn (m .answer)) 0 ≡ false → (m .end ≡ s) × (m .sent ≡ onNormal [])
 
-  pub refused-nothing : (v : Verb) → eqb (refusalIn (acts s v .answer)) 0 ≡ false → (acts s v .end ≡ s) × (acts s v .sent ≡ [])
+  pub refused-nothing : (v : Verb) → eqb (refusalIn (acts s v .answer)) 0 ≡ false → (acts s v .end ≡ s) × (acts s v .sent ≡ onNormal [])
   unfolding acts bytesRead markRead
   refused-nothing Verb.allocate = allocate-cases Nothing s (λ q n h. (refl, refl)) (λ g a w h. yes h) (λ g a w k h. yes h)
   refused-nothing Verb.confirmed = confirmed-cases Nothing s (λ q n h. (refl, refl)) (λ g a h. yes h)
@@ -160,10 +160,10 @@ module _ (s : Station) where
       → acts s (Verb.receive buffer) .answer .buffer ≡ buffer
   unfolding bytesRead markRead
   refused-buffer buffer =
-      read-cases (λ (m : Acted Station Reply (List ℕ)). eqb (refusalIn (m .answer)) 0 ≡ false → m .answer .buffer ≡ buffer) s buffer
+      read-cases (λ (m : Acted Lane Station Reply (List ℕ)). eqb (refusalIn (m .answer)) 0 ≡ false → m .answer .buffer ≡ buffer) s buffer
       (λ q w n h. refl) (λ a k h. yes h) (λ a k m h. yes h)
 
-  abbrev Asked : Acted Station Reply (List ℕ) → Type 0
+  abbrev Asked : Acted Lane Station Reply (List ℕ) → Type 0
   Asked m = eqb (refusalIn (m .answer)) 0 ≡ true → recordGood (s .end) ≡ true
 
   pub accepted-good : (v : Verb) → eqb (refusalIn (acts s v .answer)) 0 ≡ true → recordGood (s .end) ≡ true
@@ -178,8 +178,8 @@ module _ (s : Station) where
 -- ---- takes
 
 module _ (naming : List ℕ → ℕ) (s : Station) (u : List ℕ) where
-  abbrev Untaken : Took Station Reply (List ℕ) → Type 0
-  Untaken t = eqb (refusalIn (t .answer)) 0 ≡ false → (t .end ≡ s) × (t .sent ≡ []) × (t .removed ≡ false)
+  abbrev Untaken : Took Lane Station Reply (List ℕ) → Type 0
+  Untaken t = eqb (refusalIn (t .answer)) 0 ≡ false → (t .end ≡ s) × (t .sent ≡ onNormal []) × (t .removed ≡ false)
 
   kind-untaken : (h : Header) (n : ℕ) (ru : List ℕ) → Untaken (tookKind s h n ru)
   kind-untaken (Data d) n ru h = yes h
@@ -190,12 +190,12 @@ module _ (naming : List ℕ → ℕ) (s : Station) (u : List ℕ) where
   kind-untaken PacingResponse n ru h = yes h
 
   -- a refused take changes nothing, makes no unit, and leaves the unit on its line
-  pub refused-take-nothing : eqb (refusalIn (takes naming s u .answer)) 0 ≡ false
-      → (takes naming s u .end ≡ s) × (takes naming s u .sent ≡ []) × (takes naming s u .removed ≡ false)
+  pub refused-take-nothing : eqb (refusalIn (takes naming normal s u .answer)) 0 ≡ false
+      → (takes naming normal s u .end ≡ s) × (takes naming normal s u .sent ≡ onNormal []) × (takes naming normal s u .removed ≡ false)
   refused-take-nothing =
       take-cases Untaken naming s u (λ q w n h. (refl, refl, refl)) (λ a k. kind-untaken (headerTaken u) (numberIn u) (ruTaken u))
 
-  pub accepted-take-good : eqb (refusalIn (takes naming s u .answer)) 0 ≡ true → recordGood (s .end) ≡ true
+  pub accepted-take-good : eqb (refusalIn (takes naming normal s u .answer)) 0 ≡ true → recordGood (s .end) ≡ true
   accepted-take-good =
-      take-cases (λ (t : Took Station Reply (List ℕ)). eqb (refusalIn (t .answer)) 0 ≡ true → recordGood (s .end) ≡ true) naming s u
+      take-cases (λ (t : Took Lane Station Reply (List ℕ)). eqb (refusalIn (t .answer)) 0 ≡ true → recordGood (s .end) ≡ true) naming s u
       (λ q w n h. no (eqb q 0) n h) (λ a k h. a .good)

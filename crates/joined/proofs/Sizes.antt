@@ -2,7 +2,6 @@
 -- Assumes nothing.
 use Prim.Native.Nat.{ℕ}
 use mathlib.Core.Path.{_≡_, refl}
-use mathlib.Core.Bool.{Bool, true, false}
 use mathlib.Core.List.{List}
 use Rattle.unit.specs.Unit.{numberIn}
 use Rattle.header.specs.declared.Header.{Header}
@@ -15,14 +14,14 @@ use Rattle.end.specs.Close.{lastMade}
 use Rattle.end.specs.ReceiveUnit.{headerTaken, ruTaken, dataJoined, bidAnswered, creditRaised}
 use Rattle.end.specs.Receive.{bytesRead}
 use Rattle.joined.specs.Joined.{Acted, Took}
-use Rattle.joined.specs.Ends.{Station, Verb, Reply, acts, takes}
+use Rattle.joined.specs.Ends.{Lane, normal, Station, Verb, Reply, acts, takes}
 use Rattle.joined.proofs.Acts.{allocate-cases, send-cases, close-cases, confirmed-cases, pace-cases, read-cases, take-cases, tookKind}
 
 abbrev pub sizeOf : Station → ℕ
 sizeOf s = s .end .sending .window .size
 
 module _ (s : Station) where
-  abbrev After : Acted Station Reply (List ℕ) → Type 0
+  abbrev After : Acted Lane Station Reply (List ℕ) → Type 0
   After m = sizeOf (m .end) ≡ sizeOf s
 
   pub size-acts : (v : Verb) → After (acts s v)
@@ -43,7 +42,7 @@ module _ (s : Station) where
   kind-size Confirmation n ru = refl
   kind-size PacingResponse n ru = refl
 
-  pub size-takes : (naming : List ℕ → ℕ) (u : List ℕ) → sizeOf (takes naming s u .end) ≡ sizeOf s
+  pub size-takes : (naming : List ℕ → ℕ) (u : List ℕ) → sizeOf (takes naming normal s u .end) ≡ sizeOf s
   size-takes naming u =
-      take-cases (λ (t : Took Station Reply (List ℕ)). sizeOf (t .end) ≡ sizeOf s) naming s u (λ q w n. refl)
+      take-cases (λ (t : Took Lane Station Reply (List ℕ)). sizeOf (t .end) ≡ sizeOf s) naming s u (λ q w n. refl)
       (λ a k. kind-size (headerTaken u) (numberIn u) (ruTaken u))

@@ -44,7 +44,7 @@ use Rattle.end.specs.Close.{nothingGoes, lastMade}
 use Rattle.end.specs.ReceiveUnit.{headerTaken, ruTaken, dataJoined, bidAnswered, creditRaised}
 use Rattle.end.specs.Receive.{bytesRead}
 use Rattle.joined.specs.Joined.{Acted, Took}
-use Rattle.joined.specs.Ends.{Station, Verb, Reply, acts, takes}
+use Rattle.joined.specs.Ends.{Lane, normal, Station, Verb, Reply, acts, takes}
 use Rattle.joined.specs.Histories.{bytesInSendBuffer}
 use Rattle.joined.proofs.Rows.{left, right}
 use Rattle.joined.proofs.Acts.{allocate-cases, send-cases, SendAsked, spilledRu, spilledUnit, close-cases, CloseAsked, confirmed-cases, pace-cases, read-cases, take-cases, TakeAsked, tookKind}
@@ -86,7 +86,8 @@ spilled-length s bytes a k =
     let more : e .sending .max < e .sending .held + length bytes = leb-false (e .sending .held + length bytes) (e .sending .max) k in
     length-append (heldBytes e (s .send)) (take (gone e) bytes)
     ∙ ap (λ (n : ℕ). n + length (take (gone e) bytes)) (length-take-le (e .sending .held) (s .send) (omega arith))
-    ∙ ap (λ (n : ℕ). e .sending .held + n) (length-take-le (gone e) bytes (omega arith)) ∙ (let z : e .sending .held + gone e ≡ e .sending .max = omega arith in z)
+    ∙ ap (λ (n : ℕ). e .sending .held + n) (length-take-le (gone e) bytes (omega arith))
+    ∙ (let z : e .sending .held + gone e ≡ e .sending .max = omega arith in z)
 
 full-good : (m : ℕ) (d : DataHeader) (ru : List ℕ) → length ru ≡ m → 8 ≤ m → ruGood m (Data d) ru ≡ true
 unfolding ruGood
@@ -110,14 +111,16 @@ last-good m n d ru e h z = rw (e, le-leb n m h) (some (marks (d .ends)) z)
 -- ---- as the sending end
 
 module _ (s : Station) (i : Inside) (line : List (List ℕ)) (st : Stream (outsideOf s) i line) where
-  abbrev After : Acted Station Reply (List ℕ) → Type 0
-  After m = Stream (outsideOf (m .end)) i (line ++ m .sent)
+  abbrev After : Acted Lane Station Reply (List ℕ) → Type 0
+  After m = Stream (outsideOf (m .end)) i (line ++ m .sent normal)
 
   quiet-line : {o : Outside} → Stream o i line → Stream o i (line ++ [])
   quiet-line {o} j = subst (λ (l : List (List ℕ)). Stream o i l) (sym (append-nil line)) j
 
   spill : (bytes : List ℕ) → SendAsked s bytes → keeps (s .end .sending) (length bytes) ≡ false
-      → Stream (outsideOf (record { end = bytesSpilled (s .end) bytes (s .send) .end; send = front (drop (gone (s .end)) bytes) (s .send); unit = s .unit; inbox = s .inbox }))
+      → Stream
+      (outsideOf
+      (record { end = bytesSpilled (s .end) bytes (s .send) .end; send = front (drop (gone (s .end)) bytes) (s .send); unit = s .unit; inbox = s .inbox }))
       i (line ++ (spilledUnit s bytes ∷ []))
   unfolding bytesSpilled requestMade advanced spilled dataHeader
   spill bytes a k =
@@ -126,7 +129,8 @@ module _ (s : Station) (i : Inside) (line : List (List ℕ)) (st : Stream (outsi
       let rest = drop (gone e) bytes in
       let d : DataHeader = record { begins = beginOf (e .control); ends = Continues; pacing = paced (e .sending .window) } in
       let parts : heldBytes e (s .send) ++ bytes ≡ spilledRu s bytes ++ rest =
-      ap (λ (bs : List ℕ). heldBytes e (s .send) ++ bs) (sym (take-append-drop (gone e) bytes)) ∙ sym (append-assoc (heldBytes e (s .send)) (take (gone e) bytes) rest) in
+      ap (λ (bs : List ℕ). heldBytes e (s .send) ++ bs) (sym (take-append-drop (gone e) bytes))
+      ∙ sym (append-assoc (heldBytes e (s .send)) (take (gone e) bytes) rest) in
       let sent =
       stream-data d (spilledRu s bytes) rest kept parts
       (full-good (e .sending .max) d (spilledRu s bytes) (spilled-length s bytes a k) (least-max e (a .good))) refl (begins-first (e .control)) (λ x w. refl) in
@@ -175,8 +179,8 @@ module _ (s : Station) (i : Inside) (line : List (List ℕ)) (st : Stream (outsi
       (λ a h m. quiet-line (same-chain (markAnswered (s .end .control) .outchain) (answered-out (s .end .control)) st))
 
   -- a take at this end: only a bid has it make a unit, which is a response
-  abbrev Left : Took Station Reply (List ℕ) → Type 0
-  Left t = Stream (outsideOf (t .end)) i (line ++ t .sent)
+  abbrev Left : Took Lane Station Reply (List ℕ) → Type 0
+  Left t = Stream (outsideOf (t .end)) i (line ++ t .sent normal)
 
   answers : (c : Control) → isResponse (bidAnswer c) ≡ true
   answers c = by (isReset (c .state))
@@ -203,13 +207,13 @@ module _ (s : Station) (i : Inside) (line : List (List ℕ)) (st : Stream (outsi
   kind-out Confirmation n ru = quiet-line st
   kind-out PacingResponse n ru = quiet-line st
 
-  pub stream-takes : (naming : List ℕ → ℕ) (u : List ℕ) → Left (takes naming s u)
+  pub stream-takes : (naming : List ℕ → ℕ) (u : List ℕ) → Left (takes naming normal s u)
   stream-takes naming u = take-cases Left naming s u (λ q w n. quiet-line st) (λ a k. kind-out (headerTaken u) (numberIn u) (ruTaken u))
 
 -- ---- as the receiving end
 
 module _ (s : Station) (o : Outside) (back : List (List ℕ)) where
-  abbrev AfterIn : Acted Station Reply (List ℕ) → Type 0
+  abbrev AfterIn : Acted Lane Station Reply (List ℕ) → Type 0
   AfterIn m = Stream o (insideOf (m .end)) back
 
   same-link : {i : Inside} (b : Bool) → b ≡ i .chain → Stream o i back → Stream o (linked i b) back
@@ -240,9 +244,9 @@ module _ (s : Station) (o : Outside) (back : List (List ℕ)) where
 
   pub stream-in-takes : (naming : List ℕ → ℕ) (u : List ℕ)
       → Stream o (insideOf s) (u ∷ back)
-      → (let t = takes naming s u in Stream o (insideOf (t .end)) (cond (t .removed) back (u ∷ back)))
+      → (let t = takes naming normal s u in Stream o (insideOf (t .end)) (cond (t .removed) back (u ∷ back)))
   stream-in-takes naming u st =
-      take-cases (λ (t : Took Station Reply (List ℕ)). Stream o (insideOf (t .end)) (cond (t .removed) back (u ∷ back))) naming s u (λ q w n. st)
+      take-cases (λ (t : Took Lane Station Reply (List ℕ)). Stream o (insideOf (t .end)) (cond (t .removed) back (u ∷ back))) naming s u (λ q w n. st)
       (λ a k. removed (headerTaken u) (kind-in (headerTaken u) (numberIn u) (ruTaken u) (stream-take st .rest)))
     where
       removed : (h : Header) → Stream o (insideOf (tookKind s h (numberIn u) (ruTaken u) .end)) back

@@ -18,7 +18,7 @@ use Rattle.control.specs.declared.WhatReceived.the-variants as mark
 use Rattle.end.specs.Outcome.{withControl, withOwed}
 use Rattle.end.specs.RuleNamed.{NamesBroken}
 use Rattle.joined.specs.Ends as J
-use Rattle.joined.specs.Ends.{Station, Verb, acts, takes}
+use Rattle.joined.specs.Ends.{normal, Station, Verb, acts, takes}
 use Rattle.joined.specs.Histories.{bytesInSendBuffer}
 use Rattle.worked_examples.specs.Computed.{computed}
 use Rattle.worked_examples.specs.Stations.{zeros, firstSpeaker, bidder, after, makes, refuses, taking, takeRefuses, shortestRecord, flushed, aBid, sending, receiving}
@@ -78,9 +78,9 @@ pub record Table : Type 0 where
   -- fresh bidder allocates
   pub bid : makes (bidder 3 64) Verb.allocate ≡ aBid ∷ []
   -- fresh first speaker takes it
-  pub grant : taking (firstSpeaker 3 64) aBid .sent ≡ (0x00 ∷ 0x01 ∷ 0xCB ∷ 0x80 ∷ 0x00 ∷ 0x04 ∷ []) ∷ []
+  pub grant : taking (firstSpeaker 3 64) aBid .sent normal ≡ (0x00 ∷ 0x01 ∷ 0xCB ∷ 0x80 ∷ 0x00 ∷ 0x04 ∷ []) ∷ []
   -- the same, already in Send
-  pub refusal : taking sending aBid .sent ≡ (0x00 ∷ 0x01 ∷ 0xCF ∷ 0x90 ∷ 0x00 ∷ 0x08 ∷ 0x13 ∷ 0x00 ∷ 0x00 ∷ 0x04 ∷ []) ∷ []
+  pub refusal : taking sending aBid .sent normal ≡ (0x00 ∷ 0x01 ∷ 0xCF ∷ 0x90 ∷ 0x00 ∷ 0x08 ∷ 0x13 ∷ 0x00 ∷ 0x00 ∷ 0x04 ∷ []) ∷ []
   -- confirmed, number owed 7
   pub confirmation : makes owing Verb.confirmed ≡ (0x00 ∷ 0x07 ∷ 0x83 ∷ 0x20 ∷ 0x00 ∷ []) ∷ []
   -- first speaker allocates, gives 00 05 41 42 43, ends
@@ -103,7 +103,7 @@ pub record Table : Type 0 where
   pub bad-header :
       (naming : List ℕ → ℕ)
       → NamesBroken (naming badUnit) (headerIn badUnit)
-      → takes naming receiving badUnit .answer .answer .answer ≡ record { refusal = 21; sense = 0; rule = 5; unit = 0 }
+      → takes naming normal receiving badUnit .answer .answer .answer ≡ record { refusal = 21; sense = 0; rule = 5; unit = 0 }
   -- LL 00 02 given: accepted, a whole record; the place is between records, and the end carries the record
   pub good-length : refuses sending (Verb.sendData length2) ≡ 0
   pub whole-record : wholeRecords (bytesInSendBuffer length2Given) ≡ (0x00 ∷ 0x02 ∷ []) ∷ []
