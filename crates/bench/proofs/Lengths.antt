@@ -2,7 +2,7 @@
 -- Assumes nothing.
 use Prim.Native.Nat.{ℕ, _+_, _-_, _≤_, zero-le}
 use mathlib.Core.Path.{_≡_}
-use mathlib.Core.Bool.{Bool, true, false}
+use mathlib.Core.Bool.{true}
 use mathlib.Core.List.{List}
 use native.Mathlib.Omega.{arith}
 use borrow.Author.Tests.{leb-true}
@@ -11,8 +11,6 @@ use lib.ListN.{length, length-append, length-take}
 use Rattle.cells.specs.Cells.{front}
 use Rattle.unit.specs.Ru.{bidRu, fixedRu}
 use Rattle.unit.specs.Unit.{unitOf, numberIn}
-use Rattle.header.specs.declared.Follows.{Follows}
-use Rattle.header.specs.declared.Follows.the-variants.{Stay, ChangeDirection, EndBracket}
 use Rattle.header.specs.declared.Header.{Header}
 use Rattle.header.specs.declared.Header.the-variants.{Data, Bid, PositiveBidResponse, NegativeBidResponse, Confirmation, PacingResponse}
 use Rattle.unit.proofs.Units.{unit-length}
@@ -23,11 +21,10 @@ use Rattle.sides.specs.Sending.{sendingGood}
 use Rattle.end.specs.Record.{recordGood}
 use Rattle.end.specs.SendData.{heldBytes}
 use Rattle.end.specs.Receive.{bytesRead, markRead}
-use Rattle.end.specs.Close.{close}
 use Rattle.end.specs.ReceiveUnit.{headerTaken, ruTaken}
 use Rattle.end.specs.declared.End.{End}
 use Rattle.joined.specs.Joined.{Acted, Took}
-use Rattle.joined.specs.Ends.{Station, Verb, Reply, makes, acts, takes}
+use Rattle.joined.specs.Ends.{Lane, normal, Station, Verb, Reply, acts, takes}
 use Rattle.joined.proofs.Rows.{left, right}
 use Rattle.joined.proofs.Good.{sending-good, held-most}
 use Rattle.joined.proofs.Acts.{spilledRu, allocate-cases, send-cases, close-cases, confirmed-cases, pace-cases, read-cases, take-cases, tookKind}
@@ -59,27 +56,21 @@ spilled-short : (s : Station) (bytes : List ℕ) → recordGood (s .end) ≡ tru
 spilled-short s bytes g = simp (length-append, length-take) (omega (arith, held-most (s .end) g, greatest-max (s .end) g))
 
 module _ (s : Station) where
-  abbrev After : Acted Station Reply (List ℕ) → Type 0
+  abbrev After : Acted Lane Station Reply (List ℕ) → Type 0
   After m = Fits (m .answer .answer .answer .unit) (m .end .unit)
-
-  closes : (f : Follows) (c : Bool) → After (makes s (close f c (s .end) (s .send) (s .unit)))
-  closes f c =
-      close-cases After s f c (λ q n. none (s .unit)) (λ a n. none (s .unit))
-      (λ a n k. unit-fits _ _ (heldBytes (s .end) (s .send)) (s .unit) (held-short (s .end) (s .send) (a .good)))
 
   pub acts-fit : (v : Verb) → After (acts s v)
   unfolding acts bytesRead markRead
   acts-fit Verb.allocate =
       allocate-cases After s (λ q n. none (s .unit)) (λ g a w. none (s .unit)) (λ g a w k. unit-fits _ _ bidRu (s .unit) (omega arith))
-  acts-fit Verb.flush = closes Stay false
-  acts-fit Verb.confirm = closes Stay true
   acts-fit Verb.confirmed = confirmed-cases After s (λ q n. none (s .unit)) (λ g a. unit-fits _ _ _ (s .unit) (omega arith))
   acts-fit Verb.pace = pace-cases After s (λ q n. none (s .unit)) (λ g a. unit-fits _ _ _ (s .unit) (omega arith))
   acts-fit (Verb.sendData bytes) =
       send-cases After s bytes (λ q n. none (s .unit)) (λ a k. none (s .unit))
       (λ a k h. unit-fits _ _ (spilledRu s bytes) (s .unit) (spilled-short s bytes (a .good)))
-  acts-fit (Verb.prepareToReceive b) = closes ChangeDirection b
-  acts-fit (Verb.deallocate b) = closes EndBracket b
+  acts-fit (Verb.close f c) =
+      close-cases After s f c (λ q n. none (s .unit)) (λ a n. none (s .unit))
+      (λ a n k. unit-fits _ _ (heldBytes (s .end) (s .send)) (s .unit) (held-short (s .end) (s .send) (a .good)))
   acts-fit (Verb.receive buffer) =
       read-cases After s buffer (λ q w n. none (s .unit)) (λ a h. none (s .unit)) (λ a h m. none (s .unit))
 
@@ -91,7 +82,7 @@ module _ (s : Station) where
   fixed-short Confirmation = omega arith
   fixed-short PacingResponse = omega arith
 
-  abbrev AfterTake : Took Station Reply (List ℕ) → Type 0
+  abbrev AfterTake : Took Lane Station Reply (List ℕ) → Type 0
   AfterTake t = Fits (t .answer .answer .answer .unit) (t .end .unit)
 
   kind-fits : (h : Header) (n : ℕ) (ru : List ℕ) → AfterTake (tookKind s h n ru)
@@ -104,6 +95,6 @@ module _ (s : Station) where
   kind-fits Confirmation n ru = none (s .unit)
   kind-fits PacingResponse n ru = none (s .unit)
 
-  pub takes-fit : (naming : List ℕ → ℕ) (u : List ℕ) → AfterTake (takes naming s u)
+  pub takes-fit : (naming : List ℕ → ℕ) (u : List ℕ) → AfterTake (takes naming normal s u)
   takes-fit naming u =
       take-cases AfterTake naming s u (λ q w n. none (s .unit)) (λ a k. kind-fits (headerTaken u) (numberIn u) (ruTaken u))

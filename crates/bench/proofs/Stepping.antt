@@ -17,7 +17,7 @@ use Rattle.answers.specs.declared.ReadAnswer.{ReadAnswer}
 use Rattle.end.specs.declared.ReadDone.{ReadDone}
 use Rattle.joined.specs.Joined.{Acted, Took}
 use Rattle.joined.specs.Ends as J
-use Rattle.joined.specs.Ends.{Station, Reply, plain, unitsOf, acts, takes}
+use Rattle.joined.specs.Ends.{Lane, normal, Station, Reply, plain, unitsOf, onNormal, acts, takes}
 use Rattle.joined.specs.Histories.{Log}
 use Rattle.script.specs.declared.Verb.{Verb}
 use Rattle.script.specs.declared.Request.{Request}
@@ -74,7 +74,7 @@ module _ (v : Verb) (given : List ℕ) (b : Bench) (d : ReadDone) (send unit inb
     (e : actedBy v d send unit inbox buffer ≡ acts (b .station) (verbOf v given (b .buffer))) where
   pub call-fits : Fits (d .answer .answer .unit) unit
   call-fits =
-      subst (λ (m : Acted Station Reply (List ℕ)). Fits (m .answer .answer .answer .unit) (m .end .unit)) (sym e)
+      subst (λ (m : Acted Lane Station Reply (List ℕ)). Fits (m .answer .answer .answer .unit) (m .end .unit)) (sym e)
       (acts-fit (b .station) (verbOf v given (b .buffer)))
 
   pub call-step : (to : Line) (far : List ℕ) (es : Log) (us vs : List (List ℕ))
@@ -88,10 +88,10 @@ module _ (v : Verb) (given : List ℕ) (b : Bench) (d : ReadDone) (send unit inb
         outcome-is = rw n;
         answered = λ z.
             record {
-              station-is = ap (λ (m : Acted Station Reply (List ℕ)). m .end) e;
+              station-is = ap (λ (m : Acted Lane Station Reply (List ℕ)). m .end) e;
               waiting-are = hw;
-              far-are = subst (λ (m : Acted Station Reply (List ℕ)). Holds to far (vs ++ m .sent)) e hf;
-              answer-is = ap (λ (m : Acted Station Reply (List ℕ)). m .answer) e;
+              far-are = subst (λ (m : Acted Lane Station Reply (List ℕ)). Holds to far (vs ++ m .sent normal)) e hf;
+              answer-is = ap (λ (m : Acted Lane Station Reply (List ℕ)). m .answer) e;
             };
         named = λ z. tt;
         unread = k;
@@ -101,25 +101,25 @@ module _ (v : Verb) (given : List ℕ) (b : Bench) (d : ReadDone) (send unit inb
 -- ---- a unit that is offered
 
 -- what a take leaves by what receive unit leaves
-abbrev tookBy : Station → Taken → Took Station Reply (List ℕ)
+abbrev tookBy : Station → Taken → Took Lane Station Reply (List ℕ)
 tookBy s t =
     record {
       end = stationOf (t .done .end) (s .send) (t .unit) (t .inbox);
       answer = plain (t .done .answer);
-      sent = unitsOf (t .done .answer .unit) (t .unit);
+      sent = onNormal (unitsOf (t .done .answer .unit) (t .unit));
       removed = eqb (t .done .answer .refusal) 0;
     }
 
 module _ (u : List ℕ) (b : Bench) (d : Done) (r : ReadDone) (inbox unit : List ℕ) (p : r ≡ plainDone d)
     (e : takenBy d inbox unit ≡ receiveUnit (d .answer .rule) (b .station .end) u (b .station .inbox) (b .station .unit)) where
-  took-is : tookBy (b .station) (takenBy d inbox unit) ≡ takes (λ x. r .answer .answer .rule) (b .station) u
+  took-is : tookBy (b .station) (takenBy d inbox unit) ≡ takes (λ x. r .answer .answer .rule) normal (b .station) u
   unfolding takes
   took-is = rw p (ap (tookBy (b .station)) e)
 
   pub offer-fits : Fits (r .answer .answer .unit) unit
   offer-fits =
       rw p
-      (subst (λ (t : Took Station Reply (List ℕ)). Fits (t .answer .answer .answer .unit) (t .end .unit)) (sym took-is)
+      (subst (λ (t : Took Lane Station Reply (List ℕ)). Fits (t .answer .answer .answer .unit) (t .end .unit)) (sym took-is)
       (takes-fit (b .station) (λ x. r .answer .answer .rule) u))
 
   pub offer-step : (to : Line) (far : List ℕ) (es : Log) (us vs : List (List ℕ))
@@ -134,12 +134,12 @@ module _ (u : List ℕ) (b : Bench) (d : Done) (r : ReadDone) (inbox unit : List
         answered = λ z.
             record {
               station-is =
-                  ap (λ (x : ReadDone). stationOf (x .end) (b .station .send) unit inbox) p ∙ ap (λ (t : Took Station Reply (List ℕ)). t .end) took-is;
+                  ap (λ (x : ReadDone). stationOf (x .end) (b .station .send) unit inbox) p ∙ ap (λ (t : Took Lane Station Reply (List ℕ)). t .end) took-is;
               waiting-are = hw;
               far-are =
-                  subst (λ (t : Took Station Reply (List ℕ)). Holds to far (vs ++ t .sent)) took-is
+                  subst (λ (t : Took Lane Station Reply (List ℕ)). Holds to far (vs ++ t .sent normal)) took-is
                   (subst (λ (x : ReadDone). Holds to far (vs ++ unitsOf (x .answer .answer .unit) unit)) p hf);
-              answer-is = ap (λ (x : ReadDone). replyTo Offer (x .answer) []) p ∙ ap (λ (t : Took Station Reply (List ℕ)). t .answer) took-is;
+              answer-is = ap (λ (x : ReadDone). replyTo Offer (x .answer) []) p ∙ ap (λ (t : Took Lane Station Reply (List ℕ)). t .answer) took-is;
             };
         named = λ z. subst (λ (x : ReadDone). NamesRule (x .answer) u) (sym p) k;
         unread = λ z. refl;
@@ -155,8 +155,8 @@ not-accepted Full q n = refl
 
 -- the unit goes where the take is accepted
 removed-is : (naming : List ℕ → ℕ) (s : Station) (u : List ℕ) (o : Outcome) (a : ReadAnswer) → o ≡ Answered
-    → replyTo Offer a [] ≡ takes naming s u .answer
-    → accepted o (a .answer .refusal) ≡ takes naming s u .removed
+    → replyTo Offer a [] ≡ takes naming normal s u .answer
+    → accepted o (a .answer .refusal) ≡ takes naming normal s u .removed
 unfolding takes
 removed-is naming s u o a y e = rw y (ap (λ (r : Reply). eqb (r .answer .answer .refusal) 0) e)
 

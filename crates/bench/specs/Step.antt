@@ -13,7 +13,7 @@ use Rattle.answers.specs.declared.ReadAnswer.{ReadAnswer}
 use Rattle.joined.specs.Joined as joined
 use Rattle.joined.specs.Joined.{Local, apply, acted, took}
 use Rattle.joined.specs.Ends as J
-use Rattle.joined.specs.Ends.{Station, Reply, acts, takes}
+use Rattle.joined.specs.Ends.{Lane, normal, sameLane, Station, Reply, onNormal, acts, takes}
 use Rattle.joined.specs.Histories.{Log}
 use Rattle.script.specs.declared.Request.{Request}
 use Rattle.script.specs.declared.Request.the-variants.{Call, Take, Offer}
@@ -57,15 +57,15 @@ accepted Full q = false
 -- ---- what an answered request leaves
 
 -- an offered unit is taken or refused as one from the line is, and no unit goes from the line
-abbrev pub offer : (List ℕ → ℕ) → Station → Log → List (List ℕ) → List ℕ → Local Station J.Verb Reply (List ℕ)
+abbrev pub offer : (List ℕ → ℕ) → Station → Log → List (List ℕ) → List ℕ → Local Lane Station J.Verb Reply (List ℕ)
 offer naming s es us u =
-    let t = takes naming s u in
-    record { side = record { end = t .end; waiting = us; log = took u (t .answer) (t .sent) ∷ es }; sent = t .sent }
+    let t = takes naming normal s u in
+    record { side = record { end = t .end; waiting = onNormal us; log = took normal u (t .answer) (t .sent) ∷ es }; sent = t .sent }
 
--- the call of the joined ends, at this end with its line and what has happened at it; `naming` is the rule named by a refusal 21
-abbrev pub localOf : Request → List ℕ → (List ℕ → ℕ) → Bench → Log → List (List ℕ) → Local Station J.Verb Reply (List ℕ)
-localOf (Call v) given naming b es us = apply acts (takes naming) (b .station) es us (joined.act (verbOf v given (b .buffer)))
-localOf Take given naming b es us = apply acts (takes naming) (b .station) es us joined.take
+-- the call of the joined ends, at this end with its line of the normal lane and what has happened at it; `naming` is the rule named by a refusal 21
+abbrev pub localOf : Request → List ℕ → (List ℕ → ℕ) → Bench → Log → List (List ℕ) → Local Lane Station J.Verb Reply (List ℕ)
+localOf (Call v) given naming b es us = apply sameLane acts (takes naming) (b .station) es (onNormal us) (joined.act (verbOf v given (b .buffer)))
+localOf Take given naming b es us = apply sameLane acts (takes naming) (b .station) es (onNormal us) (joined.take normal)
 localOf Offer given naming b es us = offer naming (b .station) es us given
 
 abbrev pub replyTo : Request → ReadAnswer → List ℕ → Reply
@@ -77,13 +77,13 @@ replyTo Offer a buffer = record { answer = a; buffer = [] }
 abbrev pub Newest : Reply → Log → Type 0
 Newest r [] = ⊥
 Newest r (acted v a us ∷ es) = r ≡ a
-Newest r (took u a us ∷ es) = r ≡ a
+Newest r (took l u a us ∷ es) = r ≡ a
 
 -- the end, both lines and the answer are those that the call leaves; vs waited for the other end
-pub record Leaves (b : Bench) (reply : Reply) (vs : List (List ℕ)) (l : Local Station J.Verb Reply (List ℕ)) : Type 0 where
+pub record Leaves (b : Bench) (reply : Reply) (vs : List (List ℕ)) (l : Local Lane Station J.Verb Reply (List ℕ)) : Type 0 where
   pub station-is : b .station ≡ l .side .end
-  pub waiting-are : Holds (b .from) (b .waiting) (l .side .waiting)
-  pub far-are : Holds (b .to) (b .far) (vs ++ l .sent)
+  pub waiting-are : Holds (b .from) (b .waiting) (l .side .waiting normal)
+  pub far-are : Holds (b .to) (b .far) (vs ++ l .sent normal)
   pub answer-is : Newest reply (l .side .log)
 
 -- a refusal 21 of this unit names a rule that its header breaks

@@ -9,8 +9,8 @@ use borrow.Author.Tests.{ltb-true}
 use lib.Dec.{ltb}
 use lib.ListN.{getD}
 use Rattle.joined.specs.Joined as J
-use Rattle.joined.specs.Joined.{At, first, second, act, Fed, step, AllFed}
-use Rattle.joined.specs.Ends.{Verb, acts, takes}
+use Rattle.joined.specs.Joined.{At, first, second, act, Some, step, AllFed}
+use Rattle.joined.specs.Ends.{Lane, sameLane, Verb, acts, takes}
 use Rattle.joined.specs.SingleCalls.{AllBytes, BytesOf}
 use Rattle.joined.specs.Claim.{Pair, Claim, TheRecords, LentBytes, AlwaysGood, BytesOfAll}
 use Rattle.worked_examples.specs.Stations.{anyRule}
@@ -37,30 +37,27 @@ lent-bytes : LentBytes lent
 lent-bytes = record { send = are-bytes (lent .send) refl; inbox = are-bytes (lent .inbox) refl }
 
 -- the bytes that each call of a list gives
-abbrev allBelow256 : List (At Verb) → Bool
+abbrev allBelow256 : List (At Lane Verb) → Bool
 allBelow256 [] = true
 allBelow256 (first (act v) ∷ l) = below256 (bytesOf v) && allBelow256 l
-allBelow256 (first J.take ∷ l) = allBelow256 l
+allBelow256 (first (J.take k) ∷ l) = allBelow256 l
 allBelow256 (second (act v) ∷ l) = below256 (bytesOf v) && allBelow256 l
-allBelow256 (second J.take ∷ l) = allBelow256 l
+allBelow256 (second (J.take k) ∷ l) = allBelow256 l
 
 gives-bytes : (v : Verb) → below256 (bytesOf v) ≡ true → BytesOf v
 gives-bytes Verb.allocate e = tt
-gives-bytes Verb.flush e = tt
-gives-bytes Verb.confirm e = tt
 gives-bytes Verb.confirmed e = tt
 gives-bytes Verb.pace e = tt
 gives-bytes (Verb.sendData bytes) e = are-bytes bytes e
-gives-bytes (Verb.prepareToReceive b) e = tt
-gives-bytes (Verb.deallocate b) e = tt
+gives-bytes (Verb.close f b) e = tt
 gives-bytes (Verb.receive buffer) e = tt
 
-all-bytes : (l : List (At Verb)) → allBelow256 l ≡ true → BytesOfAll l
+all-bytes : (l : List (At Lane Verb)) → allBelow256 l ≡ true → BytesOfAll l
 all-bytes [] e = tt
 all-bytes (first (act v) ∷ l) e = let h = halves (below256 (bytesOf v)) (allBelow256 l) e in (gives-bytes v (h .0), all-bytes l (h .1))
-all-bytes (first J.take ∷ l) e = (tt, all-bytes l e)
+all-bytes (first (J.take k) ∷ l) e = (tt, all-bytes l e)
 all-bytes (second (act v) ∷ l) e = let h = halves (below256 (bytesOf v)) (allBelow256 l) e in (gives-bytes v (h .0), all-bytes l (h .1))
-all-bytes (second J.take ∷ l) e = (tt, all-bytes l e)
+all-bytes (second (J.take k) ∷ l) e = (tt, all-bytes l e)
 
 -- ---- takes
 
@@ -68,30 +65,30 @@ abbrev waits : List (List ℕ) → Bool
 waits [] = false
 waits (u ∷ us) = true
 
-waits-fed : (us : List (List ℕ)) → waits us ≡ true → Fed {C = Verb} us J.take
+waits-fed : (us : List (List ℕ)) → waits us ≡ true → Some us
 waits-fed [] e = absurd (let z : _≡_ {A = ℕ} 0 1 = cc in omega arith)
 waits-fed (u ∷ us) e = tt
 
 -- every take of the list finds a unit
-abbrev allFind : Pair → List (At Verb) → Bool
+abbrev allFind : Pair → List (At Lane Verb) → Bool
 allFind p [] = true
-allFind p (first (act v) ∷ l) = allFind (step acts (takes anyRule) p (first (act v))) l
-allFind p (first J.take ∷ l) = waits (p .one .waiting) && allFind (step acts (takes anyRule) p (first J.take)) l
-allFind p (second (act v) ∷ l) = allFind (step acts (takes anyRule) p (second (act v))) l
-allFind p (second J.take ∷ l) = waits (p .two .waiting) && allFind (step acts (takes anyRule) p (second J.take)) l
+allFind p (first (act v) ∷ l) = allFind (step sameLane acts (takes anyRule) p (first (act v))) l
+allFind p (first (J.take k) ∷ l) = waits (p .one .waiting k) && allFind (step sameLane acts (takes anyRule) p (first (J.take k))) l
+allFind p (second (act v) ∷ l) = allFind (step sameLane acts (takes anyRule) p (second (act v))) l
+allFind p (second (J.take k) ∷ l) = waits (p .two .waiting k) && allFind (step sameLane acts (takes anyRule) p (second (J.take k))) l
 
-all-fed : (p : Pair) (l : List (At Verb)) → allFind p l ≡ true → AllFed acts (takes anyRule) p l
+all-fed : (p : Pair) (l : List (At Lane Verb)) → allFind p l ≡ true → AllFed sameLane acts (takes anyRule) p l
 all-fed p [] e = tt
-all-fed p (first (act v) ∷ l) e = (tt, all-fed (step acts (takes anyRule) p (first (act v))) l e)
-all-fed p (first J.take ∷ l) e =
-    let q = step acts (takes anyRule) p (first J.take) in
-    let h = halves (waits (p .one .waiting)) (allFind q l) e in
-    (waits-fed (p .one .waiting) (h .0), all-fed q l (h .1))
-all-fed p (second (act v) ∷ l) e = (tt, all-fed (step acts (takes anyRule) p (second (act v))) l e)
-all-fed p (second J.take ∷ l) e =
-    let q = step acts (takes anyRule) p (second J.take) in
-    let h = halves (waits (p .two .waiting)) (allFind q l) e in
-    (waits-fed (p .two .waiting) (h .0), all-fed q l (h .1))
+all-fed p (first (act v) ∷ l) e = (tt, all-fed (step sameLane acts (takes anyRule) p (first (act v))) l e)
+all-fed p (first (J.take k) ∷ l) e =
+    let q = step sameLane acts (takes anyRule) p (first (J.take k)) in
+    let h = halves (waits (p .one .waiting k)) (allFind q l) e in
+    (waits-fed (p .one .waiting k) (h .0), all-fed q l (h .1))
+all-fed p (second (act v) ∷ l) e = (tt, all-fed (step sameLane acts (takes anyRule) p (second (act v))) l e)
+all-fed p (second (J.take k) ∷ l) e =
+    let q = step sameLane acts (takes anyRule) p (second (J.take k)) in
+    let h = halves (waits (p .two .waiting k)) (allFind q l) e in
+    (waits-fed (p .two .waiting k) (h .0), all-fed q l (h .1))
 
 -- ---- what happened
 

@@ -13,7 +13,7 @@ use Rattle.control.specs.Tests.{isSend}
 use Rattle.control.specs.declared.State.{State}
 use Rattle.control.specs.declared.State.the-variants.{Reset, Send, Receive, ConfirmOwed, ConfirmAwaited}
 use Rattle.joined.specs.Joined.{Call, At}
-use Rattle.joined.specs.Ends.{Station, Verb, Buffers}
+use Rattle.joined.specs.Ends.{Lane, normal, Station, Verb, Buffers}
 use Rattle.joined.specs.Histories.{bytesAccepted, bytesRead, bytesOnLine, breaches}
 use Rattle.joined.specs.Claim.{Claim, BytesConserved, CreditCounted, ReadsRight, RecordsArrive, TheRecords}
 use Rattle.claim_in_use.specs.OtherWords.{Numbers, speaker, bidder, InRange, Seen, story, each, gave, copied, made, request, pacingAnswer, dataBytes, creditLeft, Ends, OneEnd, given, hasRead, AtOneEnd, OneWay, Agree, Interleaves, after, TakesFind, SameEnd, InOtherWords, answer}
@@ -53,10 +53,12 @@ one-way x y b r =
     record {
       bytes =
           given-is (x .log) ∙ b
-          ∙ ap (λ (bs : List ℕ). bs ++ (take (y .end .end .receiving .held) (y .end .inbox) ++ (bytesOnLine (y .waiting) ++ take (x .end .end .sending .held) (x .end .send))))
+          ∙ ap
+          (λ (bs : List ℕ).
+          bs ++ (take (y .end .end .receiving .held) (y .end .inbox) ++ (bytesOnLine (y .waiting normal) ++ take (x .end .end .sending .held) (x .end .send))))
           (sym (read-is (y .log)))
           ∙ ap (λ (bs : List ℕ). hasRead y ++ (take (y .end .end .receiving .held) (y .end .inbox) ++ (bs ++ take (x .end .end .sending .held) (x .end .send))))
-          (sym (line-is (y .waiting)));
+          (sym (line-is (y .waiting normal)));
       to-come = r .still-to-come;
       records =
           ap wholeRecords (given-is (x .log)) ∙ r .first-are-read
@@ -72,7 +74,7 @@ same-end x y e =
     }
 
 module _ (claim : Claim) (records : TheRecords) where
-  agrees : (naming : List ℕ → ℕ) (n : Numbers) (b c : Buffers) → InRange n b c → (l : List (At Verb)) → Agree n (after naming n b c l)
+  agrees : (naming : List ℕ → ℕ) (n : Numbers) (b c : Buffers) → InRange n b c → (l : List (At Lane Verb)) → Agree n (after naming n b c l)
   agrees naming n b c r l =
       let p = after naming n b c l in
       let o = openings n b c r in
@@ -86,7 +88,7 @@ module _ (claim : Claim) (records : TheRecords) where
         back = one-way (p .two) (p .one) (j .bytes-back) (k .back);
       }
 
-  alike : (naming : List ℕ → ℕ) (n : Numbers) (b c : Buffers) → InRange n b c → (xs ys : List (Call Verb)) (l m : List (At Verb))
+  alike : (naming : List ℕ → ℕ) (n : Numbers) (b c : Buffers) → InRange n b c → (xs ys : List (Call Lane Verb)) (l m : List (At Lane Verb))
       → Interleaves xs ys l
       → Interleaves xs ys m
       → TakesFind naming (after naming n b c []) l

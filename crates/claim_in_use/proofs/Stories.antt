@@ -12,8 +12,9 @@ use Rattle.header.specs.Weights.{on}
 use Rattle.logical_record.specs.Positions.{start}
 use Rattle.logical_record.specs.Walk.{walk}
 use Rattle.logical_record.specs.Records.{ended}
+use Rattle.joined.specs.Lanes.{Lines}
 use Rattle.joined.specs.Joined.{Event, acted, took}
-use Rattle.joined.specs.Ends.{Verb, Reply}
+use Rattle.joined.specs.Ends.{Lane, normal, Verb, Reply}
 use Rattle.joined.specs.Histories as H
 use Rattle.joined.specs.Histories.{Log, bytesAccepted, bytesRead, bytesOnLine, count, isBreach, breaches, requestsAmong, requestsMade, pacingResponsesTaken, CompleteIsRight, NoneCrosses}
 use Rattle.claim_in_use.specs.OtherWords.{Seen, story, each, All, numberOf, gave, copied, made, takeNumber, request, pacingAnswer, dataBytes}
@@ -38,28 +39,25 @@ gave-none : (b : Bool) → _≡_ {A = List ℕ} (cond b [] []) []
 gave-none true = refl
 gave-none false = refl
 
-gave-is : (v : Verb) (r : Reply) (us : List (List ℕ)) → gave (acted v r us) ≡ H.given v (numberOf r)
+gave-is : (v : Verb) (r : Reply) (us : Lines Lane (List ℕ)) → gave (acted v r us) ≡ H.given v (numberOf r)
 gave-is Verb.allocate r us = gave-none (eqb (numberOf r) 0)
-gave-is Verb.flush r us = gave-none (eqb (numberOf r) 0)
-gave-is Verb.confirm r us = gave-none (eqb (numberOf r) 0)
 gave-is Verb.confirmed r us = gave-none (eqb (numberOf r) 0)
 gave-is Verb.pace r us = gave-none (eqb (numberOf r) 0)
 gave-is (Verb.sendData bytes) r us = refl
-gave-is (Verb.prepareToReceive b) r us = gave-none (eqb (numberOf r) 0)
-gave-is (Verb.deallocate b) r us = gave-none (eqb (numberOf r) 0)
+gave-is (Verb.close f b) r us = gave-none (eqb (numberOf r) 0)
 gave-is (Verb.receive buffer) r us = gave-none (eqb (numberOf r) 0)
 
 pub given-is : (es : Log) → each gave (story es) ≡ bytesAccepted es
 unfolding bytesAccepted
 given-is [] = refl
 given-is (acted v r us ∷ es) = goes-on gave (acted v r us) es ∙ rw (given-is es, gave-is v r us)
-given-is (took u r us ∷ es) = goes-on gave (took u r us) es ∙ append-nil (each gave (story es)) ∙ given-is es
+given-is (took l u r us ∷ es) = goes-on gave (took l u r us) es ∙ append-nil (each gave (story es)) ∙ given-is es
 
 pub read-is : (es : Log) → each copied (story es) ≡ bytesRead es
 unfolding bytesRead
 read-is [] = refl
 read-is (acted v r us ∷ es) = goes-on copied (acted v r us) es ∙ rw (read-is es)
-read-is (took u r us ∷ es) = goes-on copied (took u r us) es ∙ append-nil (each copied (story es)) ∙ read-is es
+read-is (took l u r us ∷ es) = goes-on copied (took l u r us) es ∙ append-nil (each copied (story es)) ∙ read-is es
 
 pub line-is : (us : List (List ℕ)) → each dataBytes us ≡ bytesOnLine us
 unfolding bytesOnLine
@@ -88,17 +86,17 @@ more-requests e us es m h =
 pub requests-are : (es : Log) → length (each request (each made (story es))) ≡ requestsMade es
 unfolding requestsMade
 requests-are [] = refl
-requests-are (acted v r us ∷ es) = more-requests (acted v r us) us es refl (requests-are es)
-requests-are (took u r us ∷ es) = more-requests (took u r us) us es refl (requests-are es)
+requests-are (acted v r us ∷ es) = more-requests (acted v r us) (us normal) es refl (requests-are es)
+requests-are (took l u r us ∷ es) = more-requests (took l u r us) (us normal) es refl (requests-are es)
 
 pub answers-are : (es : Log) → length (each pacingAnswer (story es)) ≡ pacingResponsesTaken es
 unfolding pacingResponsesTaken
 answers-are [] = refl
 answers-are (acted v r us ∷ es) =
     ap length (goes-on pacingAnswer (acted v r us) es ∙ append-nil (each pacingAnswer (story es))) ∙ answers-are es
-answers-are (took u r us ∷ es) =
-    ap length (goes-on pacingAnswer (took u r us) es)
-    ∙ length-append (each pacingAnswer (story es)) (pacingAnswer (took u r us))
+answers-are (took l u r us ∷ es) =
+    ap length (goes-on pacingAnswer (took l u r us) es)
+    ∙ length-append (each pacingAnswer (story es)) (pacingAnswer (took l u r us))
     ∙ by (eqb (numberOf r) 0 && H.isPacingResponse u) (answers-are es)
   where
     by : (b : Bool) → length (each pacingAnswer (story es)) ≡ pacingResponsesTaken es
@@ -123,9 +121,9 @@ unfolding breaches
 no-breach-in [] e = tt
 no-breach-in (acted v r us ∷ es) e =
     subst (All NoBreach) (sym (goes-on takeNumber (acted v r us) es ∙ append-nil (each takeNumber (story es)))) (no-breach-in es e)
-no-breach-in (took u r us ∷ es) e =
+no-breach-in (took l u r us ∷ es) e =
     let n = not-counted (isBreach (numberOf r)) (breaches es) e in
-    subst (All NoBreach) (sym (goes-on takeNumber (took u r us) es))
+    subst (All NoBreach) (sym (goes-on takeNumber (took l u r us) es))
     (all-append NoBreach (each takeNumber (story es)) (numberOf r ∷ []) (no-breach-in es (n .1)) (outside (numberOf r) (n .0), tt))
 
 -- ---- reads
@@ -134,20 +132,20 @@ complete-at : (later earlier : Log) → CompleteIsRight (later ++ earlier) → C
 unfolding CompleteIsRight
 complete-at [] earlier h = h
 complete-at (acted v r us ∷ later) earlier h = complete-at later earlier (h .1)
-complete-at (took u r us ∷ later) earlier h = complete-at later earlier (h .1)
+complete-at (took l u r us ∷ later) earlier h = complete-at later earlier (h .1)
 
 apart-at : (later earlier : Log) → NoneCrosses (later ++ earlier) → NoneCrosses earlier
 unfolding NoneCrosses
 apart-at [] earlier h = h
 apart-at (acted v r us ∷ later) earlier h = apart-at later earlier (h .1)
-apart-at (took u r us ∷ later) earlier h = apart-at later earlier h
+apart-at (took l u r us ∷ later) earlier h = apart-at later earlier h
 
 and-right : (a b : Bool) → a && b ≡ true → b ≡ true
 and-right true b e = e
 and-right false b e = absurd (let y : _≡_ {A = ℕ} 0 1 = cc in omega arith)
 
 -- what a call says of the record's end, where it stands in the log
-module _ (log later earlier : Log) (v : Verb) (r : Reply) (us : List (List ℕ)) (here : log ≡ later ++ (acted v r us ∷ earlier)) where
+module _ (log later earlier : Log) (v : Verb) (r : Reply) (us : Lines Lane (List ℕ)) (here : log ≡ later ++ (acted v r us ∷ earlier)) where
   abbrev until : List ℕ
   until = each copied (story (acted v r us ∷ earlier))
 

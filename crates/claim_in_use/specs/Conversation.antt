@@ -15,7 +15,7 @@ use Rattle.end.specs.Record.{recordGood, creditOf}
 use Rattle.sides.specs.declared.Session.{Session}
 use Rattle.joined.specs.Joined as J
 use Rattle.joined.specs.Joined.{first, second, act, AllFed, run}
-use Rattle.joined.specs.Ends.{Verb, Buffers, JoinedOpenings, openedBoth, acts, takes}
+use Rattle.joined.specs.Ends.{Lane, normal, sameLane, Verb, prepareToReceive, Buffers, JoinedOpenings, openedBoth, acts, takes}
 use Rattle.joined.specs.Histories.{bytesAccepted, bytesRead, bytesInInbox, bytesOnLine, bytesInSendBuffer, requestsMade, pacingResponsesTaken, breaches, refusedWith, badReads, CompleteIsRight, NoneCrosses}
 use Rattle.joined.specs.Claim.{Pair}
 use Rattle.worked_examples.specs.Stations.{zeros, session, anyRule}
@@ -58,63 +58,63 @@ reply3 = 0x00 ∷ 0x02 ∷ []
 abbrev pub reply4 : List ℕ
 reply4 = 0x2B ∷ 0x01 ∷ 0x02 ∷ 0x03 ∷ 0x04 ∷ 0x05 ∷ 0x06 ∷ 0x07 ∷ 0x08 ∷ []
 
-abbrev pub calls : List (J.At Verb)
+abbrev pub calls : List (J.At Lane Verb)
 calls =
     second (act Verb.allocate)
     ∷ first (act Verb.allocate)
     ∷ first (act (Verb.sendData table1))
     ∷ first (act (Verb.sendData table2))
-    ∷ first J.take
+    ∷ first (J.take normal)
     ∷ first (act Verb.pace)
-    ∷ second J.take
+    ∷ second (J.take normal)
     ∷ second (act Verb.pace)
     ∷ second (act (Verb.receive (zeros 5)))
     ∷ first (act (Verb.sendData table3))
-    ∷ first J.take
-    ∷ first (act (Verb.prepareToReceive false))
-    ∷ second J.take
-    ∷ second J.take
-    ∷ second J.take
-    ∷ second J.take
+    ∷ first (J.take normal)
+    ∷ first (act (prepareToReceive false))
+    ∷ second (J.take normal)
+    ∷ second (J.take normal)
+    ∷ second (J.take normal)
+    ∷ second (J.take normal)
     ∷ second (act (Verb.receive (zeros 32)))
     ∷ second (act (Verb.receive (zeros 32)))
     ∷ second (act (Verb.sendData (0x00 ∷ 0x06 ∷ 0x20 ∷ 0x21 ∷ 0x22 ∷ 0x23 ∷ 0x00 ∷ 0x05 ∷ [])))
     ∷ second (act (Verb.sendData (0x30 ∷ 0x31 ∷ 0x32 ∷ 0x00 ∷ 0x02 ∷ 0x2B ∷ [])))
-    ∷ first J.take
+    ∷ first (J.take normal)
     ∷ first (act (Verb.receive (zeros 64)))
     ∷ second (act (Verb.sendData (0x01 ∷ 0x02 ∷ 0x03 ∷ 0x04 ∷ 0x05 ∷ 0x06 ∷ 0x07 ∷ 0x08 ∷ [])))
     ∷ []
 
 -- the same calls at each end, in another order between the ends
-abbrev pub reordered : List (J.At Verb)
+abbrev pub reordered : List (J.At Lane Verb)
 reordered =
     first (act Verb.allocate)
     ∷ first (act (Verb.sendData table1))
     ∷ first (act (Verb.sendData table2))
     ∷ second (act Verb.allocate)
-    ∷ second J.take
+    ∷ second (J.take normal)
     ∷ second (act Verb.pace)
-    ∷ first J.take
+    ∷ first (J.take normal)
     ∷ second (act (Verb.receive (zeros 5)))
     ∷ first (act Verb.pace)
     ∷ first (act (Verb.sendData table3))
-    ∷ second J.take
-    ∷ first J.take
-    ∷ second J.take
-    ∷ second J.take
-    ∷ first (act (Verb.prepareToReceive false))
-    ∷ second J.take
+    ∷ second (J.take normal)
+    ∷ first (J.take normal)
+    ∷ second (J.take normal)
+    ∷ second (J.take normal)
+    ∷ first (act (prepareToReceive false))
+    ∷ second (J.take normal)
     ∷ second (act (Verb.receive (zeros 32)))
     ∷ second (act (Verb.receive (zeros 32)))
     ∷ second (act (Verb.sendData (0x00 ∷ 0x06 ∷ 0x20 ∷ 0x21 ∷ 0x22 ∷ 0x23 ∷ 0x00 ∷ 0x05 ∷ [])))
     ∷ second (act (Verb.sendData (0x30 ∷ 0x31 ∷ 0x32 ∷ 0x00 ∷ 0x02 ∷ 0x2B ∷ [])))
     ∷ second (act (Verb.sendData (0x01 ∷ 0x02 ∷ 0x03 ∷ 0x04 ∷ 0x05 ∷ 0x06 ∷ 0x07 ∷ 0x08 ∷ [])))
-    ∷ first J.take
+    ∷ first (J.take normal)
     ∷ first (act (Verb.receive (zeros 64)))
     ∷ []
 
 abbrev pub talked : Pair
-talked = run acts (takes anyRule) ends calls
+talked = run sameLane acts (takes anyRule) ends calls
 
 -- ---- what happened, by computation
 
@@ -125,7 +125,7 @@ pub record Happened : Type 0 where
   -- back: one record is read; two bytes are in the inbox, a unit of eight on the line, six bytes in the send buffer
   pub read-back : bytesRead (talked .one .log) ≡ reply1
   pub inbox-back : bytesInInbox (talked .one .end) ≡ 0x00 ∷ 0x05 ∷ []
-  pub line-back : bytesOnLine (talked .one .waiting) ≡ 0x30 ∷ 0x31 ∷ 0x32 ∷ 0x00 ∷ 0x02 ∷ 0x2B ∷ 0x01 ∷ 0x02 ∷ []
+  pub line-back : bytesOnLine (talked .one .waiting normal) ≡ 0x30 ∷ 0x31 ∷ 0x32 ∷ 0x00 ∷ 0x02 ∷ 0x2B ∷ 0x01 ∷ 0x02 ∷ []
   pub held-back : bytesInSendBuffer (talked .two .end) ≡ 0x03 ∷ 0x04 ∷ 0x05 ∷ 0x06 ∷ 0x07 ∷ 0x08 ∷ []
   -- at each end: the requests made, the credit left, the pacing answers taken
   pub counts-one : (requestsMade (talked .one .log) ≡ 3) × (creditOf (talked .one .end .end) ≡ 1) × (pacingResponsesTaken (talked .one .log) ≡ 1)
@@ -138,8 +138,8 @@ pub record Happened : Type 0 where
 
 pub record Asked : Type 0 where
   pub openings : JoinedOpenings speaker bidder lent lent
-  pub fed : AllFed acts (takes anyRule) ends calls
-  pub fed-reordered : AllFed acts (takes anyRule) ends reordered
+  pub fed : AllFed sameLane acts (takes anyRule) ends calls
+  pub fed-reordered : AllFed sameLane acts (takes anyRule) ends reordered
 
 -- ---- what the claim says, in bytes and numbers
 
@@ -159,7 +159,7 @@ pub record Said : Type 0 where
   pub credit-one : 3 + 1 ≡ 2 * (1 + 1)
   pub credit-two : 3 + 1 ≡ 2 * (1 + 1)
   -- the same outcome
-  pub same : talked ≡ run acts (takes anyRule) ends reordered
+  pub same : talked ≡ run sameLane acts (takes anyRule) ends reordered
   -- the records read are the first of those given
   pub to-come-out : List (List ℕ)
   pub records-out : (table1 ++ (table2 ++ table3)) ∷ [] ≡ ((table1 ++ (table2 ++ table3)) ∷ []) ++ to-come-out

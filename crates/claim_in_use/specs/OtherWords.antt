@@ -15,9 +15,10 @@ use Rattle.logical_record.specs.declared.Walked.the-variants as walked
 use Rattle.pacing.specs.declared.Window.{Window}
 use Rattle.control.specs.declared.State.the-variants.{Send}
 use Rattle.sides.specs.declared.Session.{Session}
+use Rattle.joined.specs.Lanes.{Lines}
 use Rattle.joined.specs.Joined as J
 use Rattle.joined.specs.Joined.{Call, At, first, second, Event, acted, took, Side, Both, run}
-use Rattle.joined.specs.Ends.{Station, Verb, Reply, Buffers, acts, takes, openedBoth}
+use Rattle.joined.specs.Ends.{Lane, normal, sameLane, Station, Verb, Reply, Buffers, acts, takes, openedBoth}
 
 -- ---- two sessions that are joined, by their numbers
 
@@ -59,7 +60,7 @@ pub record InRange (n : Numbers) (b c : Buffers) : Type 0 where
 -- ---- what an end's program saw
 
 abbrev pub Seen : Type 0
-Seen = Event Verb Reply (List ℕ)
+Seen = Event Lane Verb Reply (List ℕ)
 
 -- oldest first
 abbrev pub story : List Seen → List Seen
@@ -82,38 +83,35 @@ numberOf r = r .answer .answer .refusal
 -- the bytes of a send data
 abbrev pub bytesOf : Verb → List ℕ
 bytesOf Verb.allocate = []
-bytesOf Verb.flush = []
-bytesOf Verb.confirm = []
 bytesOf Verb.confirmed = []
 bytesOf Verb.pace = []
 bytesOf (Verb.sendData bytes) = bytes
-bytesOf (Verb.prepareToReceive b) = []
-bytesOf (Verb.deallocate b) = []
+bytesOf (Verb.close f b) = []
 bytesOf (Verb.receive buffer) = []
 
 -- the bytes that an accepted call gave
 abbrev pub gave : Seen → List ℕ
 gave (acted v r us) = cond (eqb (numberOf r) 0) (bytesOf v) []
-gave (took u r us) = []
+gave (took l u r us) = []
 
 -- the bytes that a call copied for its program
 abbrev pub copied : Seen → List ℕ
 copied (acted v r us) = take (r .answer .copied) (r .buffer)
-copied (took u r us) = []
+copied (took l u r us) = []
 
--- the units that a call made
+-- the units that a call made on the normal lane
 abbrev pub made : Seen → List (List ℕ)
-made (acted v r us) = us
-made (took u r us) = us
+made (acted v r us) = us normal
+made (took l u r us) = us normal
 
 abbrev pub answer : Seen → List Reply
 answer (acted v r us) = r ∷ []
-answer (took u r us) = r ∷ []
+answer (took l u r us) = r ∷ []
 
 -- the number that a take was answered with
 abbrev pub takeNumber : Seen → List ℕ
 takeNumber (acted v r us) = []
-takeNumber (took u r us) = numberOf r ∷ []
+takeNumber (took l u r us) = numberOf r ∷ []
 
 -- a request has no weight 80 in header byte 0, which is the unit's third
 abbrev pub request : List ℕ → List (List ℕ)
@@ -122,7 +120,7 @@ request u = cond (on 0x80 (getD u 2 0)) [] (u ∷ [])
 -- a unit that was taken, if its header is 83 01 00
 abbrev pub pacingAnswer : Seen → List (List ℕ)
 pacingAnswer (acted v r us) = []
-pacingAnswer (took u r us) =
+pacingAnswer (took l u r us) =
     cond (eqb (numberOf r) 0 && (eqb (getD u 2 0) 0x83 && (eqb (getD u 3 0) 0x01 && eqb (getD u 4 0) 0x00))) (u ∷ []) []
 
 -- the RU of a data unit, whose header begins with 00, 01, 02 or 03
@@ -136,10 +134,10 @@ creditLeft w = cond (w .pending) 0 (w .size) + cond (eqb (w .position) 0) 0 (w .
 -- ---- the claim
 
 abbrev pub Ends : Type 0
-Ends = Both Station Verb Reply (List ℕ)
+Ends = Both Lane Station Verb Reply (List ℕ)
 
 abbrev pub OneEnd : Type 0
-OneEnd = Side Station Verb Reply (List ℕ)
+OneEnd = Side Lane Station Verb Reply (List ℕ)
 
 -- what the program gave at x
 abbrev pub given : OneEnd → List ℕ
@@ -161,7 +159,7 @@ pub record AtOneEnd (w : ℕ) (x : OneEnd) : Type 0 where
   pub unfinished : walk start (given x) ≡ walked.At (x .end .end .sending .given)
   pub finished : (x .end .end .control .state ≡ Send → ⊥) → isWhole (x .end .end .sending .given) ≡ true
   -- a call said complete exactly if it copied bytes and the bytes read until then end a record; and fewer of its bytes would not have ended one
-  pub cut : (later earlier : List Seen) (v : Verb) (r : Reply) (us : List (List ℕ)) → x .log ≡ later ++ (acted v r us ∷ earlier)
+  pub cut : (later earlier : List Seen) (v : Verb) (r : Reply) (us : Lines Lane (List ℕ)) → x .log ≡ later ++ (acted v r us ∷ earlier)
       → (r .answer .complete ≡ true → ended (walk start (each copied (story (acted v r us ∷ earlier)))) ≡ true)
       × (0 < r .answer .copied → ended (walk start (each copied (story (acted v r us ∷ earlier)))) ≡ true → r .answer .complete ≡ true)
       × ((n : ℕ) → 0 < n → n < r .answer .copied → ended (walk start (each copied (story earlier) ++ take n (r .buffer))) ≡ false)
@@ -172,7 +170,7 @@ pub record OneWay (x y : OneEnd) : Type 0 where
       given x
       ≡ hasRead y
       ++ (take (y .end .end .receiving .held) (y .end .inbox)
-      ++ (each dataBytes (y .waiting) ++ take (x .end .end .sending .held) (x .end .send)))
+      ++ (each dataBytes (y .waiting normal) ++ take (x .end .end .sending .held) (x .end .send)))
   -- the records read are the first of those given
   pub to-come : List (List ℕ)
   pub records : wholeRecords (given x) ≡ wholeRecords (hasRead y) ++ to-come
@@ -187,18 +185,20 @@ pub record Agree (n : Numbers) (p : Ends) : Type 0 where
 -- ---- orders
 
 -- the list is made of the calls xs at the first end and ys at the second, in some order between them
-pub data Interleaves : List (Call Verb) → List (Call Verb) → List (At Verb) → Type 0 where
+pub data Interleaves : List (Call Lane Verb) → List (Call Lane Verb) → List (At Lane Verb) → Type 0 where
   none : Interleaves [] [] []
-  at-first : {c : Call Verb} {xs ys : List (Call Verb)} {l : List (At Verb)} → Interleaves xs ys l → Interleaves (c ∷ xs) ys (first c ∷ l)
-  at-second : {c : Call Verb} {xs ys : List (Call Verb)} {l : List (At Verb)} → Interleaves xs ys l → Interleaves xs (c ∷ ys) (second c ∷ l)
+  at-first : {c : Call Lane Verb} {xs ys : List (Call Lane Verb)} {l : List (At Lane Verb)} → Interleaves xs ys l → Interleaves (c ∷ xs) ys (first c ∷ l)
+  at-second : {c : Call Lane Verb} {xs ys : List (Call Lane Verb)} {l : List (At Lane Verb)} → Interleaves xs ys l → Interleaves xs (c ∷ ys) (second c ∷ l)
 
-abbrev pub after : (List ℕ → ℕ) → Numbers → Buffers → Buffers → List (At Verb) → Ends
-after naming n b c l = run acts (takes naming) (openedBoth (speaker n) (bidder n) b c) l
+abbrev pub after : (List ℕ → ℕ) → Numbers → Buffers → Buffers → List (At Lane Verb) → Ends
+after naming n b c l = run sameLane acts (takes naming) (openedBoth (speaker n) (bidder n) b c) l
 
--- wherever the list takes, a unit waits
-pub record TakesFind (naming : List ℕ → ℕ) (p : Ends) (l : List (At Verb)) : Type 0 where
-  pub one : (before behind : List (At Verb)) → l ≡ before ++ (first J.take ∷ behind) → run acts (takes naming) p before .one .waiting ≡ [] → ⊥
-  pub two : (before behind : List (At Verb)) → l ≡ before ++ (second J.take ∷ behind) → run acts (takes naming) p before .two .waiting ≡ [] → ⊥
+-- wherever the list takes, a unit waits on that lane
+pub record TakesFind (naming : List ℕ → ℕ) (p : Ends) (l : List (At Lane Verb)) : Type 0 where
+  pub one : (k : Lane) (before behind : List (At Lane Verb)) → l ≡ before ++ (first (J.take k) ∷ behind)
+      → run sameLane acts (takes naming) p before .one .waiting k ≡ [] → ⊥
+  pub two : (k : Lane) (before behind : List (At Lane Verb)) → l ≡ before ++ (second (J.take k) ∷ behind)
+      → run sameLane acts (takes naming) p before .two .waiting k ≡ [] → ⊥
 
 -- records, every lent cell, lines and answers in order
 pub record SameEnd (x y : OneEnd) : Type 0 where
@@ -209,8 +209,8 @@ pub record SameEnd (x y : OneEnd) : Type 0 where
 -- ---- the whole, of every two sessions, buffers and lists
 
 pub record InOtherWords : Type 0 where
-  pub agree : (naming : List ℕ → ℕ) (n : Numbers) (b c : Buffers) → InRange n b c → (l : List (At Verb)) → Agree n (after naming n b c l)
-  pub same : (naming : List ℕ → ℕ) (n : Numbers) (b c : Buffers) → InRange n b c → (xs ys : List (Call Verb)) (l m : List (At Verb))
+  pub agree : (naming : List ℕ → ℕ) (n : Numbers) (b c : Buffers) → InRange n b c → (l : List (At Lane Verb)) → Agree n (after naming n b c l)
+  pub same : (naming : List ℕ → ℕ) (n : Numbers) (b c : Buffers) → InRange n b c → (xs ys : List (Call Lane Verb)) (l m : List (At Lane Verb))
       → Interleaves xs ys l
       → Interleaves xs ys m
       → TakesFind naming (openedBoth (speaker n) (bidder n) b c) l

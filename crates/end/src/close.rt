@@ -62,7 +62,8 @@ impl End {
         accepted(n, self.with_control(control).with_sending(next))
     }
 
-    fn close(self, follows: Follows, confirm: bool, send: &[u8], unit: &mut [u8]) -> Done
+    // The closing call, of which the four below are names.
+    pub fn close(self, follows: Follows, confirm: bool, send: &[u8], unit: &mut [u8]) -> Done
         ensures { λ r. ⌜ madeBy r (now (unit .exit)) ≡ close follows confirm self (now (send .entry)) (now (unit .entry)) ⌝ }
     {
         let q = self.close_refusal(follows, confirm, send.len(), unit.len());

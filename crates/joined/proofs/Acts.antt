@@ -50,7 +50,7 @@ use Rattle.end.specs.declared.ReadDone.{ReadDone}
 use Rattle.answers.specs.declared.ReadAnswer.{ReadAnswer}
 use Rattle.joined.specs.Joined.{Acted, Took}
 use Rattle.joined.specs.Ends as J
-use Rattle.joined.specs.Ends.{Station, Verb, Reply, plain, unitsOf, makes, sends, copies, acts, takes}
+use Rattle.joined.specs.Ends.{Lane, normal, Station, Verb, Reply, plain, unitsOf, onNormal, makes, sends, copies, acts, takes}
 use Rattle.joined.proofs.Cases.{cases, split}
 use Rattle.joined.proofs.Rows.{all-yes, pass, left, right}
 use Rattle.answers.specs.Questions.{firstNo}
@@ -60,10 +60,11 @@ UnitBytes = List ℕ
 
 -- ---- a refused call
 
-abbrev pub refusedAct : Station → ℕ → Acted Station Reply UnitBytes
-refusedAct s q = record { end = s; answer = plain (refused q); sent = [] }
+abbrev pub refusedAct : Station → ℕ → Acted Lane Station Reply UnitBytes
+refusedAct s q = record { end = s; answer = plain (refused q); sent = onNormal [] }
 
-made-refused : (P : Acted Station Reply UnitBytes → Type 0) (s : Station) (q : ℕ) → eqb q 0 ≡ false → P (refusedAct s q) → P (makes s (made (refuse q (s .end)) (s .unit)))
+made-refused : (P : Acted Lane Station Reply UnitBytes → Type 0) (s : Station) (q : ℕ)
+    → eqb q 0 ≡ false → P (refusedAct s q) → P (makes s (made (refuse q (s .end)) (s .unit)))
 made-refused P s q e h = rw e h
 
 -- ---- a unit made is what the caller finds at the front of the unit buffer
@@ -79,18 +80,18 @@ unit-out n h ru cells =
 abbrev pub withEnd : Station → End → Station
 withEnd s e = record { end = e; send = s .send; unit = s .unit; inbox = s .inbox }
 
-abbrev pub quietAct : Station → End → Acted Station Reply UnitBytes
-quietAct s e = record { end = withEnd s e; answer = plain (accepted 0); sent = [] }
+abbrev pub quietAct : Station → End → Acted Lane Station Reply UnitBytes
+quietAct s e = record { end = withEnd s e; answer = plain (accepted 0); sent = onNormal [] }
 
-abbrev pub unitAct : Station → End → ℕ → Header → List ℕ → Acted Station Reply UnitBytes
+abbrev pub unitAct : Station → End → ℕ → Header → List ℕ → Acted Lane Station Reply UnitBytes
 unitAct s e n h ru =
     record {
       end = record { end = e; send = s .send; unit = front (unitOf n h ru) (s .unit); inbox = s .inbox };
       answer = plain (accepted (RU-START + length ru));
-      sent = unitOf n h ru ∷ [];
+      sent = onNormal (unitOf n h ru ∷ []);
     }
 
-made-unit : (P : Acted Station Reply UnitBytes → Type 0) (s : Station) (e : End) (n : ℕ) (h : Header) (ru : List ℕ)
+made-unit : (P : Acted Lane Station Reply UnitBytes → Type 0) (s : Station) (e : End) (n : ℕ) (h : Header) (ru : List ℕ)
     → P (unitAct s e n h ru) → P (makes s (made (record { refusal = 0; end = e; out = aUnit n h ru }) (s .unit)))
 made-unit P s e n h ru p =
     subst
@@ -98,7 +99,7 @@ made-unit P s e n h ru p =
     P (record {
       end = record { end = e; send = s .send; unit = front (unitOf n h ru) (s .unit); inbox = s .inbox };
       answer = plain (accepted (RU-START + length ru));
-      sent = us;
+      sent = onNormal us;
     }))
     (sym (unit-out n h ru (s .unit))) p
 
@@ -108,7 +109,7 @@ abbrev pub bidNumber : End → ℕ
 bidNumber e = nextNumber (e .sending .number)
 
 pub allocate-cases :
-    (P : Acted Station Reply UnitBytes → Type 0) (s : Station)
+    (P : Acted Lane Station Reply UnitBytes → Type 0) (s : Station)
     → ((q : ℕ) → eqb q 0 ≡ false → P (refusedAct s q))
     → (recordGood (s .end) ≡ true
     → mayAllocate (s .end .control) ≡ true
@@ -141,12 +142,12 @@ good-at (At p) e = (p, refl)
 good-at BadLength e = absurd (let z : _≡_ {A = ℕ} 0 1 = cc in omega arith)
 
 -- the bytes are kept
-abbrev pub keptAct : Station → List ℕ → Acted Station Reply UnitBytes
+abbrev pub keptAct : Station → List ℕ → Acted Lane Station Reply UnitBytes
 keptAct s bytes =
     record {
       end = record { end = bytesKept (s .end) bytes .end; send = written (s .end .sending .held) bytes (s .send); unit = s .unit; inbox = s .inbox };
       answer = plain (accepted 0);
-      sent = [];
+      sent = onNormal [];
     }
 
 -- the RU of the unit that goes out where they are not
@@ -156,7 +157,7 @@ spilledRu s bytes = heldBytes (s .end) (s .send) ++ take (gone (s .end)) bytes
 abbrev pub spilledUnit : Station → List ℕ → UnitBytes
 spilledUnit s bytes = unitOf (nextNumber (s .end .sending .number)) (dataHeader (s .end) Continues) (spilledRu s bytes)
 
-abbrev pub spilledAct : Station → List ℕ → Acted Station Reply UnitBytes
+abbrev pub spilledAct : Station → List ℕ → Acted Lane Station Reply UnitBytes
 spilledAct s bytes =
     record {
       end =
@@ -167,7 +168,7 @@ spilledAct s bytes =
             inbox = s .inbox;
           };
       answer = plain (accepted (RU-START + length (spilledRu s bytes)));
-      sent = spilledUnit s bytes ∷ [];
+      sent = onNormal (spilledUnit s bytes ∷ []);
     }
 
 -- what an accepted send data has been asked
@@ -181,7 +182,7 @@ pub record SendAsked (s : Station) (bytes : List ℕ) : Type 0 where
   pub walked : walk (s .end .sending .given) bytes ≡ At place
 
 pub send-cases :
-    (P : Acted Station Reply UnitBytes → Type 0) (s : Station) (bytes : List ℕ)
+    (P : Acted Lane Station Reply UnitBytes → Type 0) (s : Station) (bytes : List ℕ)
     → ((q : ℕ) → eqb q 0 ≡ false → P (refusedAct s q))
     → (SendAsked s bytes → keeps (s .end .sending) (length bytes) ≡ true → P (keptAct s bytes))
     → (SendAsked s bytes → keeps (s .end .sending) (length bytes) ≡ false → hasCredit (s .end .sending .window) ≡ true → P (spilledAct s bytes))
@@ -191,7 +192,8 @@ send-cases P s bytes refuses keep spill =
     let e = s .end in
     let q : ℕ = sendRefusal e bytes (length (s .send)) (length (s .unit)) in
     let ks : Bool = keeps (e .sending) (length bytes) in
-    cases (λ (d : Decision). P (sends s (record { done = doneOf d; send = sendCells e bytes (d .refusal) (s .send); unit = cellsOut (d .out) (s .unit) }))) (eqb q 0)
+    cases (λ (d : Decision). P (sends s (record { done = doneOf d; send = sendCells e bytes (d .refusal) (s .send); unit = cellsOut (d .out) (s .unit) })))
+    (eqb q 0)
     (λ y.
     let t = all-yes (sendQuestions e bytes (length (s .send)) (length (s .unit))) tt (eqb-true q 0 y) in
     let w = good-at (walk (e .sending .given) bytes) (t 4) in
@@ -220,7 +222,7 @@ send-cases P s bytes refuses keep spill =
             inbox = s .inbox;
           };
       answer = plain (accepted (RU-START + length (spilledRu s bytes)));
-      sent = us;
+      sent = onNormal us;
     }))
     (sym (unit-out (nextNumber (e .sending .number)) (dataHeader e Continues) (spilledRu s bytes) (s .unit)))
     (spill asked k (subst (λ (b : Bool). b || hasCredit (e .sending .window) ≡ true) k (t 5))))))
@@ -234,17 +236,17 @@ pub record CloseAsked (s : Station) (f : Follows) (c : Bool) : Type 0 where
   pub sending : maySend (s .end .control) ≡ true
   pub whole : not (marks (Last f c)) || isWhole (s .end .sending .given) ≡ true
 
-abbrev pub lastAct : Station → Follows → Bool → Acted Station Reply UnitBytes
+abbrev pub lastAct : Station → Follows → Bool → Acted Lane Station Reply UnitBytes
 lastAct s f c =
     unitAct s (lastMade (s .end) f c (s .send) .end) (nextNumber (s .end .sending .number)) (dataHeader (s .end) (Last f c)) (heldBytes (s .end) (s .send))
 
 pub close-cases :
-    (P : Acted Station Reply UnitBytes → Type 0) (s : Station) (f : Follows) (c : Bool)
+    (P : Acted Lane Station Reply UnitBytes → Type 0) (s : Station) (f : Follows) (c : Bool)
     → ((q : ℕ) → eqb q 0 ≡ false → P (refusedAct s q))
     → (CloseAsked s f c → nothingGoes (s .end) f c ≡ true → P (quietAct s (s .end)))
     → (CloseAsked s f c → nothingGoes (s .end) f c ≡ false → hasCredit (s .end .sending .window) ≡ true → P (lastAct s f c))
-    → P (makes s (close f c (s .end) (s .send) (s .unit)))
-unfolding close closeDecision closeRefusal lastMade
+    → P (acts s (Verb.close f c))
+unfolding acts close closeDecision closeRefusal lastMade
 close-cases P s f c refuses none goes =
     let e = s .end in
     let q : ℕ = closeRefusal e f c (length (s .send)) (length (s .unit)) in
@@ -267,7 +269,7 @@ close-cases P s f c refuses none goes =
 -- ---- confirmed
 
 pub confirmed-cases :
-    (P : Acted Station Reply UnitBytes → Type 0) (s : Station)
+    (P : Acted Lane Station Reply UnitBytes → Type 0) (s : Station)
     → ((q : ℕ) → eqb q 0 ≡ false → P (refusedAct s q))
     → (recordGood (s .end) ≡ true
     → mayConfirm (s .end .control) ≡ true
@@ -286,7 +288,7 @@ confirmed-cases P s refuses goes =
 -- ---- pace
 
 pub pace-cases :
-    (P : Acted Station Reply UnitBytes → Type 0) (s : Station)
+    (P : Acted Lane Station Reply UnitBytes → Type 0) (s : Station)
     → ((q : ℕ) → eqb q 0 ≡ false → P (refusedAct s q))
     → (recordGood (s .end) ≡ true
     → mayPace (s .end .receiving) ≡ true
@@ -313,10 +315,10 @@ pub record ReadAsked (s : Station) (buffer : List ℕ) : Type 0 where
 abbrev pub readCount : Station → List ℕ → ℕ
 readCount s buffer = copyCount (s .end) (s .inbox) (length buffer)
 
-abbrev pub refusedRead : Station → ℕ → List ℕ → Acted Station Reply UnitBytes
-refusedRead s q buffer = record { end = s; answer = record { answer = readRefused q; buffer = buffer }; sent = [] }
+abbrev pub refusedRead : Station → ℕ → List ℕ → Acted Lane Station Reply UnitBytes
+refusedRead s q buffer = record { end = s; answer = record { answer = readRefused q; buffer = buffer }; sent = onNormal [] }
 
-abbrev pub bytesAct : Station → List ℕ → Acted Station Reply UnitBytes
+abbrev pub bytesAct : Station → List ℕ → Acted Lane Station Reply UnitBytes
 bytesAct s buffer =
     record {
       end =
@@ -328,19 +330,19 @@ bytesAct s buffer =
           };
       answer =
           record { answer = bytesRead (s .end) (readCount s buffer) (s .inbox) .answer; buffer = front (take (readCount s buffer) (s .inbox)) buffer };
-      sent = [];
+      sent = onNormal [];
     }
 
-abbrev pub markAct : Station → List ℕ → Acted Station Reply UnitBytes
+abbrev pub markAct : Station → List ℕ → Acted Lane Station Reply UnitBytes
 markAct s buffer =
     record {
       end = withEnd s (withControl (markAnswered (s .end .control)) (s .end));
       answer = record { answer = markRead (s .end) .answer; buffer = buffer };
-      sent = [];
+      sent = onNormal [];
     }
 
 pub read-cases :
-    (P : Acted Station Reply UnitBytes → Type 0) (s : Station) (buffer : List ℕ)
+    (P : Acted Lane Station Reply UnitBytes → Type 0) (s : Station) (buffer : List ℕ)
     → ((q : ℕ) → q ≡ readRefusal (s .end) (s .inbox) (length buffer) → eqb q 0 ≡ false → P (refusedRead s q buffer))
     → (ReadAsked s buffer → someHeld (s .end) ≡ true → P (bytesAct s buffer))
     → (ReadAsked s buffer → someHeld (s .end) ≡ false → not (isNothing (s .end .control .mark)) ≡ true → P (markAct s buffer))
@@ -368,12 +370,12 @@ read-cases P s buffer refuses copied marked =
 -- ---- take
 
 -- an accepted take, by the kind of the unit
-abbrev pub tookKind : Station → Header → ℕ → List ℕ → Took Station Reply UnitBytes
+abbrev pub tookKind : Station → Header → ℕ → List ℕ → Took Lane Station Reply UnitBytes
 tookKind s (Data d) n ru =
     record {
       end = record { end = dataJoined (s .end) d n ru .end; send = s .send; unit = s .unit; inbox = written (s .end .receiving .held) ru (s .inbox) };
       answer = plain (accepted 0);
-      sent = [];
+      sent = onNormal [];
       removed = true;
     }
 tookKind s (Bid p) n ru =
@@ -381,30 +383,30 @@ tookKind s (Bid p) n ru =
     record {
       end = record { end = bidAnswered (s .end) n .end; send = s .send; unit = front (unitOf n h (fixedRu h)) (s .unit); inbox = s .inbox };
       answer = plain (accepted (RU-START + length (fixedRu h)));
-      sent = unitOf n h (fixedRu h) ∷ [];
+      sent = onNormal (unitOf n h (fixedRu h) ∷ []);
       removed = true;
     }
 tookKind s PositiveBidResponse n ru =
-    record { end = withEnd s (withControl (grantTaken (s .end .control)) (s .end)); answer = plain (accepted 0); sent = []; removed = true }
+    record { end = withEnd s (withControl (grantTaken (s .end .control)) (s .end)); answer = plain (accepted 0); sent = onNormal []; removed = true }
 tookKind s NegativeBidResponse n ru =
-    record { end = withEnd s (withControl (refusalTaken (s .end .control)) (s .end)); answer = plain (accepted 0); sent = []; removed = true }
+    record { end = withEnd s (withControl (refusalTaken (s .end .control)) (s .end)); answer = plain (accepted 0); sent = onNormal []; removed = true }
 tookKind s Confirmation n ru =
-    record { end = withEnd s (withControl (confirmationTaken (s .end .control)) (s .end)); answer = plain (accepted 0); sent = []; removed = true }
+    record { end = withEnd s (withControl (confirmationTaken (s .end .control)) (s .end)); answer = plain (accepted 0); sent = onNormal []; removed = true }
 tookKind s PacingResponse n ru =
-    record { end = withEnd s (creditRaised (s .end) .end); answer = plain (accepted 0); sent = []; removed = true }
+    record { end = withEnd s (creditRaised (s .end) .end); answer = plain (accepted 0); sent = onNormal []; removed = true }
 
 -- what a take leaves by its decision
-abbrev tookOf : (List ℕ → ℕ) → Station → List ℕ → Decision → List ℕ → Took Station Reply UnitBytes
+abbrev tookOf : (List ℕ → ℕ) → Station → List ℕ → Decision → List ℕ → Took Lane Station Reply UnitBytes
 tookOf naming s u d inbox =
     record {
       end = record { end = d .end; send = s .send; unit = cellsOut (d .out) (s .unit); inbox = inbox };
       answer = plain (answerNaming (naming u) d);
-      sent = unitsOf (answerNaming (naming u) d .unit) (cellsOut (d .out) (s .unit));
+      sent = onNormal (unitsOf (answerNaming (naming u) d .unit) (cellsOut (d .out) (s .unit)));
       removed = eqb (answerNaming (naming u) d .refusal) 0;
     }
 
 took-kind :
-    (P : Took Station Reply UnitBytes → Type 0) (naming : List ℕ → ℕ) (s : Station) (u : List ℕ) (h : Header) (n : ℕ) (ru : List ℕ)
+    (P : Took Lane Station Reply UnitBytes → Type 0) (naming : List ℕ → ℕ) (s : Station) (u : List ℕ) (h : Header) (n : ℕ) (ru : List ℕ)
     → P (tookKind s h n ru)
     → P (tookOf naming s u (kindTaken (s .end) h n ru) (cond (eqb (kindTaken (s .end) h n ru .refusal) 0) (kindJoined (s .end) h ru (s .inbox)) (s .inbox)))
 unfolding dataJoined bidAnswered creditRaised
@@ -416,7 +418,7 @@ took-kind P naming s u (Bid b) n ru p =
     P (record {
       end = record { end = bidAnswered (s .end) n .end; send = s .send; unit = front (unitOf n h (fixedRu h)) (s .unit); inbox = s .inbox };
       answer = plain (accepted (RU-START + length (fixedRu h)));
-      sent = us;
+      sent = onNormal us;
       removed = true;
     }))
     (sym (unit-out n h (fixedRu h) (s .unit))) p
@@ -433,14 +435,14 @@ pub record TakeAsked (s : Station) (u : List ℕ) : Type 0 where
   pub long : RU-START ≤ length u
   pub header : headerGood (headerIn u) ≡ true
 
-abbrev pub refusedTake : (List ℕ → ℕ) → Station → List ℕ → ℕ → Took Station Reply UnitBytes
-refusedTake naming s u q = record { end = s; answer = plain (refusedNaming (naming u) q); sent = []; removed = false }
+abbrev pub refusedTake : (List ℕ → ℕ) → Station → List ℕ → ℕ → Took Lane Station Reply UnitBytes
+refusedTake naming s u q = record { end = s; answer = plain (refusedNaming (naming u) q); sent = onNormal []; removed = false }
 
 pub take-cases :
-    (P : Took Station Reply UnitBytes → Type 0) (naming : List ℕ → ℕ) (s : Station) (u : List ℕ)
+    (P : Took Lane Station Reply UnitBytes → Type 0) (naming : List ℕ → ℕ) (s : Station) (u : List ℕ)
     → ((q : ℕ) → q ≡ takeRefusal (s .end) u (length (s .inbox)) (length (s .unit)) → eqb q 0 ≡ false → P (refusedTake naming s u q))
     → (TakeAsked s u → firstNo (kindQuestions (s .end) (headerTaken u) (numberIn u) (ruTaken u)) ≡ 0 → P (tookKind s (headerTaken u) (numberIn u) (ruTaken u)))
-    → P (takes naming s u)
+    → P (takes naming normal s u)
 unfolding takes receiveUnit takeDecision inboxCells takeRefusal
 take-cases P naming s u refuses takesIt =
     let e = s .end in

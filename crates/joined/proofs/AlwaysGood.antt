@@ -11,7 +11,6 @@ use Rattle.header.specs.Header.{confirms}
 use Rattle.unit.specs.Ru.{bidRu, fixedRu}
 use Rattle.unit.specs.Unit.{RU-START, unitOf, numberIn}
 use Rattle.header.specs.declared.Follows.{Follows}
-use Rattle.header.specs.declared.Follows.the-variants.{Stay, ChangeDirection, EndBracket}
 use Rattle.header.specs.declared.ChainEnd.the-variants.{Continues, Last}
 use Rattle.header.specs.declared.Header.{Header}
 use Rattle.header.specs.declared.Header.the-variants.{Data, Bid, PositiveBidResponse, NegativeBidResponse, Confirmation, PacingResponse}
@@ -24,14 +23,15 @@ use Rattle.sides.specs.Opening.{openingRefusal}
 use Rattle.session.specs.Opening.{opened}
 use Rattle.end.specs.Allocate.{bidMade}
 use Rattle.end.specs.SendData.{heldBytes, gone, bytesKept, bytesSpilled}
-use Rattle.end.specs.Close.{lastMade, close}
+use Rattle.end.specs.Close.{lastMade}
 use Rattle.end.specs.ReceiveUnit.{headerTaken, ruTaken, dataJoined, bidAnswered, creditRaised}
 use Rattle.end.specs.Receive.{inboxBytes, bytesRead, inboxMoved}
 use Rattle.sides.specs.declared.Session.{Session}
 use Rattle.end.specs.declared.Done.{Done}
-use Rattle.joined.specs.Joined.{Call, act, At, first, second, Acted, Took, apply, step, run}
+use Rattle.joined.specs.Lanes.{Lines}
+use Rattle.joined.specs.Joined.{Call, act, At, first, second, Acted, Took, takeOldest, apply, step, run}
 use Rattle.joined.specs.Joined as J
-use Rattle.joined.specs.Ends.{Station, Verb, Reply, Buffers, OpeningAccepted, openedWith, openedBoth, makes, acts, takes}
+use Rattle.joined.specs.Ends.{Lane, normal, sameLane, Station, Verb, Reply, Buffers, OpeningAccepted, openedWith, openedBoth, acts, takes}
 use Rattle.joined.specs.Histories.{Log, count, refusedWith}
 use Rattle.joined.specs.SingleCalls.{AllBytes, BytesOf}
 use Rattle.joined.specs.Claim.{Pair, after, LentBytes, BytesIn, BytesAt, BytesOfAll, BothGood, AlwaysGood}
@@ -49,8 +49,8 @@ record Cells (s : Station) : Type 0 where
   owed : s .end .owed < 65536
 
 module _ (s : Station) (c : Cells s) where
-  abbrev After : Acted Station Reply (List ℕ) → Type 0
-  After m = Cells (m .end) × AllUnits (m .sent)
+  abbrev After : Acted Lane Station Reply (List ℕ) → Type 0
+  After m = Cells (m .end) × AllUnits (m .sent normal)
 
   one-unit : (n : ℕ) (h : Header) (ru : List ℕ) → n < 65536 → AllBytes ru → AllUnits (unitOf n h ru ∷ [])
   one-unit n h ru l f = (unit-bytes n h ru l f, tt)
@@ -58,13 +58,14 @@ module _ (s : Station) (c : Cells s) where
   held-bytes : AllBytes (heldBytes (s .end) (s .send))
   held-bytes = take-bytes (s .end .sending .held) (s .send) (c .send)
 
-  closes : (f : Follows) (b : Bool) → After (makes s (close f b (s .end) (s .send) (s .unit)))
+  closes : (f : Follows) (b : Bool) → After (acts s (Verb.close f b))
   unfolding lastMade
   closes f b =
       close-cases After s f b (λ q n. (c, tt)) (λ a n. (record { send = c .send; inbox = c .inbox; owed = c .owed }, tt))
       (λ a n k. (
         record { send = c .send; inbox = c .inbox; owed = c .owed },
-        one-unit (nextNumber (s .end .sending .number)) (dataHeader (s .end) (Last f b)) (heldBytes (s .end) (s .send)) (next-small (s .end .sending .number)) held-bytes,
+        one-unit (nextNumber (s .end .sending .number)) (dataHeader (s .end) (Last f b)) (heldBytes (s .end) (s .send))
+            (next-small (s .end .sending .number)) held-bytes,
       ))
 
   gives : (bytes : List ℕ) → AllBytes bytes → After (acts s (Verb.sendData bytes))
@@ -99,8 +100,6 @@ module _ (s : Station) (c : Cells s) where
         one-unit (bidNumber (s .end)) (Bid (paced (s .end .sending .window))) bidRu (next-small (s .end .sending .number))
             (fixed-bytes (Bid (paced (s .end .sending .window)))),
       ))
-  cells-acts Verb.flush b = closes Stay false
-  cells-acts Verb.confirm b = closes Stay true
   cells-acts Verb.confirmed b =
       confirmed-cases After s (λ q n. (c, tt))
       (λ g a. (record { send = c .send; inbox = c .inbox; owed = c .owed }, one-unit (s .end .owed) Confirmation [] (c .owed) none-bytes))
@@ -108,15 +107,14 @@ module _ (s : Station) (c : Cells s) where
       pace-cases After s (λ q n. (c, tt))
       (λ g a. (record { send = c .send; inbox = c .inbox; owed = c .owed }, one-unit 0 PacingResponse [] (omega arith) none-bytes))
   cells-acts (Verb.sendData bytes) b = gives bytes b
-  cells-acts (Verb.prepareToReceive x) b = closes ChangeDirection x
-  cells-acts (Verb.deallocate x) b = closes EndBracket x
+  cells-acts (Verb.close f x) b = closes f x
   cells-acts (Verb.receive buffer) b =
       read-cases After s buffer (λ q w n. (c, tt))
       (λ a h. (record { send = c .send; inbox = moved-bytes (readCount s buffer); owed = c .owed }, tt))
       (λ a h m. (record { send = c .send; inbox = c .inbox; owed = c .owed }, tt))
 
-  abbrev Left : Took Station Reply (List ℕ) → Type 0
-  Left t = Cells (t .end) × AllUnits (t .sent)
+  abbrev Left : Took Lane Station Reply (List ℕ) → Type 0
+  Left t = Cells (t .end) × AllUnits (t .sent normal)
 
   -- the number owed is that of the unit, or as it was
   owed-small : (b : Bool) (n : ℕ) → n < 65536 → cond b n (s .end .owed) < 65536
@@ -141,7 +139,7 @@ module _ (s : Station) (c : Cells s) where
   kind-cells Confirmation n ru l f = (record { send = c .send; inbox = c .inbox; owed = c .owed }, tt)
   kind-cells PacingResponse n ru l f = (record { send = c .send; inbox = c .inbox; owed = c .owed }, tt)
 
-  cells-takes : (naming : List ℕ → ℕ) (u : List ℕ) → AllBytes u → Left (takes naming s u)
+  cells-takes : (naming : List ℕ → ℕ) (u : List ℕ) → AllBytes u → Left (takes naming normal s u)
   cells-takes naming u f =
       take-cases Left naming s u (λ q w n. (c, tt))
       (λ a k. kind-cells (headerTaken u) (numberIn u) (ruTaken u) (number-small u f) (drop-bytes RU-START u f))
@@ -164,10 +162,25 @@ one-more true n e z = absurd (let y : _≡_ {A = ℕ} 0 1 = cc in omega arith)
 one-more false n e z = omega arith
 
 module _ (naming : List ℕ → ℕ) where
-  one-call : (e : Station) (es : Log) (us : List (List ℕ)) (c : Call Verb) → BytesIn c → Sound e → AllUnits us → refusedWith 5 es ≡ 0
-      → (let r = apply acts (takes naming) e es us c in Rests (r .side .end) (r .side .waiting) (r .sent) (r .side .log))
+  -- us are the line of the normal lane
+  one-take : (e : Station) (es : Log) (w : Lines Lane (List ℕ)) (us : List (List ℕ)) → Sound e → AllUnits (w normal) → AllUnits us → refusedWith 5 es ≡ 0
+      → (let r = takeOldest sameLane acts (takes naming) e es w normal us in
+      Rests (r .side .end) (r .side .waiting normal) (r .sent normal) (r .side .log))
   unfolding refusedWith
-  one-call e es us (act v) b s f z =
+  one-take e es w [] s f g z = record { end = s; line = f; made = tt; never = z }
+  one-take e es w (u ∷ us) s f g z =
+      let q = cells-takes e (s .cells) naming u (g .0) in
+      record {
+        end = record { good = good-takes naming e u (g .0) (s .good); cells = q .0 };
+        line = cases AllUnits (takes naming normal e u .removed) (λ y. g .1) (λ y. g);
+        made = q .1;
+        never = one-more _ _ (take-never-5 e (s .good) naming u) z;
+      }
+
+  one-call : (e : Station) (es : Log) (w : Lines Lane (List ℕ)) (c : Call Lane Verb) → BytesIn c → Sound e → AllUnits (w normal) → refusedWith 5 es ≡ 0
+      → (let r = apply sameLane acts (takes naming) e es w c in Rests (r .side .end) (r .side .waiting normal) (r .sent normal) (r .side .log))
+  unfolding refusedWith
+  one-call e es w (act v) b s f z =
       let q = cells-acts e (s .cells) v b in
       record {
         end = record { good = good-acts e v b (s .cells .inbox) (s .good); cells = q .0 };
@@ -175,32 +188,24 @@ module _ (naming : List ℕ → ℕ) where
         made = q .1;
         never = one-more _ _ (never-5 e (s .good) v) z;
       }
-  one-call e es [] J.take b s f z = record { end = s; line = f; made = tt; never = z }
-  one-call e es (u ∷ us) J.take b s f z =
-      let q = cells-takes e (s .cells) naming u (f .0) in
-      record {
-        end = record { good = good-takes naming e u (f .0) (s .good); cells = q .0 };
-        line = cases AllUnits (takes naming e u .removed) (λ y. f .1) (λ y. f);
-        made = q .1;
-        never = one-more _ _ (take-never-5 e (s .good) naming u) z;
-      }
+  one-call e es w (J.take normal) b s f z = one-take e es w (w normal) s f f z
 
   record Good (p : Pair) : Type 0 where
     one : Sound (p .one .end)
     two : Sound (p .two .end)
-    to-one : AllUnits (p .one .waiting)
-    to-two : AllUnits (p .two .waiting)
+    to-one : AllUnits (p .one .waiting normal)
+    to-two : AllUnits (p .two .waiting normal)
     never-one : refusedWith 5 (p .one .log) ≡ 0
     never-two : refusedWith 5 (p .two .log) ≡ 0
 
-  step-good : (p : Pair) (c : At Verb) → BytesAt c → Good p → Good (step acts (takes naming) p c)
+  step-good : (p : Pair) (c : At Lane Verb) → BytesAt c → Good p → Good (step sameLane acts (takes naming) p c)
   step-good p (first c) b g =
       let r = one-call (p .one .end) (p .one .log) (p .one .waiting) c b (g .one) (g .to-one) (g .never-one) in
       record {
         one = r .end;
         two = g .two;
         to-one = r .line;
-        to-two = append-units (p .two .waiting) _ (g .to-two) (r .made);
+        to-two = append-units (p .two .waiting normal) _ (g .to-two) (r .made);
         never-one = r .never;
         never-two = g .never-two;
       }
@@ -209,15 +214,15 @@ module _ (naming : List ℕ → ℕ) where
       record {
         one = g .one;
         two = r .end;
-        to-one = append-units (p .one .waiting) _ (g .to-one) (r .made);
+        to-one = append-units (p .one .waiting normal) _ (g .to-one) (r .made);
         to-two = r .line;
         never-one = g .never-one;
         never-two = r .never;
       }
 
-  run-good : (p : Pair) (l : List (At Verb)) → BytesOfAll l → Good p → Good (run acts (takes naming) p l)
+  run-good : (p : Pair) (l : List (At Lane Verb)) → BytesOfAll l → Good p → Good (run sameLane acts (takes naming) p l)
   run-good p [] b g = g
-  run-good p (c ∷ l) b g = run-good (step acts (takes naming) p c) l (b .1) (step-good p c (b .0) g)
+  run-good p (c ∷ l) b g = run-good (step sameLane acts (takes naming) p c) l (b .1) (step-good p c (b .0) g)
 
 -- ---- from openings
 

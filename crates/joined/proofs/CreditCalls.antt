@@ -6,8 +6,6 @@ use mathlib.Core.Bool.{Bool, true, false, cond, _&&_}
 use mathlib.Core.List.{List, [], _∷_}
 use native.Mathlib.Omega.{arith}
 use lib.Dec.{eqb, leb}
-use Rattle.header.specs.declared.Follows.{Follows}
-use Rattle.header.specs.declared.Follows.the-variants.{Stay, ChangeDirection, EndBracket}
 use Rattle.header.specs.declared.ChainEnd.{ChainEnd}
 use Rattle.header.specs.declared.ChainEnd.the-variants.{Continues, Last}
 use Rattle.header.specs.declared.Header.{Header}
@@ -26,11 +24,11 @@ use Rattle.end.specs.Record.{recordGood, creditOf, openOf}
 use Rattle.end.specs.Requests.{dataHeader}
 use Rattle.end.specs.Allocate.{bidMade}
 use Rattle.end.specs.SendData.{heldBytes, bytesKept, bytesSpilled}
-use Rattle.end.specs.Close.{lastMade, close}
+use Rattle.end.specs.Close.{lastMade}
 use Rattle.end.specs.ReceiveUnit.{kindQuestions, headerTaken, ruTaken, dataJoined, bidAnswered, creditRaised}
 use Rattle.end.specs.Receive.{bytesRead, markRead}
 use Rattle.joined.specs.Joined.{Acted, Took}
-use Rattle.joined.specs.Ends.{Station, Verb, Reply, refusalIn, makes, acts, takes}
+use Rattle.joined.specs.Ends.{Lane, normal, Station, Verb, Reply, refusalIn, acts, takes}
 use Rattle.joined.specs.Histories.{count, isRequest, requestsAmong, isPacingResponse}
 use Rattle.joined.specs.SingleCalls.{isPace, CreditExact}
 use Rattle.joined.proofs.Rows.{left, all-yes}
@@ -74,26 +72,17 @@ answer-asks c = by (isReset (c .state))
 -- ---- calls that the end answers by itself
 
 module _ (s : Station) where
-  abbrev Costs : Acted Station Reply (List ℕ) → Type 0
-  Costs m = requestsAmong (m .sent) + creditOf (m .end .end) ≡ creditOf (s .end)
+  abbrev Costs : Acted Lane Station Reply (List ℕ) → Type 0
+  Costs m = requestsAmong (m .sent normal) + creditOf (m .end .end) ≡ creditOf (s .end)
 
   free : requestsAmong [] + creditOf (s .end) ≡ creditOf (s .end)
   free = none-made (creditOf (s .end))
 
-  closes : (f : Follows) (b : Bool) → Costs (makes s (close f b (s .end) (s .send) (s .unit)))
-  unfolding lastMade requestMade
-  closes f b =
-      close-cases Costs s f b (λ q n. free) (λ a n. free)
-      (λ a n k.
-      request-made s (nextNumber (s .end .sending .number)) (dataHeader (s .end) (Last f b)) (heldBytes (s .end) (s .send)) (data-asks s (Last f b)) (a .good) k)
-
   request-costs-one : (v : Verb) → Costs (acts s v)
-  unfolding acts bidMade bytesKept bytesSpilled requestMade bytesRead markRead
+  unfolding acts bidMade bytesKept bytesSpilled lastMade requestMade bytesRead markRead
   request-costs-one Verb.allocate =
       allocate-cases Costs s (λ q n. free) (λ g a w. free)
       (λ g a w k. request-made s (bidNumber (s .end)) (Bid (paced (s .end .sending .window))) bidRu refl g k)
-  request-costs-one Verb.flush = closes Stay false
-  request-costs-one Verb.confirm = closes Stay true
   request-costs-one Verb.confirmed =
       confirmed-cases Costs s (λ q n. free) (λ g a. other-made (s .end .owed) (creditOf (s .end)) Confirmation [] refl)
   request-costs-one Verb.pace = pace-cases Costs s (λ q n. free) (λ g a. other-made 0 (creditOf (s .end)) PacingResponse [] refl)
@@ -101,12 +90,15 @@ module _ (s : Station) where
       send-cases Costs s bytes (λ q n. free) (λ a k. free)
       (λ a k h.
       request-made s (nextNumber (s .end .sending .number)) (dataHeader (s .end) Continues) (spilledRu s bytes) (data-asks s Continues) (a .good) h)
-  request-costs-one (Verb.prepareToReceive b) = closes ChangeDirection b
-  request-costs-one (Verb.deallocate b) = closes EndBracket b
+  request-costs-one (Verb.close f b) =
+      close-cases Costs s f b (λ q n. free) (λ a n. free)
+      (λ a n k.
+      request-made s (nextNumber (s .end .sending .number)) (dataHeader (s .end) (Last f b)) (heldBytes (s .end) (s .send))
+      (data-asks s (Last f b)) (a .good) k)
   request-costs-one (Verb.receive buffer) = read-cases Costs s buffer (λ q w n. free) (λ a h. free) (λ a h m. free)
 
   -- open, and the window that it rises by
-  abbrev Opens : Verb → Acted Station Reply (List ℕ) → Type 0
+  abbrev Opens : Verb → Acted Lane Station Reply (List ℕ) → Type 0
   Opens v m = openOf (m .end .end) ≡ openOf (s .end) + s .end .receiving .window .size * count (eqb (refusalIn (m .answer)) 0 && isPace v)
 
   same : (b : Bool) → b ≡ false → openOf (s .end) ≡ openOf (s .end) + s .end .receiving .window .size * count b
@@ -123,16 +115,10 @@ module _ (s : Station) where
   unpaced : (q : ℕ) (b : Bool) → eqb q 0 ≡ false → openOf (s .end) ≡ openOf (s .end) + s .end .receiving .window .size * count (eqb q 0 && b)
   unpaced q b n = same (eqb q 0 && b) (ap (λ (x : Bool). x && b) n)
 
-  opens-closing : (v : Verb) → isPace v ≡ false → (f : Follows) (b : Bool) → Opens v (makes s (close f b (s .end) (s .send) (s .unit)))
-  unfolding lastMade requestMade
-  opens-closing v e f b = close-cases (Opens v) s f b (λ q n. no-rise q (isPace v) e) (λ a n. no-rise 0 (isPace v) e) (λ a n k. no-rise 0 (isPace v) e)
-
   pace-opens : (v : Verb) → Opens v (acts s v)
-  unfolding acts bidMade bytesKept bytesSpilled requestMade bytesRead markRead
+  unfolding acts bidMade bytesKept bytesSpilled lastMade requestMade bytesRead markRead
   pace-opens Verb.allocate =
       allocate-cases (Opens Verb.allocate) s (λ q n. no-rise q false refl) (λ g a w. no-rise 0 false refl) (λ g a w k. no-rise 0 false refl)
-  pace-opens Verb.flush = opens-closing Verb.flush refl Stay false
-  pace-opens Verb.confirm = opens-closing Verb.confirm refl Stay true
   pace-opens Verb.confirmed = confirmed-cases (Opens Verb.confirmed) s (λ q n. no-rise q false refl) (λ g a. no-rise 0 false refl)
   pace-opens Verb.pace =
       pace-cases (Opens Verb.pace) s (λ q n. unpaced q true n)
@@ -141,8 +127,8 @@ module _ (s : Station) where
       response-raises w (left (w .pending) _ a) ∙ (let z : credit w + w .size ≡ credit w + w .size * 1 = omega arith in z))
   pace-opens (Verb.sendData bytes) =
       send-cases (Opens (Verb.sendData bytes)) s bytes (λ q n. no-rise q false refl) (λ a k. no-rise 0 false refl) (λ a k h. no-rise 0 false refl)
-  pace-opens (Verb.prepareToReceive b) = opens-closing (Verb.prepareToReceive b) refl ChangeDirection b
-  pace-opens (Verb.deallocate b) = opens-closing (Verb.deallocate b) refl EndBracket b
+  pace-opens (Verb.close f b) =
+      close-cases (Opens (Verb.close f b)) s f b (λ q n. no-rise q false refl) (λ a n. no-rise 0 false refl) (λ a n k. no-rise 0 false refl)
   pace-opens (Verb.receive buffer) =
       read-cases (Opens (Verb.receive buffer)) s buffer (λ q w n. no-rise q false refl) (λ a h. no-rise 0 false refl) (λ a h m. no-rise 0 false refl)
 
@@ -150,10 +136,10 @@ module _ (s : Station) where
 
 module _ (naming : List ℕ → ℕ) (s : Station) (u : List ℕ) where
   -- what a take gives and costs, by whether the unit is a pacing response and whether it is a request
-  abbrev Raises : Bool → Took Station Reply (List ℕ) → Type 0
+  abbrev Raises : Bool → Took Lane Station Reply (List ℕ) → Type 0
   Raises b t = creditOf (t .end .end) ≡ creditOf (s .end) + s .end .sending .window .size * count (eqb (refusalIn (t .answer)) 0 && b)
 
-  abbrev Lowers : Bool → Took Station Reply (List ℕ) → Type 0
+  abbrev Lowers : Bool → Took Lane Station Reply (List ℕ) → Type 0
   Lowers b t = openOf (t .end .end) + count (eqb (refusalIn (t .answer)) 0 && b) ≡ openOf (s .end)
 
   as-was : (c z : ℕ) → c ≡ c + z * 0
@@ -193,7 +179,7 @@ module _ (naming : List ℕ → ℕ) (s : Station) (u : List ℕ) where
   refused-count : (q : ℕ) (b : Bool) → eqb q 0 ≡ false → count (eqb q 0 && b) ≡ 0
   refused-count q b n = ap (λ (x : Bool). count (x && b)) n
 
-  response-raises-window : Raises (isPacingResponse u) (takes naming s u)
+  response-raises-window : Raises (isPacingResponse u) (takes naming normal s u)
   response-raises-window =
       take-cases (Raises (isPacingResponse u)) naming s u
       (λ q w n.
@@ -202,7 +188,7 @@ module _ (naming : List ℕ → ℕ) (s : Station) (u : List ℕ) where
       (λ a k.
       rw (pacing-taken u (a .header)) (kind-raises (headerTaken u) (numberIn u) (ruTaken u) k))
 
-  request-lowers-one : Lowers (isRequest u) (takes naming s u)
+  request-lowers-one : Lowers (isRequest u) (takes naming normal s u)
   request-lowers-one =
       take-cases (Lowers (isRequest u)) naming s u
       (λ q w n. ap (λ (k : ℕ). openOf (s .end) + k) (refused-count q (isRequest u) n) ∙ unmoved (openOf (s .end)))

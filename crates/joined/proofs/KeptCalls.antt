@@ -12,7 +12,6 @@ use Rattle.header.specs.Header.{beginsBracket}
 use Rattle.unit.specs.Ru.{marks, ruGood}
 use Rattle.unit.specs.Unit.{RU-START, numberIn}
 use Rattle.header.specs.declared.Follows.{Follows}
-use Rattle.header.specs.declared.Follows.the-variants.{Stay, ChangeDirection, EndBracket}
 use Rattle.header.specs.declared.DataHeader.{DataHeader}
 use Rattle.header.specs.declared.Header.{Header}
 use Rattle.header.specs.declared.Header.the-variants.{Data, Bid, PositiveBidResponse, NegativeBidResponse, Confirmation, PacingResponse}
@@ -35,14 +34,14 @@ use Rattle.session.specs.Opening.{freshEnd, zeroEnd, opened}
 use Rattle.end.specs.Outcome.{withControl, withReceiving}
 use Rattle.end.specs.Allocate.{bidMade}
 use Rattle.end.specs.SendData.{given, gone, bytesKept, bytesSpilled}
-use Rattle.end.specs.Close.{lastMade, close}
+use Rattle.end.specs.Close.{lastMade}
 use Rattle.end.specs.ReceiveUnit.{kindQuestions, headerTaken, ruTaken, dataJoined, bidAnswered, creditRaised}
 use Rattle.end.specs.Receive.{bytesRead}
 use Rattle.sides.specs.Receiving.{windowAnswered}
 use Rattle.sides.specs.declared.Session.{Session}
 use Rattle.end.specs.declared.Done.{Done}
 use Rattle.joined.specs.Joined.{Acted, Took}
-use Rattle.joined.specs.Ends.{Station, Verb, Reply, makes, acts, takes}
+use Rattle.joined.specs.Ends.{Lane, normal, Station, Verb, Reply, acts, takes}
 use Rattle.joined.specs.SingleCalls.{AllBytes, BytesOf}
 use Rattle.joined.proofs.Rows.{left, right, all-yes}
 use Rattle.joined.proofs.Good.{both, control-good}
@@ -62,7 +61,7 @@ some-held c n h w = rw (le-leb 1 n h, ne-eqb n 0 (λ z. omega arith)) w
 -- ---- calls that the end answers by itself
 
 module _ (s : Station) (g : recordGood (s .end) ≡ true) where
-  abbrev After : Acted Station Reply (List ℕ) → Type 0
+  abbrev After : Acted Lane Station Reply (List ℕ) → Type 0
   After m = recordGood (m .end .end) ≡ true
 
   -- another finite part, and all else as it was
@@ -81,7 +80,7 @@ module _ (s : Station) (g : recordGood (s .end) ≡ true) where
       good-from (bidMade e .end) (allocated-keeps (e .control) (leb 1 n) (eqb n 0) a (fits-of e g))
       (request-out (e .sending) n (e .sending .given) (o .most) (o .place) o) (in-of e g))
 
-  closes : (f : Follows) (b : Bool) → After (makes s (close f b (s .end) (s .send) (s .unit)))
+  closes : (f : Follows) (b : Bool) → After (acts s (Verb.close f b))
   unfolding lastMade requestMade
   closes f b =
       let e = s .end in
@@ -136,8 +135,6 @@ module _ (s : Station) (g : recordGood (s .end) ≡ true) where
   calls : (v : Verb) → BytesOf v → InboxBytes s → After (acts s v)
   unfolding acts
   calls Verb.allocate b i = allocates
-  calls Verb.flush b i = closes Stay false
-  calls Verb.confirm b i = closes Stay true
   calls Verb.confirmed b i =
       let e = s .end in
       let n = e .sending .held in
@@ -149,8 +146,7 @@ module _ (s : Station) (g : recordGood (s .end) ≡ true) where
       (λ x a.
       good-from (withReceiving (windowAnswered (e .receiving)) e) (fits-of e g) (out-of e g) (paced-in (e .receiving) a (in-of e g)))
   calls (Verb.sendData bytes) b i = gives bytes b
-  calls (Verb.prepareToReceive c) b i = closes ChangeDirection c
-  calls (Verb.deallocate c) b i = closes EndBracket c
+  calls (Verb.close f c) b i = closes f c
   calls (Verb.receive buffer) b i = reads buffer i
 
 -- every call leaves a good record
@@ -168,7 +164,7 @@ fits-not-sending ConfirmOwed b e = refl
 fits-not-sending ConfirmAwaited b e = refl
 
 module _ (s : Station) (g : recordGood (s .end) ≡ true) where
-  abbrev Left : Took Station Reply (List ℕ) → Type 0
+  abbrev Left : Took Lane Station Reply (List ℕ) → Type 0
   Left t = recordGood (t .end .end) ≡ true
 
   -- 22: the RU is at most M
@@ -188,7 +184,8 @@ module _ (s : Station) (g : recordGood (s .end) ≡ true) where
       let i = in-of e g in
       let most = ru-most d ru (t 0) in
       good-from (dataJoined e d n ru .end)
-      (data-keeps (d .ends) c (leb 1 (e .sending .held)) (eqb (e .sending .held) 0) (fits-not-sending (c .state) (beginsBracket (d .begins)) (t 5)) (fits-of e g))
+      (data-keeps (d .ends) c (leb 1 (e .sending .held)) (eqb (e .sending .held) 0)
+      (fits-not-sending (c .state) (beginsBracket (d .begins)) (t 5)) (fits-of e g))
       (out-of e g)
       (request-in r (r .held + length ru) _ (left (hasCredit (r .window)) (agree (d .pacing) (paced (r .window))) (t 1)) (omega arith)
       (place-good (r .taken) ru (i .taken) b) i)
@@ -209,7 +206,8 @@ module _ (s : Station) (g : recordGood (s .end) ≡ true) where
       let e = s .end in
       let t = all-yes (kindQuestions e NegativeBidResponse n ru) tt k in
       control-kept s g (refusalTaken (e .control))
-      (refusal-keeps (e .control) (leb 1 (e .sending .held)) (eqb (e .sending .held) 0) (left (refusalFits (e .control)) (eqb n (e .bidding)) (t 1)) (fits-of e g))
+      (refusal-keeps (e .control) (leb 1 (e .sending .held)) (eqb (e .sending .held) 0)
+      (left (refusalFits (e .control)) (eqb n (e .bidding)) (t 1)) (fits-of e g))
   kind-good Confirmation n ru b k =
       let e = s .end in
       let t = all-yes (kindQuestions e Confirmation n ru) tt k in
@@ -224,7 +222,7 @@ module _ (s : Station) (g : recordGood (s .end) ≡ true) where
 
 -- every take leaves a good record
 pub good-takes :
-    (naming : List ℕ → ℕ) (s : Station) (u : List ℕ) → AllBytes u → recordGood (s .end) ≡ true → recordGood (takes naming s u .end .end) ≡ true
+    (naming : List ℕ → ℕ) (s : Station) (u : List ℕ) → AllBytes u → recordGood (s .end) ≡ true → recordGood (takes naming normal s u .end .end) ≡ true
 good-takes naming s u b g =
     take-cases (Left s g) naming s u (λ q w x. g)
     (λ a k. kind-good s g (headerTaken u) (numberIn u) (ruTaken u) (drop-bytes RU-START u b) k)

@@ -21,8 +21,9 @@ use Rattle.control.specs.Tests.{isSend}
 use Rattle.control.specs.declared.WhatReceived.{WhatReceived}
 use Rattle.control.specs.declared.WhatReceived.the-variants as mark
 use Rattle.answers.specs.Answers.{accepted, readRefused, refusedNaming}
+use Rattle.joined.specs.Lanes.{Lines}
 use Rattle.joined.specs.Joined.{acted, took}
-use Rattle.joined.specs.Ends.{Station, Verb, Reply, plain, refusalIn}
+use Rattle.joined.specs.Ends.{Lane, normal, Station, Verb, Reply, plain, refusalIn, onNormal}
 use Rattle.joined.specs.Histories.{Log, given, bytesAccepted, bytesRead, bytesInInbox, count, requestsAmong, requestsMade, isPacingResponse, pacingResponsesTaken, isBreach, breaches, isBadRead, badReads, CompleteIsRight, NoneCrosses}
 
 -- The values of an end that its log speaks of.
@@ -71,7 +72,7 @@ abbrev pub reply : ℕ → WhatReceived → List ℕ → Reply
 reply k m buffer = record { answer = record { answer = accepted k; copied = 0; complete = false; mark = m }; buffer = buffer }
 
 pub local-act :
-    {v : Values} {xs : Log} (verb : Verb) (k : ℕ) (m : WhatReceived) (buffer : List ℕ) (us : List (List ℕ)) (w : Values)
+    {v : Values} {xs : Log} (verb : Verb) (k : ℕ) (m : WhatReceived) (buffer : List ℕ) (us : Lines Lane (List ℕ)) (w : Values)
     → Local v xs
     → walk (v .given) (given verb 0) ≡ At (w .given)
     → (w .sends ≡ false → isWhole (w .given) ≡ true)
@@ -79,7 +80,7 @@ pub local-act :
     → w .taken ≡ v .taken
     → w .inbox ≡ v .inbox
     → w .size ≡ v .size
-    → requestsAmong us + w .credit ≡ v .credit
+    → requestsAmong (us normal) + w .credit ≡ v .credit
     → isBadRead verb 0 ≡ false
     → Local w (acted verb (reply k m buffer) us ∷ xs)
 unfolding bytesAccepted bytesRead requestsMade pacingResponsesTaken CompleteIsRight NoneCrosses badReads breaches
@@ -91,7 +92,7 @@ local-act {v} {xs} verb k m buffer us w l g h r t i z c b =
       inbox =
           ap (λ (p : Position). walk p (w .inbox)) r ∙ ap (walk (v .read)) i ∙ l .inbox ∙ ap At (sym t);
       counted =
-          subst (λ (n : ℕ). requestsAmong us + requestsMade xs + w .credit ≡ n * (1 + pacingResponsesTaken xs)) (sym z)
+          subst (λ (n : ℕ). requestsAmong (us normal) + requestsMade xs + w .credit ≡ n * (1 + pacingResponsesTaken xs)) (sym z)
           (let q = l .counted in omega (arith, q, c));
       complete = (refl, l .complete);
       apart = (λ n some few. none-copied n few, l .apart);
@@ -103,16 +104,13 @@ local-act {v} {xs} verb k m buffer us w l g h r t i z c b =
 
 refused-gives : (verb : Verb) (q : ℕ) → eqb q 0 ≡ false → given verb q ≡ []
 refused-gives Verb.allocate q e = refl
-refused-gives Verb.flush q e = refl
-refused-gives Verb.confirm q e = refl
 refused-gives Verb.confirmed q e = refl
 refused-gives Verb.pace q e = refl
 refused-gives (Verb.sendData bytes) q e = ap (λ (b : Bool). cond b bytes []) e
-refused-gives (Verb.prepareToReceive b) q e = refl
-refused-gives (Verb.deallocate b) q e = refl
+refused-gives (Verb.close f b) q e = refl
 refused-gives (Verb.receive buffer) q e = refl
 
-pub refused-accepts : (verb : Verb) (q : ℕ) (buffer : List ℕ) (us : List (List ℕ)) (xs : Log) → eqb q 0 ≡ false
+pub refused-accepts : (verb : Verb) (q : ℕ) (buffer : List ℕ) (us : Lines Lane (List ℕ)) (xs : Log) → eqb q 0 ≡ false
     → bytesAccepted (acted verb (record { answer = readRefused q; buffer = buffer }) us ∷ xs) ≡ bytesAccepted xs
 unfolding bytesAccepted
 refused-accepts verb q buffer us xs e = ap (λ (bs : List ℕ). bytesAccepted xs ++ bs) (refused-gives verb q e) ∙ append-nil (bytesAccepted xs)
@@ -122,11 +120,11 @@ pub local-refused :
     → eqb q 0 ≡ false
     → isBadRead verb q ≡ false
     → Local v xs
-    → Local v (acted verb (record { answer = readRefused q; buffer = buffer }) [] ∷ xs)
+    → Local v (acted verb (record { answer = readRefused q; buffer = buffer }) (onNormal []) ∷ xs)
 unfolding bytesRead requestsAmong requestsMade pacingResponsesTaken CompleteIsRight NoneCrosses badReads breaches
 local-refused {v} {xs} verb q buffer e b l =
     record {
-      given = ap (walk start) (refused-accepts verb q buffer [] xs e) ∙ l .given;
+      given = ap (walk start) (refused-accepts verb q buffer (onNormal []) xs e) ∙ l .given;
       whole = l .whole;
       read = ap (walk start) (append-nil (bytesRead xs)) ∙ l .read;
       inbox = l .inbox;
@@ -155,7 +153,7 @@ pub local-read :
     → w .credit ≡ v .credit
     → Local w
     (acted (Verb.receive asked)
-    (record { answer = record { answer = accepted 0; copied = k; complete = isBetween (w .read); mark = mark.Nothing }; buffer = buffer }) [] ∷ xs)
+    (record { answer = record { answer = accepted 0; copied = k; complete = isBetween (w .read); mark = mark.Nothing }; buffer = buffer }) (onNormal []) ∷ xs)
 unfolding bytesAccepted bytesRead requestsAmong requestsMade pacingResponsesTaken CompleteIsRight NoneCrosses badReads breaches
 local-read {v} {xs} asked k first rest buffer w l some f i r within b d g t z c =
     let read′ : walk start (bytesRead xs ++ take k buffer) ≡ At (w .read) =
@@ -187,7 +185,7 @@ local-read {v} {xs} asked k first rest buffer w l some f i r within b d g t z c 
 -- ---- takes
 
 pub local-took :
-    {v : Values} {xs : Log} (u : List ℕ) (k : ℕ) (us : List (List ℕ)) (b : Bool) (w : Values)
+    {v : Values} {xs : Log} (lane : Lane) (u : List ℕ) (k : ℕ) (us : Lines Lane (List ℕ)) (b : Bool) (w : Values)
     → Local v xs
     → isPacingResponse u ≡ b
     → w .given ≡ v .given
@@ -195,19 +193,19 @@ pub local-took :
     → w .read ≡ v .read
     → walk (w .read) (w .inbox) ≡ At (w .taken)
     → w .size ≡ v .size
-    → requestsAmong us + w .credit ≡ v .credit + v .size * count b
-    → Local w (took u (plain (accepted k)) us ∷ xs)
+    → requestsAmong (us normal) + w .credit ≡ v .credit + v .size * count b
+    → Local w (took lane u (plain (accepted k)) us ∷ xs)
 unfolding bytesAccepted bytesRead requestsMade pacingResponsesTaken CompleteIsRight NoneCrosses badReads breaches
-local-took {v} {xs} u k us b w l p g h r i z c =
+local-took {v} {xs} lane u k us b w l p g h r i z c =
     record {
       given = l .given ∙ ap At (sym g);
       whole = h;
       read = l .read ∙ ap At (sym r);
       inbox = i;
       counted =
-          subst (λ (n : ℕ). requestsAmong us + requestsMade xs + w .credit ≡ n * (1 + (count (isPacingResponse u) + pacingResponsesTaken xs))) (sym z)
-          (subst (λ (x : Bool). requestsAmong us + requestsMade xs + w .credit ≡ v .size * (1 + (count x + pacingResponsesTaken xs))) (sym p)
-          (counts b (requestsAmong us) (requestsMade xs) (w .credit) (v .credit) (v .size) (pacingResponsesTaken xs) (l .counted) c));
+          subst (λ (n : ℕ). requestsAmong (us normal) + requestsMade xs + w .credit ≡ n * (1 + (count (isPacingResponse u) + pacingResponsesTaken xs))) (sym z)
+          (subst (λ (x : Bool). requestsAmong (us normal) + requestsMade xs + w .credit ≡ v .size * (1 + (count x + pacingResponsesTaken xs))) (sym p)
+          (counts b (requestsAmong (us normal)) (requestsMade xs) (w .credit) (v .credit) (v .size) (pacingResponsesTaken xs) (l .counted) c));
       complete = (refl, l .complete);
       apart = l .apart;
       never-8 = l .never-8;
@@ -219,13 +217,13 @@ local-took {v} {xs} u k us b w l p g h r i z c =
     counts false new old w v size n e f = omega (arith, e, f)
 
 pub local-take-refused :
-    {v : Values} {xs : Log} (u : List ℕ) (rule q : ℕ)
+    {v : Values} {xs : Log} (lane : Lane) (u : List ℕ) (rule q : ℕ)
     → eqb q 0 ≡ false
     → isBreach q ≡ false
     → Local v xs
-    → Local v (took u (plain (refusedNaming rule q)) [] ∷ xs)
+    → Local v (took lane u (plain (refusedNaming rule q)) (onNormal []) ∷ xs)
 unfolding bytesAccepted bytesRead requestsAmong requestsMade pacingResponsesTaken CompleteIsRight NoneCrosses badReads breaches
-local-take-refused {v} {xs} u rule q e b l =
+local-take-refused {v} {xs} lane u rule q e b l =
     record {
       given = l .given;
       whole = l .whole;

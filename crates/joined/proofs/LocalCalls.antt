@@ -8,7 +8,7 @@ use native.Mathlib.Nat.{le-min, le-trans, min-le-right}
 use native.Mathlib.Omega.{arith}
 use borrow.Author.Tests.{eqb-true, leb-true}
 use lib.Dec.{eqb, leb}
-use lib.ListN.{length, take, drop, getD}
+use lib.ListN.{length, take, drop}
 use lib.Seq.{length-take-le, take-take}
 use Rattle.cells.specs.Cells.{front, written}
 use Rattle.logical_record.specs.Positions.{start, isWhole, isBetween}
@@ -43,7 +43,7 @@ use Rattle.control.specs.declared.State.the-variants.{Reset, Send, Receive, Con
 use Rattle.control.specs.declared.WhatReceived.the-variants as mark
 use Rattle.answers.specs.Questions.{firstNo}
 use Rattle.end.specs.Record.{recordGood, inboxLent}
-use Rattle.answers.specs.Answers.{senses}
+use Rattle.answers.specs.Answers.{readRefused}
 use Rattle.sides.specs.Shared.{nextNumber}
 use Rattle.sides.specs.Sending.{requestMade}
 use Rattle.sides.specs.Receiving.{requestTaken}
@@ -51,14 +51,14 @@ use Rattle.end.specs.Requests.{dataHeader}
 use Rattle.end.specs.Allocate.{bidMade}
 use Rattle.logical_record.specs.Walk.{placeOr}
 use Rattle.end.specs.SendData.{heldBytes, bytesKept, bytesSpilled}
-use Rattle.end.specs.Close.{nothingGoes, lastMade, close}
+use Rattle.end.specs.Close.{nothingGoes, lastMade}
 use Rattle.end.specs.ReceiveUnit.{kindQuestions, headerTaken, ruTaken, dataJoined, bidAnswered, creditRaised, takeRefusal}
 use Rattle.sides.specs.Receiving.{recordsFit}
 use Rattle.end.specs.Receive.{inboxBytes, recordRest, someHeld, readRefusal, copyCount, bytesRead, markRead}
 use Rattle.reading.specs.Reading.{restGood, restBytes}
 use Rattle.end.specs.declared.End.{End}
 use Rattle.joined.specs.Joined.{Acted, Took, acted, took}
-use Rattle.joined.specs.Ends.{Station, Verb, Reply, makes, acts, takes}
+use Rattle.joined.specs.Ends.{Lane, normal, Station, Verb, Reply, onNormal, acts, takes}
 use Rattle.joined.specs.Histories.{Log, isBreach, bytesInInbox, requestsAmong, count, isPacingResponse}
 use Rattle.joined.specs.Histories as H
 use Rattle.joined.proofs.Rows.{left, right, all-yes}
@@ -113,18 +113,20 @@ marked-not-send e g n =
 -- ---- calls that the end answers by itself
 
 module _ (s : Station) (xs : Log) (l : Local (valuesOf s) xs) where
-  abbrev After : Verb → Acted Station Reply (List ℕ) → Type 0
+  abbrev After : Verb → Acted Lane Station Reply (List ℕ) → Type 0
   After v m = Local (valuesOf (m .end)) (acted v (m .answer) (m .sent) ∷ xs)
 
   here : walk (s .end .sending .given) [] ≡ At (s .end .sending .given)
   unfolding thenWalk
   here = refl
 
-  refuses : (v : Verb) → ((q : ℕ) → H.isBadRead v q ≡ false) → (q : ℕ) → eqb q 0 ≡ false → Local (valuesOf s) (acted v (record { answer = record { answer = record { refusal = q; sense = getD senses q 0; rule = 0; unit = 0 }; copied = 0; complete = false; mark = mark.Nothing }; buffer = [] }) [] ∷ xs)
+  refuses : (v : Verb) → ((q : ℕ) → H.isBadRead v q ≡ false) → (q : ℕ) → eqb q 0 ≡ false
+      → Local (valuesOf s) (acted v (record { answer = readRefused q; buffer = [] }) (onNormal []) ∷ xs)
   refuses v b q n = local-refused v q [] n (b q) l
 
   -- the given place is whole unless the state after a last unit is Send
-  closed-whole : (f : Follows) (c : Bool) (p : Position) → not (marks (Last f c)) || isWhole p ≡ true → isSend (closed f c (s .end .control) .state) ≡ false → isWhole p ≡ true
+  closed-whole : (f : Follows) (c : Bool) (p : Position)
+      → not (marks (Last f c)) || isWhole p ≡ true → isSend (closed f c (s .end .control) .state) ≡ false → isWhole p ≡ true
   unfolding closed
   closed-whole Stay true p w n = w
   closed-whole Stay false p w n = absurd (never n)
@@ -133,19 +135,19 @@ module _ (s : Station) (xs : Log) (l : Local (valuesOf s) xs) where
   closed-whole EndBracket true p w n = w
   closed-whole EndBracket false p w n = w
 
-  closes : (v : Verb) → H.given v 0 ≡ [] → ((q : ℕ) → H.isBadRead v q ≡ false) → (f : Follows) (c : Bool) → After v (makes s (close f c (s .end) (s .send) (s .unit)))
+  closes : (f : Follows) (c : Bool) → After (Verb.close f c) (acts s (Verb.close f c))
   unfolding lastMade requestMade advanced
-  closes v z b f c =
-      let still : walk (s .end .sending .given) (H.given v 0) ≡ At (s .end .sending .given) = ap (walk (s .end .sending .given)) z ∙ here in
-      close-cases (After v) s f c (refuses v b)
-      (λ a n. local-act v 0 mark.Nothing [] [] (valuesOf s) l still (l .whole) refl refl refl refl (none-made (credit (s .end .sending .window))) (b 0))
+  closes f c =
+      let v = Verb.close f c in
+      close-cases (After v) s f c (refuses v (λ q. refl))
+      (λ a n. local-act v 0 mark.Nothing [] (onNormal []) (valuesOf s) l here (l .whole) refl refl refl refl
+      (none-made (credit (s .end .sending .window))) refl)
       (λ a n k.
       let h = dataHeader (s .end) (Last f c) in
       let ru = heldBytes (s .end) (s .send) in
       let u = unitOf (nextNumber (s .end .sending .number)) h ru in
-      local-act v (RU-START + length ru) mark.Nothing [] (u ∷ []) _ l still
-      (closed-whole f c (s .end .sending .given) (a .whole)) refl refl refl refl
-      (request-made s (nextNumber (s .end .sending .number)) h ru (data-asks s (Last f c)) (a .good) k) (b 0))
+      local-act v (RU-START + length ru) mark.Nothing [] (onNormal (u ∷ [])) _ l here (closed-whole f c (s .end .sending .given) (a .whole)) refl refl refl refl
+      (request-made s (nextNumber (s .end .sending .number)) h ru (data-asks s (Last f c)) (a .good) k) refl)
 
   speaking : isFirstSpeaker (s .end .control .role) ≡ true → isSend (allocated (s .end .control) .state) ≡ true
   unfolding allocated
@@ -237,7 +239,8 @@ module _ (s : Station) (xs : Log) (l : Local (valuesOf s) xs) where
       (at-place (s .end .receiving .read) (t .middle) (walk (s .end .receiving .read) (take k (s .inbox))) (t .first))
       (inside buffer a) (moved-left s k (inbox-holds s buffer a)) refl refl refl refl refl)
       (λ a h m.
-      local-act (Verb.receive buffer) 0 (s .end .control .mark) buffer [] _ l here (λ n. l .whole (marked-not-send (s .end) (a .good) m)) refl refl refl refl
+      local-act (Verb.receive buffer) 0 (s .end .control .mark) buffer (onNormal []) _ l here (λ n. l .whole (marked-not-send (s .end) (a .good) m))
+      refl refl refl refl
       (none-made (credit (s .end .sending .window))) refl)
 
   pub local-acts : (v : Verb) → After v (acts s v)
@@ -245,39 +248,36 @@ module _ (s : Station) (xs : Log) (l : Local (valuesOf s) xs) where
   local-acts Verb.allocate =
       allocate-cases (After Verb.allocate) s (refuses Verb.allocate (λ q. refl))
       (λ g a w.
-      local-act Verb.allocate 0 mark.Nothing [] [] _ l here (λ n. absurd (never (sym (speaking w) ∙ n))) refl refl refl refl
+      local-act Verb.allocate 0 mark.Nothing [] (onNormal []) _ l here (λ n. absurd (never (sym (speaking w) ∙ n))) refl refl refl refl
       (none-made (credit (s .end .sending .window))) refl)
       (λ g a w k.
-      local-act Verb.allocate 10 mark.Nothing [] (unitOf (bidNumber (s .end)) (Bid (paced (s .end .sending .window))) bidRu ∷ []) _ l here
+      local-act Verb.allocate 10 mark.Nothing [] (onNormal (unitOf (bidNumber (s .end)) (Bid (paced (s .end .sending .window))) bidRu ∷ [])) _ l here
       (λ n. l .whole (reset-not-send (s .end .control .state) (left (isReset (s .end .control .state)) (not (s .end .control .bid)) a))) refl refl refl refl
       (request-made s (bidNumber (s .end)) (Bid (paced (s .end .sending .window))) bidRu refl g k) refl)
-  local-acts Verb.flush = closes Verb.flush refl (λ q. refl) Stay false
-  local-acts Verb.confirm = closes Verb.confirm refl (λ q. refl) Stay true
   local-acts Verb.confirmed =
       confirmed-cases (After Verb.confirmed) s (refuses Verb.confirmed (λ q. refl))
       (λ g a.
-      local-act Verb.confirmed 5 mark.Nothing [] (unitOf (s .end .owed) Confirmation [] ∷ []) _ l here
+      local-act Verb.confirmed 5 mark.Nothing [] (onNormal (unitOf (s .end .owed) Confirmation [] ∷ [])) _ l here
       (λ n. l .whole (owed-not-send (s .end .control .state) a)) refl refl refl refl
       (other-made (s .end .owed) (credit (s .end .sending .window)) Confirmation [] refl) refl)
   local-acts Verb.pace =
       pace-cases (After Verb.pace) s (refuses Verb.pace (λ q. refl))
       (λ g a.
-      local-act Verb.pace 5 mark.Nothing [] (unitOf 0 PacingResponse [] ∷ []) _ l here (l .whole) refl refl refl refl
+      local-act Verb.pace 5 mark.Nothing [] (onNormal (unitOf 0 PacingResponse [] ∷ [])) _ l here (l .whole) refl refl refl refl
       (other-made 0 (credit (s .end .sending .window)) PacingResponse [] refl) refl)
   local-acts (Verb.sendData bytes) =
       let g = s .end .sending .given in
       send-cases (After (Verb.sendData bytes)) s bytes (refuses (Verb.sendData bytes) (λ q. refl))
       (λ a k.
-      local-act (Verb.sendData bytes) 0 mark.Nothing [] [] _ l (at-place g (a .place) (walk g bytes) (a .walked))
+      local-act (Verb.sendData bytes) 0 mark.Nothing [] (onNormal []) _ l (at-place g (a .place) (walk g bytes) (a .walked))
       (λ n. absurd (never (sym (a .sending) ∙ n))) refl refl refl refl (none-made (credit (s .end .sending .window))) refl)
       (λ a k h.
       let hd = dataHeader (s .end) Continues in
       local-act (Verb.sendData bytes) (RU-START + length (spilledRu s bytes)) mark.Nothing []
-      (unitOf (nextNumber (s .end .sending .number)) hd (spilledRu s bytes) ∷ []) _ l
+      (onNormal (unitOf (nextNumber (s .end .sending .number)) hd (spilledRu s bytes) ∷ [])) _ l
       (at-place g (a .place) (walk g bytes) (a .walked)) (λ n. absurd (never (sym (a .sending) ∙ n))) refl refl refl refl
       (request-made s (nextNumber (s .end .sending .number)) hd (spilledRu s bytes) (data-asks s Continues) (a .good) h) refl)
-  local-acts (Verb.prepareToReceive b) = closes (Verb.prepareToReceive b) refl (λ q. refl) ChangeDirection b
-  local-acts (Verb.deallocate b) = closes (Verb.deallocate b) refl (λ q. refl) EndBracket b
+  local-acts (Verb.close f c) = closes f c
   local-acts (Verb.receive buffer) = reads buffer
 
 -- ---- takes
@@ -295,8 +295,8 @@ bid-state c n = by (isReset (c .state)) refl n
     by false e m = m
 
 module _ (s : Station) (xs : Log) (u : List ℕ) (l : Local (valuesOf s) xs) where
-  abbrev Left : Took Station Reply (List ℕ) → Type 0
-  Left t = Local (valuesOf (t .end)) (took u (t .answer) (t .sent) ∷ xs)
+  abbrev Left : Took Lane Station Reply (List ℕ) → Type 0
+  Left t = Local (valuesOf (t .end)) (took normal u (t .answer) (t .sent) ∷ xs)
 
   not-paced : (h : Header) → headerTaken u ≡ h → TakeAsked s u → isPacingResponse u ≡ isPacing h
   not-paced h e a = pacing-taken u (a .header) ∙ ap isPacing e
@@ -311,8 +311,9 @@ module _ (s : Station) (xs : Log) (u : List ℕ) (l : Local (valuesOf s) xs) whe
       let t = all-yes (kindQuestions (s .end) (Data d) n (ruTaken u)) tt k in
       let ru = ruTaken u in
       let p = s .end .receiving .taken in
-      let room : s .end .receiving .held ≤ length (s .inbox) = subst (λ (m : ℕ). s .end .receiving .held ≤ m) (sym (a .inbox)) (inbox-most (s .end) (a .good)) in
-      local-took u 0 [] false _ l (not-paced (Data d) e a) refl
+      let room : s .end .receiving .held ≤ length (s .inbox) =
+      subst (λ (m : ℕ). s .end .receiving .held ≤ m) (sym (a .inbox)) (inbox-most (s .end) (a .good)) in
+      local-took normal u 0 (onNormal []) false _ l (not-paced (Data d) e a) refl
       (λ m. l .whole (fits-not-send (s .end .control .state) _ (t 5))) refl
       (ap (walk (s .end .receiving .read)) (held-more (s .end .receiving .held) ru (s .inbox) room)
       ∙ walk-append (s .end .receiving .read) (bytesInInbox s) ru ∙ ap (λ (w : Walked). thenWalk w ru) (l .inbox)
@@ -321,28 +322,29 @@ module _ (s : Station) (xs : Log) (u : List ℕ) (l : Local (valuesOf s) xs) whe
   kind-local (Bid p) n e a k =
       let h = bidAnswer (s .end .control) in
       let c = credit (s .end .sending .window) in
-      local-took u (RU-START + length (fixedRu h)) (unitOf n h (fixedRu h) ∷ []) false _ l (not-paced (Bid p) e a) refl
+      local-took normal u (RU-START + length (fixedRu h)) (onNormal (unitOf n h (fixedRu h) ∷ [])) false _ l (not-paced (Bid p) e a) refl
       (λ m. l .whole (bid-state (s .end .control) m)) refl (l .inbox) refl
       (other-made n c h (fixedRu h) (answer-asks (s .end .control)) ∙ (let y : c ≡ c + s .end .sending .window .size * 0 = omega arith in y))
   kind-local PositiveBidResponse n e a k =
-      local-took u 0 [] false _ l (not-paced PositiveBidResponse e a) refl (λ m. absurd (never m)) refl (l .inbox) refl
+      local-took normal u 0 (onNormal []) false _ l (not-paced PositiveBidResponse e a) refl (λ m. absurd (never m)) refl (l .inbox) refl
       (no-rise (credit (s .end .sending .window)) (s .end .sending .window .size))
   kind-local NegativeBidResponse n e a k =
-      local-took u 0 [] false _ l (not-paced NegativeBidResponse e a) refl (l .whole) refl (l .inbox) refl
+      local-took normal u 0 (onNormal []) false _ l (not-paced NegativeBidResponse e a) refl (l .whole) refl (l .inbox) refl
       (no-rise (credit (s .end .sending .window)) (s .end .sending .window .size))
   kind-local Confirmation n e a k =
       let t = all-yes (kindQuestions (s .end) Confirmation n (ruTaken u)) tt k in
-      local-took u 0 [] false _ l (not-paced Confirmation e a) refl
-      (λ m. l .whole (awaited-not-send (s .end .control .state) (left (confirmationFits (s .end .control)) (eqb n (s .end .sending .number)) (t 1)))) refl (l .inbox) refl
+      local-took normal u 0 (onNormal []) false _ l (not-paced Confirmation e a) refl
+      (λ m. l .whole (awaited-not-send (s .end .control .state) (left (confirmationFits (s .end .control)) (eqb n (s .end .sending .number)) (t 1))))
+      refl (l .inbox) refl
       (no-rise (credit (s .end .sending .window)) (s .end .sending .window .size))
   kind-local PacingResponse n e a k =
       let t = all-yes (kindQuestions (s .end) PacingResponse n (ruTaken u)) tt k in
       let w = s .end .sending .window in
-      local-took u 0 [] true _ l (not-paced PacingResponse e a) refl (l .whole) refl (l .inbox) refl
+      local-took normal u 0 (onNormal []) true _ l (not-paced PacingResponse e a) refl (l .whole) refl (l .inbox) refl
       (none-made (credit (answered w)) ∙ response-raises w (t 1) ∙ (let y : credit w + w .size ≡ credit w + w .size * 1 = omega arith in y))
 
   pub local-takes : (naming : List ℕ → ℕ)
       → ((q : ℕ) → q ≡ takeRefusal (s .end) u (length (s .inbox)) (length (s .unit)) → isBreach q ≡ false)
-      → Left (takes naming s u)
+      → Left (takes naming normal s u)
   local-takes naming nb =
-      take-cases Left naming s u (λ q w n. local-take-refused u (naming u) q n (nb q w) l) (λ a k. kind-local (headerTaken u) (numberIn u) refl a k)
+      take-cases Left naming s u (λ q w n. local-take-refused normal u (naming u) q n (nb q w) l) (λ a k. kind-local (headerTaken u) (numberIn u) refl a k)

@@ -2,60 +2,51 @@
 -- Assumes nothing.
 use Prim.Native.Nat.{ℕ}
 use mathlib.Core.Path.{_≡_, refl, sym, subst}
-use mathlib.Core.Bool.{Bool, true, false, cond}
+use mathlib.Core.Bool.{cond}
 use mathlib.Core.List.{List, [], _∷_, _++_, append-nil}
 use Rattle.unit.specs.Unit.{numberIn}
-use Rattle.header.specs.declared.Follows.{Follows}
-use Rattle.header.specs.declared.Follows.the-variants.{Stay, ChangeDirection, EndBracket}
 use Rattle.header.specs.declared.Header.{Header}
 use Rattle.header.specs.declared.Header.the-variants.{Data, Bid, PositiveBidResponse, NegativeBidResponse, Confirmation, PacingResponse}
 use Rattle.pacing.specs.Pacing.{paced}
 use Rattle.control.specs.declared.Role.{Role}
 use Rattle.end.specs.SendData.{heldBytes}
-use Rattle.end.specs.Close.{close}
 use Rattle.sides.specs.Receiving.{windowAnswered}
 use Rattle.end.specs.ReceiveUnit.{headerTaken, ruTaken}
 use Rattle.end.specs.declared.End.{End}
 use Rattle.joined.specs.Joined.{Acted, Took}
-use Rattle.joined.specs.Ends.{Station, Verb, Reply, makes, acts, takes}
+use Rattle.joined.specs.Ends.{Lane, normal, Station, Verb, Reply, acts, takes}
 use Rattle.joined.proofs.Acts.{allocate-cases, send-cases, close-cases, confirmed-cases, pace-cases, read-cases, take-cases, TakeAsked, tookKind, spilledRu, readCount}
 use Rattle.joined.proofs.Order.{Order, order-receiving, order-kept, order-read, order-mark, order-paced, order-spoke, order-bid, order-spilled, order-last, order-confirmed, order-took-data, order-took-bid, order-took-grant, order-took-refusal, order-took-confirmation, order-took-pacing}
 
 module _ (r : Role) (s : Station) (f : End) (line back : List (List ℕ)) (i : Order r (s .end) f line back) where
   -- what an act leaves
-  abbrev After : Acted Station Reply (List ℕ) → Type 0
-  After m = Order r (m .end .end) f (line ++ m .sent) back
+  abbrev After : Acted Lane Station Reply (List ℕ) → Type 0
+  After m = Order r (m .end .end) f (line ++ m .sent normal) back
 
   quiet-line : {e : End} → Order r e f line back → Order r e f (line ++ []) back
   quiet-line {e} j = subst (λ (l : List (List ℕ)). Order r e f l back) (sym (append-nil line)) j
-
-  closes : (x : Follows) (c : Bool) → After (makes s (close x c (s .end) (s .send) (s .unit)))
-  closes x c =
-      close-cases After s x c (λ q n. quiet-line i) (λ a n. quiet-line i)
-      (λ a n k. order-last x c (s .send) (heldBytes (s .end) (s .send)) (a .good) (a .sending) i)
 
   pub order-acts : (v : Verb) → After (acts s v)
   unfolding acts
   order-acts Verb.allocate =
       allocate-cases After s (λ q n. quiet-line i) (λ g a w. quiet-line (order-spoke w a i))
       (λ g a w k. order-bid (paced (s .end .sending .window)) w a i)
-  order-acts Verb.flush = closes Stay false
-  order-acts Verb.confirm = closes Stay true
   order-acts Verb.confirmed = confirmed-cases After s (λ q n. quiet-line i) (λ g a. order-confirmed g a i)
   order-acts Verb.pace =
       pace-cases After s (λ q n. quiet-line i) (λ g a. order-receiving (windowAnswered (s .end .receiving)) (order-paced 0 [] i))
   order-acts (Verb.sendData bytes) =
       send-cases After s bytes (λ q n. quiet-line i) (λ a k. quiet-line (order-kept bytes i))
       (λ a k h. order-spilled bytes (s .send) (spilledRu s bytes) (a .good) (a .sending) i)
-  order-acts (Verb.prepareToReceive c) = closes ChangeDirection c
-  order-acts (Verb.deallocate c) = closes EndBracket c
+  order-acts (Verb.close x c) =
+      close-cases After s x c (λ q n. quiet-line i) (λ a n. quiet-line i)
+      (λ a n k. order-last x c (s .send) (heldBytes (s .end) (s .send)) (a .good) (a .sending) i)
   order-acts (Verb.receive buffer) =
       read-cases After s buffer (λ q w n. quiet-line i) (λ a h. quiet-line (order-read (readCount s buffer) (s .inbox) i))
       (λ a h m. quiet-line (order-mark (a .good) m i))
 
 module _ (r : Role) (s : Station) (f : End) (u : List ℕ) (line back : List (List ℕ)) (i : Order r (s .end) f line (u ∷ back)) where
-  abbrev Left : Took Station Reply (List ℕ) → Type 0
-  Left t = Order r (t .end .end) f (line ++ t .sent) (cond (t .removed) back (u ∷ back))
+  abbrev Left : Took Lane Station Reply (List ℕ) → Type 0
+  Left t = Order r (t .end .end) f (line ++ t .sent normal) (cond (t .removed) back (u ∷ back))
 
   nothing-sent : {e : End} {rest : List (List ℕ)} → Order r e f line rest → Order r e f (line ++ []) rest
   nothing-sent {e} {rest} j = subst (λ (l : List (List ℕ)). Order r e f l rest) (sym (append-nil line)) j
@@ -68,5 +59,5 @@ module _ (r : Role) (s : Station) (f : End) (u : List ℕ) (line back : List (Li
   took-kind Confirmation e a = nothing-sent (order-took-confirmation (a .good) e i)
   took-kind PacingResponse e a = nothing-sent (order-took-pacing e i)
 
-  pub order-takes : (naming : List ℕ → ℕ) → Left (takes naming s u)
+  pub order-takes : (naming : List ℕ → ℕ) → Left (takes naming normal s u)
   order-takes naming = take-cases Left naming s u (λ q w n. nothing-sent i) (λ a k. took-kind (headerTaken u) refl a)

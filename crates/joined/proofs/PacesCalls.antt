@@ -8,8 +8,6 @@ use lib.Dec.{eqb, leb}
 use lib.ListN.{length}
 use Rattle.unit.specs.Ru.{fixedRu, ruGood, bidRu}
 use Rattle.unit.specs.Unit.{unitOf, numberIn}
-use Rattle.header.specs.declared.Follows.{Follows}
-use Rattle.header.specs.declared.Follows.the-variants.{Stay, ChangeDirection, EndBracket}
 use Rattle.header.specs.declared.ChainEnd.{ChainEnd}
 use Rattle.header.specs.declared.ChainEnd.the-variants.{Continues, Last}
 use Rattle.header.specs.declared.Header.{Header}
@@ -26,14 +24,14 @@ use Rattle.sides.specs.Receiving.{requestTaken}
 use Rattle.end.specs.Requests.{dataHeader}
 use Rattle.end.specs.Allocate.{bidMade}
 use Rattle.end.specs.SendData.{heldBytes, bytesKept, bytesSpilled}
-use Rattle.end.specs.Close.{lastMade, close}
+use Rattle.end.specs.Close.{lastMade}
 use Rattle.sides.specs.Receiving.{pacingFits}
 use Rattle.end.specs.ReceiveUnit.{kindQuestions, headerTaken, ruTaken, dataJoined, bidAnswered, creditRaised}
 use Rattle.end.specs.Receive.{bytesRead}
 use Rattle.sides.specs.Receiving.{mayPace}
 use Rattle.end.specs.declared.End.{End}
 use Rattle.joined.specs.Joined.{Acted, Took}
-use Rattle.joined.specs.Ends.{Station, Verb, Reply, makes, acts, takes}
+use Rattle.joined.specs.Ends.{Lane, normal, Station, Verb, Reply, acts, takes}
 use Rattle.joined.proofs.Rows.{left, right, all-yes}
 use Rattle.joined.proofs.Good.{never}
 use Rattle.joined.proofs.Acts.{allocate-cases, bidNumber, send-cases, spilledRu, close-cases, confirmed-cases, pace-cases, read-cases, take-cases, TakeAsked, tookKind}
@@ -50,8 +48,8 @@ owedOf s = s .end .receiving .window .pending
 -- ---- as the sending end
 
 module _ (s : Station) (owed : Bool) (line back : List (List ℕ)) (p : Paces (unansweredOf s) owed line back) where
-  abbrev After : Acted Station Reply (List ℕ) → Type 0
-  After m = Paces (unansweredOf (m .end)) owed (line ++ m .sent) back
+  abbrev After : Acted Lane Station Reply (List ℕ) → Type 0
+  After m = Paces (unansweredOf (m .end)) owed (line ++ m .sent normal) back
 
   quiet-line : {b : Bool} → Paces b owed line back → Paces b owed (line ++ []) back
   quiet-line {b} j = subst (λ (l : List (List ℕ)). Paces b owed l back) (sym (append-nil line)) j
@@ -62,26 +60,19 @@ module _ (s : Station) (owed : Bool) (line back : List (List ℕ)) (p : Paces (u
   unfolding dataHeader
   data-out n ends ru k = paces-out n (dataHeader (s .end) ends) ru (no-flag-at-start (s .end .sending .window) k) p
 
-  closes : (f : Follows) (c : Bool) → After (makes s (close f c (s .end) (s .send) (s .unit)))
-  unfolding lastMade requestMade advanced
-  closes f c =
-      close-cases After s f c (λ q n. quiet-line p) (λ a n. quiet-line p)
-      (λ a n k. data-out (nextNumber (s .end .sending .number)) (Last f c) (heldBytes (s .end) (s .send)) k)
-
   pub paces-acts : (v : Verb) → After (acts s v)
-  unfolding acts bytesKept bytesSpilled bytesRead bidMade requestMade advanced
+  unfolding acts bytesKept bytesSpilled bytesRead bidMade lastMade requestMade advanced
   paces-acts Verb.allocate =
       allocate-cases After s (λ q n. quiet-line p) (λ g a w. quiet-line p)
       (λ g a w k. paces-out (bidNumber (s .end)) (Bid (paced (s .end .sending .window))) bidRu (no-flag-at-start (s .end .sending .window) k) p)
-  paces-acts Verb.flush = closes Stay false
-  paces-acts Verb.confirm = closes Stay true
   paces-acts Verb.confirmed = confirmed-cases After s (λ q n. quiet-line p) (λ g a. paces-response (s .end .owed) Confirmation [] refl p)
   paces-acts Verb.pace = pace-cases After s (λ q n. quiet-line p) (λ g a. paces-response 0 PacingResponse [] refl p)
   paces-acts (Verb.sendData bytes) =
       send-cases After s bytes (λ q n. quiet-line p) (λ a k. quiet-line p)
       (λ a k h. data-out (nextNumber (s .end .sending .number)) Continues (spilledRu s bytes) h)
-  paces-acts (Verb.prepareToReceive c) = closes ChangeDirection c
-  paces-acts (Verb.deallocate c) = closes EndBracket c
+  paces-acts (Verb.close f c) =
+      close-cases After s f c (λ q n. quiet-line p) (λ a n. quiet-line p)
+      (λ a n k. data-out (nextNumber (s .end .sending .number)) (Last f c) (heldBytes (s .end) (s .send)) k)
   paces-acts (Verb.receive buffer) = read-cases After s buffer (λ q w n. quiet-line p) (λ a h. quiet-line p) (λ a h m. quiet-line p)
 
 answers : (c : Control) → isResponse (bidAnswer c) ≡ true
@@ -100,8 +91,8 @@ answers-no-pacing c = by (isReset (c .state))
 
 -- a take at the sending end: a pacing response of the line back answers its request
 module _ (s : Station) (owed : Bool) (line back : List (List ℕ)) (u : List ℕ) (p : Paces (unansweredOf s) owed line (u ∷ back)) where
-  abbrev Left : Took Station Reply (List ℕ) → Type 0
-  Left t = Paces (unansweredOf (t .end)) owed (line ++ t .sent) (cond (t .removed) back (u ∷ back))
+  abbrev Left : Took Lane Station Reply (List ℕ) → Type 0
+  Left t = Paces (unansweredOf (t .end)) owed (line ++ t .sent normal) (cond (t .removed) back (u ∷ back))
 
   still : {b : Bool} {rest : List (List ℕ)} → Paces b owed line rest → Paces b owed (line ++ []) rest
   still {b} {rest} j = subst (λ (l : List (List ℕ)). Paces b owed l rest) (sym (append-nil line)) j
@@ -120,14 +111,14 @@ module _ (s : Station) (owed : Bool) (line back : List (List ℕ)) (u : List ℕ
   kind-out Confirmation n ru e = still (other Confirmation e refl)
   kind-out PacingResponse n ru e = still (paces-answered e p .1)
 
-  pub paces-takes : (naming : List ℕ → ℕ) → Left (takes naming s u)
+  pub paces-takes : (naming : List ℕ → ℕ) → Left (takes naming normal s u)
   paces-takes naming = take-cases Left naming s u (λ q w n. still p) (λ a k. kind-out (headerTaken u) (numberIn u) (ruTaken u) refl)
 
 -- ---- as the receiving end
 
 module _ (s : Station) (unanswered : Bool) (back line : List (List ℕ)) (p : Paces unanswered (owedOf s) back line) where
-  abbrev AfterIn : Acted Station Reply (List ℕ) → Type 0
-  AfterIn m = Paces unanswered (owedOf (m .end)) back (line ++ m .sent)
+  abbrev AfterIn : Acted Lane Station Reply (List ℕ) → Type 0
+  AfterIn m = Paces unanswered (owedOf (m .end)) back (line ++ m .sent normal)
 
   quiet-back : {b : Bool} → Paces unanswered b back line → Paces unanswered b back (line ++ [])
   quiet-back {b} j = subst (λ (l : List (List ℕ)). Paces unanswered b back l) (sym (append-nil line)) j
@@ -136,26 +127,19 @@ module _ (s : Station) (unanswered : Bool) (back line : List (List ℕ)) (p : Pa
   unfolding dataHeader
   data-no-pacing n ends ru = paces-back n (dataHeader (s .end) ends) ru refl p
 
-  closes-in : (f : Follows) (c : Bool) → AfterIn (makes s (close f c (s .end) (s .send) (s .unit)))
-  unfolding lastMade
-  closes-in f c =
-      close-cases AfterIn s f c (λ q n. quiet-back p) (λ a n. quiet-back p)
-      (λ a n k. data-no-pacing (nextNumber (s .end .sending .number)) (Last f c) (heldBytes (s .end) (s .send)))
-
   pub paces-in-acts : (v : Verb) → AfterIn (acts s v)
-  unfolding acts bytesKept bytesSpilled bytesRead bidMade answered
+  unfolding acts bytesKept bytesSpilled bytesRead bidMade lastMade answered
   paces-in-acts Verb.allocate =
       allocate-cases AfterIn s (λ q n. quiet-back p) (λ g a w. quiet-back p)
       (λ g a w k. paces-back (bidNumber (s .end)) (Bid (paced (s .end .sending .window))) bidRu refl p)
-  paces-in-acts Verb.flush = closes-in Stay false
-  paces-in-acts Verb.confirm = closes-in Stay true
   paces-in-acts Verb.confirmed = confirmed-cases AfterIn s (λ q n. quiet-back p) (λ g a. paces-back (s .end .owed) Confirmation [] refl p)
   paces-in-acts Verb.pace = pace-cases AfterIn s (λ q n. quiet-back p) (λ g a. paces-answer 0 [] (left (owedOf s) _ a) p)
   paces-in-acts (Verb.sendData bytes) =
       send-cases AfterIn s bytes (λ q n. quiet-back p) (λ a k. quiet-back p)
       (λ a k h. data-no-pacing (nextNumber (s .end .sending .number)) Continues (spilledRu s bytes))
-  paces-in-acts (Verb.prepareToReceive c) = closes-in ChangeDirection c
-  paces-in-acts (Verb.deallocate c) = closes-in EndBracket c
+  paces-in-acts (Verb.close f c) =
+      close-cases AfterIn s f c (λ q n. quiet-back p) (λ a n. quiet-back p)
+      (λ a n k. data-no-pacing (nextNumber (s .end .sending .number)) (Last f c) (heldBytes (s .end) (s .send)))
   paces-in-acts (Verb.receive buffer) = read-cases AfterIn s buffer (λ q w n. quiet-back p) (λ a h. quiet-back p) (λ a h m. quiet-back p)
 
 -- the bit of a request that was taken is that of the window place
@@ -165,8 +149,8 @@ agrees false true e = e
 agrees false false e = refl
 
 module _ (s : Station) (unanswered : Bool) (back line : List (List ℕ)) (u : List ℕ) (p : Paces unanswered (owedOf s) (u ∷ back) line) where
-  abbrev LeftIn : Took Station Reply (List ℕ) → Type 0
-  LeftIn t = Paces unanswered (owedOf (t .end)) (cond (t .removed) back (u ∷ back)) (line ++ t .sent)
+  abbrev LeftIn : Took Lane Station Reply (List ℕ) → Type 0
+  LeftIn t = Paces unanswered (owedOf (t .end)) (cond (t .removed) back (u ∷ back)) (line ++ t .sent normal)
 
   still-in : {b : Bool} {rest : List (List ℕ)} → Paces unanswered b rest line → Paces unanswered b rest (line ++ [])
   still-in {b} {rest} j = subst (λ (l : List (List ℕ)). Paces unanswered b rest l) (sym (append-nil line)) j
@@ -199,5 +183,5 @@ module _ (s : Station) (unanswered : Bool) (back line : List (List ℕ)) (u : Li
   kind-in Confirmation n ru e k = still-in (unflagged Confirmation e refl)
   kind-in PacingResponse n ru e k = still-in (unflagged PacingResponse e refl)
 
-  pub paces-in-takes : (naming : List ℕ → ℕ) → LeftIn (takes naming s u)
+  pub paces-in-takes : (naming : List ℕ → ℕ) → LeftIn (takes naming normal s u)
   paces-in-takes naming = take-cases LeftIn naming s u (λ q w n. still-in p) (λ a k. kind-in (headerTaken u) (numberIn u) (ruTaken u) refl k)

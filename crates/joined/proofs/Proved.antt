@@ -25,8 +25,9 @@ use Rattle.answers.specs.Answers.{accepted, refused}
 use Rattle.sides.specs.declared.Session.{Session}
 use Rattle.end.specs.declared.End.{End}
 use Rattle.end.specs.declared.Done.{Done}
+use Rattle.joined.specs.Lanes.{Lines}
 use Rattle.joined.specs.Joined.{At, Side, Both, run}
-use Rattle.joined.specs.Ends.{Station, Verb, Reply, Buffers, OpeningAccepted, JoinedOpenings, openedWith, openedBoth, acts, takes}
+use Rattle.joined.specs.Ends.{Lane, normal, sameLane, Station, Verb, Reply, Buffers, OpeningAccepted, JoinedOpenings, openedWith, openedBoth, acts, takes}
 use Rattle.joined.specs.Histories.{Log, bytesAccepted, bytesRead, bytesOnLine, bytesInInbox, bytesInSendBuffer, requestsMade, pacingResponsesTaken, breaches, badReads, CompleteIsRight, NoneCrosses}
 use Rattle.joined.specs.Claim.{Pair, JoinedEnd, after, BytesConserved, Joint, SameOutcome, Claim, RecordsArrive, ReadsRight, Records, TheRecords}
 use Rattle.joined.proofs.Confluence.{confluent}
@@ -60,6 +61,10 @@ record Inv (r : Role) (v w : ℕ) (e : Station) (xs : Log) (line back : List (Li
   size-e : sizeOf e ≡ v
   size-f : sizeOf f ≡ w
 
+-- the same of the lines: what it says is of the normal lane
+abbrev Held : Role → ℕ → ℕ → Fact Lane Station Verb Reply (List ℕ)
+Held r v w e xs line back f ys = Inv r v w e xs (line normal) (back normal) f ys
+
 flipped :
     {r : Role} {v w : ℕ} {e f : Station} {xs ys : Log} {line back : List (List ℕ)}
     → Inv r v w e xs line back f ys
@@ -87,52 +92,65 @@ both i = (i, flipped i)
 
 module _ (naming : List ℕ → ℕ) (r : Role) (v w : ℕ) where
   act-kept :
-      (e : Station) (xs : Log) (line back : List (List ℕ)) (f : Station) (ys : Log) (c : Verb)
-      → Inv r v w e xs line back f ys
-      → AfterAct acts (takes naming) (Inv r v w) (Inv (other r) w v) xs line back f ys c (acts e c)
+      (e : Station) (xs : Log) (line back : Lines Lane (List ℕ)) (f : Station) (ys : Log) (c : Verb)
+      → Held r v w e xs line back f ys
+      → AfterAct sameLane acts (takes naming) (Held r v w) (Held (other r) w v) xs line back f ys c (acts e c)
   act-kept e xs line back f ys c i =
+      let us = line normal in
+      let vs = back normal in
       both
       (record {
-        order = order-acts r e (f .end) line back (i .order) c;
-        out = stream-acts e (insideOf f) line (i .out) c;
-        into = stream-in-acts e (outsideOf f) back (i .into) c;
-        pace-out = paces-acts e (owedOf f) line back (i .pace-out) c;
-        pace-in = paces-in-acts e (unansweredOf f) back line (i .pace-in) c;
-        bytes-out = bytes-acts e xs line (bytesRead ys) (bytesInInbox f) (i .bytes-out) c;
-        bytes-in = bytes-in-acts e xs (bytesAccepted ys) (bytesInSendBuffer f) back (i .bytes-in) c;
+        order = order-acts r e (f .end) us vs (i .order) c;
+        out = stream-acts e (insideOf f) us (i .out) c;
+        into = stream-in-acts e (outsideOf f) vs (i .into) c;
+        pace-out = paces-acts e (owedOf f) us vs (i .pace-out) c;
+        pace-in = paces-in-acts e (unansweredOf f) vs us (i .pace-in) c;
+        bytes-out = bytes-acts e xs us (bytesRead ys) (bytesInInbox f) (i .bytes-out) c;
+        bytes-in = bytes-in-acts e xs (bytesAccepted ys) (bytesInSendBuffer f) vs (i .bytes-in) c;
         local-e = local-acts e xs (i .local-e) c;
         local-f = i .local-f;
         size-e = size-acts e c ∙ i .size-e;
         size-f = i .size-f;
       })
 
+  -- u waits on the normal lane, before vs; us wait for the other end
   take-kept :
-      (e : Station) (xs : Log) (line back : List (List ℕ)) (f : Station) (ys : Log) (u : List ℕ)
-      → Inv r v w e xs line (u ∷ back) f ys
-      → AfterTake acts (takes naming) (Inv r v w) (Inv (other r) w v) xs line back f ys u (takes naming e u)
-  take-kept e xs line back f ys u i =
+      (e : Station) (xs : Log) (line back : Lines Lane (List ℕ)) (f : Station) (ys : Log) (u : List ℕ) (vs : List (List ℕ))
+      → Inv r v w e xs (line normal) (u ∷ vs) f ys
+      → AfterTake sameLane acts (takes naming) (Held r v w) (Held (other r) w v) xs line back f ys normal u vs (takes naming normal e u)
+  take-kept e xs line back f ys u vs i =
+      let us = line normal in
       both
       (record {
-        order = order-takes r e (f .end) u line back (i .order) naming;
-        out = stream-takes e (insideOf f) line (i .out) naming u;
-        into = stream-in-takes e (outsideOf f) back naming u (i .into);
-        pace-out = paces-takes e (owedOf f) line back u (i .pace-out) naming;
-        pace-in = paces-in-takes e (unansweredOf f) back line u (i .pace-in) naming;
-        bytes-out = bytes-takes e xs line (bytesRead ys) (bytesInInbox f) (i .bytes-out) naming u;
-        bytes-in = bytes-in-takes e xs (bytesAccepted ys) (bytesInSendBuffer f) back u (i .bytes-in) naming;
+        order = order-takes r e (f .end) u us vs (i .order) naming;
+        out = stream-takes e (insideOf f) us (i .out) naming u;
+        into = stream-in-takes e (outsideOf f) vs naming u (i .into);
+        pace-out = paces-takes e (owedOf f) us vs u (i .pace-out) naming;
+        pace-in = paces-in-takes e (unansweredOf f) vs us u (i .pace-in) naming;
+        bytes-out = bytes-takes e xs us (bytesRead ys) (bytesInInbox f) (i .bytes-out) naming u;
+        bytes-in = bytes-in-takes e xs (bytesAccepted ys) (bytesInSendBuffer f) vs u (i .bytes-in) naming;
         local-e =
             local-takes e xs u (i .local-e) naming
-            (no-breach r e (f .end) (outsideOf f) (unansweredOf f) (owedOf f) u line back (i .order) (i .into) (i .pace-in) (i .pace-out));
+            (no-breach r e (f .end) (outsideOf f) (unansweredOf f) (owedOf f) u us vs (i .order) (i .into) (i .pace-in) (i .pace-out));
         local-f = i .local-f;
         size-e = size-takes e naming u ∙ i .size-e;
         size-f = i .size-f;
       })
 
-  keeps : Keeps acts (takes naming) (Inv r v w) (Inv (other r) w v)
+  -- a take, by its lane
+  lane-kept :
+      (e : Station) (xs : Log) (line back : Lines Lane (List ℕ)) (f : Station) (ys : Log) (l : Lane) (u : List ℕ) (us : List (List ℕ))
+      → back l ≡ u ∷ us
+      → Held r v w e xs line back f ys
+      → AfterTake sameLane acts (takes naming) (Held r v w) (Held (other r) w v) xs line back f ys l u us (takes naming l e u)
+  lane-kept e xs line back f ys normal u us p i =
+      take-kept e xs line back f ys u us (subst (λ (vs : List (List ℕ)). Inv r v w e xs (line normal) vs f ys) p i)
+
+  keeps : Keeps sameLane acts (takes naming) (Held r v w) (Held (other r) w v)
   keeps =
       record {
         act-keeps = λ e xs line back f ys c d h. act-kept e xs line back f ys c d;
-        take-keeps = λ e xs line back f ys u d h. take-kept e xs line back f ys u d;
+        take-keeps = λ e xs line back f ys l u us p d h. lane-kept e xs line back f ys l u us p d;
       }
 
 -- ---- openings
@@ -209,7 +227,7 @@ fresh-kept s t b c e f g h =
 -- ---- every list
 
 opened-kept : (naming : List ℕ → ℕ) (s t : Session) (b c : Buffers) → JoinedOpenings s t b c
-    → Ways acts (takes naming) (Inv FirstSpeaker (s .outwindow) (t .outwindow)) (Inv Bidder (t .outwindow) (s .outwindow)) (openedBoth s t b c)
+    → Ways sameLane acts (takes naming) (Held FirstSpeaker (s .outwindow) (t .outwindow)) (Held Bidder (t .outwindow) (s .outwindow)) (openedBoth s t b c)
 opened-kept naming s t b c j =
     let x = opened-as FirstSpeaker s b (ap roleOf (j .speaker)) (j .one) in
     let y = opened-as Bidder t c (ap roleOf (j .bidder)) (j .two) in
@@ -218,12 +236,13 @@ opened-kept naming s t b c j =
     (subst (λ (e : Station). Inv FirstSpeaker (s .outwindow) (t .outwindow) (station FirstSpeaker s b) [] [] [] e []) (sym y)
     (fresh-kept s t b c (j .window-out) (j .window-back) (j .max-out) (j .max-back))))
 
-every-list : (naming : List ℕ → ℕ) (s t : Session) (b c : Buffers) (l : List (At Verb)) → JoinedOpenings s t b c
+every-list : (naming : List ℕ → ℕ) (s t : Session) (b c : Buffers) (l : List (At Lane Verb)) → JoinedOpenings s t b c
     → (let p = after naming s t b c l in
-    Inv FirstSpeaker (s .outwindow) (t .outwindow) (p .one .end) (p .one .log) (p .two .waiting) (p .one .waiting) (p .two .end) (p .two .log))
+    Held FirstSpeaker (s .outwindow) (t .outwindow) (p .one .end) (p .one .log) (p .two .waiting) (p .one .waiting) (p .two .end) (p .two .log))
 every-list naming s t b c l j =
-    run-ways acts (takes naming) (Inv FirstSpeaker (s .outwindow) (t .outwindow)) (Inv Bidder (t .outwindow) (s .outwindow))
-    (keeps naming FirstSpeaker (s .outwindow) (t .outwindow)) (keeps naming Bidder (t .outwindow) (s .outwindow)) (openedBoth s t b c) l (opened-kept naming s t b c j) .0
+    run-ways sameLane acts (takes naming) (Held FirstSpeaker (s .outwindow) (t .outwindow)) (Held Bidder (t .outwindow) (s .outwindow))
+    (keeps naming FirstSpeaker (s .outwindow) (t .outwindow)) (keeps naming Bidder (t .outwindow) (s .outwindow)) (openedBoth s t b c) l
+    (opened-kept naming s t b c j) .0
 
 -- ---- the claim
 
@@ -238,7 +257,7 @@ counted-as : (requests credits size w n : ℕ) → size ≡ w → requests + cre
 counted-as requests credits size w n e h = h ∙ ap (λ (k : ℕ). k * (1 + n)) e
 
 joint-of : (s t : Session) (p : Pair)
-    → Inv FirstSpeaker (s .outwindow) (t .outwindow) (p .one .end) (p .one .log) (p .two .waiting) (p .one .waiting) (p .two .end) (p .two .log)
+    → Held FirstSpeaker (s .outwindow) (t .outwindow) (p .one .end) (p .one .log) (p .two .waiting) (p .one .waiting) (p .two .end) (p .two .log)
     → Joint s t p
 joint-of s t p i =
     record {
@@ -252,14 +271,16 @@ joint-of s t p i =
     }
 
 pub proved : Claim
-proved naming s t b c l j =
-    (joint-of s t (after naming s t b c l) (every-list naming s t b c l j), λ m f g h k. confluent acts (takes naming) (openedBoth s t b c) l m f g h k)
+proved naming s t b c l j = (
+  joint-of s t (after naming s t b c l) (every-list naming s t b c l j),
+  λ m f g h k. confluent sameLane acts (takes naming) (openedBoth s t b c) l m f g h k,
+)
 
 -- ---- the records
 
 arrive : (x y : JoinedEnd) → BytesConserved x y → RecordsArrive x y
 arrive x y e =
-    let rest = bytesInInbox (y .end) ++ (bytesOnLine (y .waiting) ++ bytesInSendBuffer (x .end)) in
+    let rest = bytesInInbox (y .end) ++ (bytesOnLine (y .waiting normal) ++ bytesInSendBuffer (x .end)) in
     let q = whole-records-append (bytesRead (y .log)) rest in
     record { still-to-come = _; first-are-read = ap wholeRecords e ∙ q }
 

@@ -9,8 +9,6 @@ use borrow.Author.Tests.{eqb-true}
 use lib.Dec.{eqb}
 use lib.ListN.{length}
 use Rattle.unit.specs.Unit.{numberIn}
-use Rattle.header.specs.declared.Follows.{Follows}
-use Rattle.header.specs.declared.Follows.the-variants.{Stay, ChangeDirection, EndBracket}
 use Rattle.header.specs.declared.Header.{Header}
 use Rattle.header.specs.declared.Header.the-variants.{Data, Bid, PositiveBidResponse, NegativeBidResponse, Confirmation, PacingResponse}
 use Rattle.control.specs.Tests.{isFirstSpeaker}
@@ -23,7 +21,7 @@ use Rattle.end.specs.Record.{recordGood}
 use Rattle.end.specs.Outcome.{nothing, lengthOut, Decision, accept, decided, answerOf, withControl}
 use Rattle.end.specs.Allocate.{allocateRefusal, bidMade, allocateDecision, allocate}
 use Rattle.end.specs.SendData.{sendRefusal, bytesKept, bytesSpilled, sendDecision, sendData}
-use Rattle.end.specs.Close.{nothingGoes, closeQuestions, closeRefusal, lastMade, closeDecision, close}
+use Rattle.end.specs.Close.{nothingGoes, closeRefusal, lastMade, closeDecision, close}
 use Rattle.end.specs.Confirmed.{confirmedRefusal, confirmedDecision, confirmed}
 use Rattle.end.specs.ReceiveUnit.{kindQuestions, headerTaken, ruTaken, takeRefusal, dataJoined, bidAnswered, creditRaised, kindTaken, takeDecision, receiveUnit}
 use Rattle.end.specs.Receive.{someHeld, readRefusal, bytesRead, markRead, readDecision, receive}
@@ -31,7 +29,7 @@ use Rattle.end.specs.Pace.{paceRefusal, paceDecision, pace}
 use Rattle.end.specs.declared.End.{End}
 use Rattle.end.specs.declared.ReadDone.{ReadDone}
 use Rattle.joined.specs.Joined.{Acted, Took}
-use Rattle.joined.specs.Ends.{Station, Verb, Reply, refusalIn, makes, acts, takes}
+use Rattle.joined.specs.Ends.{Lane, normal, Station, Verb, Reply, refusalIn, onNormal, acts, takes}
 use Rattle.joined.specs.SingleCalls.{questions, takeQuestions}
 use Rattle.joined.proofs.Cases.{cases}
 use Rattle.joined.proofs.Rows.{left, right}
@@ -66,25 +64,18 @@ both-accepted b x y e f = cases (λ (d : Decision). d .refusal ≡ 0) b (λ z. e
 decided-number : (q : ℕ) (e : End) (d : Decision) → d .refusal ≡ 0 → answerOf (decided q e d) .refusal ≡ q
 decided-number q e d z = number-of refused (λ n. refl) q e d z
 
-close-number : (s : Station) (f : Follows) (b : Bool)
-    → refusalIn (makes s (close f b (s .end) (s .send) (s .unit)) .answer) ≡ firstNo (closeQuestions (s .end) f b (length (s .send)) (length (s .unit)))
-unfolding close closeDecision closeRefusal lastMade
-close-number s f b = decided-number _ (s .end) _ (both-accepted (nothingGoes (s .end) f b) (accept (s .end) nothing) (lastMade (s .end) f b (s .send)) refl refl)
-
 pub number-is : (s : Station) (v : Verb) → refusalIn (acts s v .answer) ≡ firstNo (questions s v)
-unfolding acts allocate allocateDecision allocateRefusal bidMade sendData sendDecision sendRefusal bytesKept bytesSpilled confirmed confirmedDecision confirmedRefusal pace paceDecision paceRefusal receive readDecision readRefusal bytesRead markRead
+unfolding acts allocate allocateDecision allocateRefusal bidMade sendData sendDecision sendRefusal bytesKept bytesSpilled close closeDecision closeRefusal lastMade confirmed confirmedDecision confirmedRefusal pace paceDecision paceRefusal receive readDecision readRefusal bytesRead markRead
 number-is s Verb.allocate =
     decided-number _ (s .end) _
     (both-accepted (isFirstSpeaker (s .end .control .role)) (accept (withControl (allocated (s .end .control)) (s .end)) nothing) (bidMade (s .end)) refl refl)
-number-is s Verb.flush = close-number s Stay false
-number-is s Verb.confirm = close-number s Stay true
 number-is s Verb.confirmed = decided-number _ (s .end) _ refl
 number-is s Verb.pace = decided-number _ (s .end) _ refl
 number-is s (Verb.sendData bytes) =
     decided-number _ (s .end) _
     (both-accepted (keeps (s .end .sending) (length bytes)) (bytesKept (s .end) bytes) (bytesSpilled (s .end) bytes (s .send)) refl refl)
-number-is s (Verb.prepareToReceive b) = close-number s ChangeDirection b
-number-is s (Verb.deallocate b) = close-number s EndBracket b
+number-is s (Verb.close f b) =
+    decided-number _ (s .end) _ (both-accepted (nothingGoes (s .end) f b) (accept (s .end) nothing) (lastMade (s .end) f b (s .send)) refl refl)
 number-is s (Verb.receive buffer) =
     let q : ℕ = readRefusal (s .end) (s .inbox) (length buffer) in
     cases (λ (d : ReadDone). d .answer .answer .refusal ≡ q) (eqb q 0)
@@ -100,7 +91,7 @@ kind-accepted e NegativeBidResponse n ru = refl
 kind-accepted e Confirmation n ru = refl
 kind-accepted e PacingResponse n ru = refl
 
-pub take-number-is : (naming : List ℕ → ℕ) (s : Station) (u : List ℕ) → refusalIn (takes naming s u .answer) ≡ firstNo (takeQuestions s u)
+pub take-number-is : (naming : List ℕ → ℕ) (s : Station) (u : List ℕ) → refusalIn (takes naming normal s u .answer) ≡ firstNo (takeQuestions s u)
 unfolding takes receiveUnit takeDecision takeRefusal
 take-number-is naming s u =
     number-of (refusedNaming (naming u)) (λ q. refl) _ (s .end) _ (kind-accepted (s .end) (headerTaken u) (numberIn u) (ruTaken u))
@@ -126,13 +117,10 @@ not-first (q ∷ qs) k z p =
 module _ (s : Station) (g : recordGood (s .end) ≡ true) where
   asked-5 : (v : Verb) → passes 5 (questions s v) ≡ true
   asked-5 Verb.allocate = ap (λ (b : Bool). b && true) g
-  asked-5 Verb.flush = ap (λ (b : Bool). b && true) g
-  asked-5 Verb.confirm = ap (λ (b : Bool). b && true) g
   asked-5 Verb.confirmed = ap (λ (b : Bool). b && true) g
   asked-5 Verb.pace = ap (λ (b : Bool). b && true) g
   asked-5 (Verb.sendData bytes) = ap (λ (b : Bool). b && true) g
-  asked-5 (Verb.prepareToReceive b) = ap (λ (b : Bool). b && true) g
-  asked-5 (Verb.deallocate b) = ap (λ (b : Bool). b && true) g
+  asked-5 (Verb.close f b) = ap (λ (b : Bool). b && true) g
   asked-5 (Verb.receive buffer) = ap (λ (b : Bool). b && true) g
 
   pub never-5 : (v : Verb) → eqb (refusalIn (acts s v .answer)) 5 ≡ false
@@ -146,7 +134,7 @@ module _ (s : Station) (g : recordGood (s .end) ≡ true) where
   kind-5 Confirmation n ru = refl
   kind-5 PacingResponse n ru = refl
 
-  pub take-never-5 : (naming : List ℕ → ℕ) (u : List ℕ) → eqb (refusalIn (takes naming s u .answer)) 5 ≡ false
+  pub take-never-5 : (naming : List ℕ → ℕ) (u : List ℕ) → eqb (refusalIn (takes naming normal s u .answer)) 5 ≡ false
   take-never-5 naming u =
       ap (λ (q : ℕ). eqb q 5) (take-number-is naming s u)
       ∙ not-first (takeQuestions s u) 5 refl (both (recordGood (s .end)) _ g (kind-5 (headerTaken u) (numberIn u) (ruTaken u)))
@@ -155,22 +143,16 @@ module _ (s : Station) (g : recordGood (s .end) ≡ true) where
 
 module _ (s : Station) where
   -- neither the record nor a lent cell is changed, and no unit is made
-  abbrev Nothing : Acted Station Reply (List ℕ) → Type 0
-  Nothing m = eqb (refusalIn (m .answer)) 0 ≡ false → (m .end ≡ s) × (m .sent ≡ [])
+  abbrev Nothing : Acted Lane Station Reply (List ℕ) → Type 0
+  Nothing m = eqb (refusalIn (m .answer)) 0 ≡ false → (m .end ≡ s) × (m .sent ≡ onNormal [])
 
-  closes : (f : Follows) (b : Bool) → Nothing (makes s (close f b (s .end) (s .send) (s .unit)))
-  closes f b = close-cases Nothing s f b (λ q n h. (refl, refl)) (λ a n h. yes h) (λ a n k h. yes h)
-
-  pub refused-nothing : (v : Verb) → eqb (refusalIn (acts s v .answer)) 0 ≡ false → (acts s v .end ≡ s) × (acts s v .sent ≡ [])
+  pub refused-nothing : (v : Verb) → eqb (refusalIn (acts s v .answer)) 0 ≡ false → (acts s v .end ≡ s) × (acts s v .sent ≡ onNormal [])
   unfolding acts bytesRead markRead
   refused-nothing Verb.allocate = allocate-cases Nothing s (λ q n h. (refl, refl)) (λ g a w h. yes h) (λ g a w k h. yes h)
-  refused-nothing Verb.flush = closes Stay false
-  refused-nothing Verb.confirm = closes Stay true
   refused-nothing Verb.confirmed = confirmed-cases Nothing s (λ q n h. (refl, refl)) (λ g a h. yes h)
   refused-nothing Verb.pace = pace-cases Nothing s (λ q n h. (refl, refl)) (λ g a h. yes h)
   refused-nothing (Verb.sendData bytes) = send-cases Nothing s bytes (λ q n h. (refl, refl)) (λ a k h. yes h) (λ a k c h. yes h)
-  refused-nothing (Verb.prepareToReceive b) = closes ChangeDirection b
-  refused-nothing (Verb.deallocate b) = closes EndBracket b
+  refused-nothing (Verb.close f b) = close-cases Nothing s f b (λ q n h. (refl, refl)) (λ a n h. yes h) (λ a n k h. yes h)
   refused-nothing (Verb.receive buffer) = read-cases Nothing s buffer (λ q w n h. (refl, refl)) (λ a k h. yes h) (λ a k m h. yes h)
 
   -- a refused read leaves the caller's buffer as it was
@@ -178,32 +160,26 @@ module _ (s : Station) where
       → acts s (Verb.receive buffer) .answer .buffer ≡ buffer
   unfolding bytesRead markRead
   refused-buffer buffer =
-      read-cases (λ (m : Acted Station Reply (List ℕ)). eqb (refusalIn (m .answer)) 0 ≡ false → m .answer .buffer ≡ buffer) s buffer
+      read-cases (λ (m : Acted Lane Station Reply (List ℕ)). eqb (refusalIn (m .answer)) 0 ≡ false → m .answer .buffer ≡ buffer) s buffer
       (λ q w n h. refl) (λ a k h. yes h) (λ a k m h. yes h)
 
-  abbrev Asked : Acted Station Reply (List ℕ) → Type 0
+  abbrev Asked : Acted Lane Station Reply (List ℕ) → Type 0
   Asked m = eqb (refusalIn (m .answer)) 0 ≡ true → recordGood (s .end) ≡ true
-
-  closes-asked : (f : Follows) (b : Bool) → Asked (makes s (close f b (s .end) (s .send) (s .unit)))
-  closes-asked f b = close-cases Asked s f b (λ q n h. no (eqb q 0) n h) (λ a n h. a .good) (λ a n k h. a .good)
 
   pub accepted-good : (v : Verb) → eqb (refusalIn (acts s v .answer)) 0 ≡ true → recordGood (s .end) ≡ true
   unfolding acts bytesRead markRead
   accepted-good Verb.allocate = allocate-cases Asked s (λ q n h. no (eqb q 0) n h) (λ g a w h. g) (λ g a w k h. g)
-  accepted-good Verb.flush = closes-asked Stay false
-  accepted-good Verb.confirm = closes-asked Stay true
   accepted-good Verb.confirmed = confirmed-cases Asked s (λ q n h. no (eqb q 0) n h) (λ g a h. g)
   accepted-good Verb.pace = pace-cases Asked s (λ q n h. no (eqb q 0) n h) (λ g a h. g)
   accepted-good (Verb.sendData bytes) = send-cases Asked s bytes (λ q n h. no (eqb q 0) n h) (λ a k h. a .good) (λ a k c h. a .good)
-  accepted-good (Verb.prepareToReceive b) = closes-asked ChangeDirection b
-  accepted-good (Verb.deallocate b) = closes-asked EndBracket b
+  accepted-good (Verb.close f b) = close-cases Asked s f b (λ q n h. no (eqb q 0) n h) (λ a n h. a .good) (λ a n k h. a .good)
   accepted-good (Verb.receive buffer) = read-cases Asked s buffer (λ q w n h. no (eqb q 0) n h) (λ a k h. a .good) (λ a k m h. a .good)
 
 -- ---- takes
 
 module _ (naming : List ℕ → ℕ) (s : Station) (u : List ℕ) where
-  abbrev Untaken : Took Station Reply (List ℕ) → Type 0
-  Untaken t = eqb (refusalIn (t .answer)) 0 ≡ false → (t .end ≡ s) × (t .sent ≡ []) × (t .removed ≡ false)
+  abbrev Untaken : Took Lane Station Reply (List ℕ) → Type 0
+  Untaken t = eqb (refusalIn (t .answer)) 0 ≡ false → (t .end ≡ s) × (t .sent ≡ onNormal []) × (t .removed ≡ false)
 
   kind-untaken : (h : Header) (n : ℕ) (ru : List ℕ) → Untaken (tookKind s h n ru)
   kind-untaken (Data d) n ru h = yes h
@@ -214,12 +190,12 @@ module _ (naming : List ℕ → ℕ) (s : Station) (u : List ℕ) where
   kind-untaken PacingResponse n ru h = yes h
 
   -- a refused take changes nothing, makes no unit, and leaves the unit on its line
-  pub refused-take-nothing : eqb (refusalIn (takes naming s u .answer)) 0 ≡ false
-      → (takes naming s u .end ≡ s) × (takes naming s u .sent ≡ []) × (takes naming s u .removed ≡ false)
+  pub refused-take-nothing : eqb (refusalIn (takes naming normal s u .answer)) 0 ≡ false
+      → (takes naming normal s u .end ≡ s) × (takes naming normal s u .sent ≡ onNormal []) × (takes naming normal s u .removed ≡ false)
   refused-take-nothing =
       take-cases Untaken naming s u (λ q w n h. (refl, refl, refl)) (λ a k. kind-untaken (headerTaken u) (numberIn u) (ruTaken u))
 
-  pub accepted-take-good : eqb (refusalIn (takes naming s u .answer)) 0 ≡ true → recordGood (s .end) ≡ true
+  pub accepted-take-good : eqb (refusalIn (takes naming normal s u .answer)) 0 ≡ true → recordGood (s .end) ≡ true
   accepted-take-good =
-      take-cases (λ (t : Took Station Reply (List ℕ)). eqb (refusalIn (t .answer)) 0 ≡ true → recordGood (s .end) ≡ true) naming s u
+      take-cases (λ (t : Took Lane Station Reply (List ℕ)). eqb (refusalIn (t .answer)) 0 ≡ true → recordGood (s .end) ≡ true) naming s u
       (λ q w n h. no (eqb q 0) n h) (λ a k h. a .good)

@@ -2,45 +2,35 @@
 -- Assumes nothing.
 use Prim.Native.Nat.{ℕ}
 use mathlib.Core.Path.{_≡_, refl}
-use mathlib.Core.Bool.{Bool, true, false}
 use mathlib.Core.List.{List}
 use Rattle.unit.specs.Unit.{numberIn}
-use Rattle.header.specs.declared.Follows.{Follows}
-use Rattle.header.specs.declared.Follows.the-variants.{Stay, ChangeDirection, EndBracket}
 use Rattle.header.specs.declared.Header.{Header}
 use Rattle.header.specs.declared.Header.the-variants.{Data, Bid, PositiveBidResponse, NegativeBidResponse, Confirmation, PacingResponse}
 use Rattle.pacing.specs.Pacing.{advanced, answered}
 use Rattle.sides.specs.Sending.{requestMade}
 use Rattle.end.specs.Allocate.{bidMade}
 use Rattle.end.specs.SendData.{bytesKept, bytesSpilled}
-use Rattle.end.specs.Close.{lastMade, close}
+use Rattle.end.specs.Close.{lastMade}
 use Rattle.end.specs.ReceiveUnit.{headerTaken, ruTaken, dataJoined, bidAnswered, creditRaised}
 use Rattle.end.specs.Receive.{bytesRead}
 use Rattle.joined.specs.Joined.{Acted, Took}
-use Rattle.joined.specs.Ends.{Station, Verb, Reply, makes, acts, takes}
+use Rattle.joined.specs.Ends.{Lane, normal, Station, Verb, Reply, acts, takes}
 use Rattle.joined.proofs.Acts.{allocate-cases, send-cases, close-cases, confirmed-cases, pace-cases, read-cases, take-cases, tookKind}
 
 abbrev pub sizeOf : Station → ℕ
 sizeOf s = s .end .sending .window .size
 
 module _ (s : Station) where
-  abbrev After : Acted Station Reply (List ℕ) → Type 0
+  abbrev After : Acted Lane Station Reply (List ℕ) → Type 0
   After m = sizeOf (m .end) ≡ sizeOf s
 
-  closes : (f : Follows) (c : Bool) → After (makes s (close f c (s .end) (s .send) (s .unit)))
-  unfolding lastMade requestMade advanced
-  closes f c = close-cases After s f c (λ q n. refl) (λ a n. refl) (λ a n k. refl)
-
   pub size-acts : (v : Verb) → After (acts s v)
-  unfolding acts bytesKept bytesSpilled bytesRead bidMade requestMade advanced
+  unfolding acts bytesKept bytesSpilled bytesRead bidMade lastMade requestMade advanced
   size-acts Verb.allocate = allocate-cases After s (λ q n. refl) (λ g a w. refl) (λ g a w k. refl)
-  size-acts Verb.flush = closes Stay false
-  size-acts Verb.confirm = closes Stay true
   size-acts Verb.confirmed = confirmed-cases After s (λ q n. refl) (λ g a. refl)
   size-acts Verb.pace = pace-cases After s (λ q n. refl) (λ g a. refl)
   size-acts (Verb.sendData bytes) = send-cases After s bytes (λ q n. refl) (λ a k. refl) (λ a k h. refl)
-  size-acts (Verb.prepareToReceive b) = closes ChangeDirection b
-  size-acts (Verb.deallocate b) = closes EndBracket b
+  size-acts (Verb.close f c) = close-cases After s f c (λ q n. refl) (λ a n. refl) (λ a n k. refl)
   size-acts (Verb.receive buffer) = read-cases After s buffer (λ q w n. refl) (λ a h. refl) (λ a h m. refl)
 
   kind-size : (h : Header) (n : ℕ) (ru : List ℕ) → sizeOf (tookKind s h n ru .end) ≡ sizeOf s
@@ -52,7 +42,7 @@ module _ (s : Station) where
   kind-size Confirmation n ru = refl
   kind-size PacingResponse n ru = refl
 
-  pub size-takes : (naming : List ℕ → ℕ) (u : List ℕ) → sizeOf (takes naming s u .end) ≡ sizeOf s
+  pub size-takes : (naming : List ℕ → ℕ) (u : List ℕ) → sizeOf (takes naming normal s u .end) ≡ sizeOf s
   size-takes naming u =
-      take-cases (λ (t : Took Station Reply (List ℕ)). sizeOf (t .end) ≡ sizeOf s) naming s u (λ q w n. refl)
+      take-cases (λ (t : Took Lane Station Reply (List ℕ)). sizeOf (t .end) ≡ sizeOf s) naming s u (λ q w n. refl)
       (λ a k. kind-size (headerTaken u) (numberIn u) (ruTaken u))

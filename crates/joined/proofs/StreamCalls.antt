@@ -20,7 +20,6 @@ use Rattle.header.specs.Header.{isFirst, isLast}
 use Rattle.unit.specs.Ru.{marks, bidRu, fixedRu, dataRuGood, ruGood}
 use Rattle.unit.specs.Unit.{unitOf, numberIn}
 use Rattle.header.specs.declared.Follows.{Follows}
-use Rattle.header.specs.declared.Follows.the-variants.{Stay, ChangeDirection, EndBracket}
 use Rattle.header.specs.declared.ChainEnd.{ChainEnd}
 use Rattle.header.specs.declared.ChainEnd.the-variants.{Continues, Last}
 use Rattle.header.specs.declared.DataHeader.{DataHeader}
@@ -41,11 +40,11 @@ use Rattle.end.specs.Allocate.{bidMade}
 use Rattle.logical_record.specs.Walk.{placeOr}
 use Rattle.sides.specs.Sending.{keeps}
 use Rattle.end.specs.SendData.{heldBytes, gone, bytesKept, bytesSpilled}
-use Rattle.end.specs.Close.{nothingGoes, lastMade, close}
+use Rattle.end.specs.Close.{nothingGoes, lastMade}
 use Rattle.end.specs.ReceiveUnit.{headerTaken, ruTaken, dataJoined, bidAnswered, creditRaised}
 use Rattle.end.specs.Receive.{bytesRead}
 use Rattle.joined.specs.Joined.{Acted, Took}
-use Rattle.joined.specs.Ends.{Station, Verb, Reply, makes, acts, takes}
+use Rattle.joined.specs.Ends.{Lane, normal, Station, Verb, Reply, acts, takes}
 use Rattle.joined.specs.Histories.{bytesInSendBuffer}
 use Rattle.joined.proofs.Rows.{left, right}
 use Rattle.joined.proofs.Acts.{allocate-cases, send-cases, SendAsked, spilledRu, spilledUnit, close-cases, CloseAsked, confirmed-cases, pace-cases, read-cases, take-cases, TakeAsked, tookKind}
@@ -87,7 +86,8 @@ spilled-length s bytes a k =
     let more : e .sending .max < e .sending .held + length bytes = leb-false (e .sending .held + length bytes) (e .sending .max) k in
     length-append (heldBytes e (s .send)) (take (gone e) bytes)
     ∙ ap (λ (n : ℕ). n + length (take (gone e) bytes)) (length-take-le (e .sending .held) (s .send) (omega arith))
-    ∙ ap (λ (n : ℕ). e .sending .held + n) (length-take-le (gone e) bytes (omega arith)) ∙ (let z : e .sending .held + gone e ≡ e .sending .max = omega arith in z)
+    ∙ ap (λ (n : ℕ). e .sending .held + n) (length-take-le (gone e) bytes (omega arith))
+    ∙ (let z : e .sending .held + gone e ≡ e .sending .max = omega arith in z)
 
 full-good : (m : ℕ) (d : DataHeader) (ru : List ℕ) → length ru ≡ m → 8 ≤ m → ruGood m (Data d) ru ≡ true
 unfolding ruGood
@@ -111,14 +111,16 @@ last-good m n d ru e h z = rw (e, le-leb n m h) (some (marks (d .ends)) z)
 -- ---- as the sending end
 
 module _ (s : Station) (i : Inside) (line : List (List ℕ)) (st : Stream (outsideOf s) i line) where
-  abbrev After : Acted Station Reply (List ℕ) → Type 0
-  After m = Stream (outsideOf (m .end)) i (line ++ m .sent)
+  abbrev After : Acted Lane Station Reply (List ℕ) → Type 0
+  After m = Stream (outsideOf (m .end)) i (line ++ m .sent normal)
 
   quiet-line : {o : Outside} → Stream o i line → Stream o i (line ++ [])
   quiet-line {o} j = subst (λ (l : List (List ℕ)). Stream o i l) (sym (append-nil line)) j
 
   spill : (bytes : List ℕ) → SendAsked s bytes → keeps (s .end .sending) (length bytes) ≡ false
-      → Stream (outsideOf (record { end = bytesSpilled (s .end) bytes (s .send) .end; send = front (drop (gone (s .end)) bytes) (s .send); unit = s .unit; inbox = s .inbox }))
+      → Stream
+      (outsideOf
+      (record { end = bytesSpilled (s .end) bytes (s .send) .end; send = front (drop (gone (s .end)) bytes) (s .send); unit = s .unit; inbox = s .inbox }))
       i (line ++ (spilledUnit s bytes ∷ []))
   unfolding bytesSpilled requestMade advanced spilled dataHeader
   spill bytes a k =
@@ -127,7 +129,8 @@ module _ (s : Station) (i : Inside) (line : List (List ℕ)) (st : Stream (outsi
       let rest = drop (gone e) bytes in
       let d : DataHeader = record { begins = beginOf (e .control); ends = Continues; pacing = paced (e .sending .window) } in
       let parts : heldBytes e (s .send) ++ bytes ≡ spilledRu s bytes ++ rest =
-      ap (λ (bs : List ℕ). heldBytes e (s .send) ++ bs) (sym (take-append-drop (gone e) bytes)) ∙ sym (append-assoc (heldBytes e (s .send)) (take (gone e) bytes) rest) in
+      ap (λ (bs : List ℕ). heldBytes e (s .send) ++ bs) (sym (take-append-drop (gone e) bytes))
+      ∙ sym (append-assoc (heldBytes e (s .send)) (take (gone e) bytes) rest) in
       let sent =
       stream-data d (spilledRu s bytes) rest kept parts
       (full-good (e .sending .max) d (spilledRu s bytes) (spilled-length s bytes a k) (least-max e (a .good))) refl (begins-first (e .control)) (λ x w. refl) in
@@ -148,9 +151,6 @@ module _ (s : Station) (i : Inside) (line : List (List ℕ)) (st : Stream (outsi
       (last-good (e .sending .max) (e .sending .held) d ru (length-take-le (e .sending .held) (s .send) (omega arith)) h n) refl (begins-first (e .control))
       (λ x w. subst (λ (p : Position). not (marks (Last f c)) || isWhole p ≡ true) (sym (same-position x (e .sending .given) w)) (a .whole))
 
-  closes : (f : Follows) (c : Bool) → After (makes s (close f c (s .end) (s .send) (s .unit)))
-  closes f c = close-cases After s f c (λ q n. quiet-line st) (λ a n. quiet-line st) (λ a n k. last f c a n)
-
   pub stream-acts : (v : Verb) → After (acts s v)
   unfolding acts bytesKept bytesRead bidMade requestMade advanced confirmationMade
   stream-acts Verb.allocate =
@@ -160,8 +160,6 @@ module _ (s : Station) (i : Inside) (line : List (List ℕ)) (st : Stream (outsi
       let shut : s .end .control .outchain ≡ false =
       closed-chain (s .end) g (reset-not-send (s .end .control .state) (left (isReset (s .end .control .state)) (not (s .end .control .bid)) a)) in
       same-chain (allocated (s .end .control) .outchain) (allocated-out (s .end .control)) (stream-bid (paced (s .end .sending .window)) st refl shut))
-  stream-acts Verb.flush = closes Stay false
-  stream-acts Verb.confirm = closes Stay true
   stream-acts Verb.confirmed = confirmed-cases After s (λ q n. quiet-line st) (λ g a. stream-response (s .end .owed) Confirmation st refl refl)
   stream-acts Verb.pace = pace-cases After s (λ q n. quiet-line st) (λ g a. stream-response 0 PacingResponse st refl refl)
   stream-acts (Verb.sendData bytes) =
@@ -175,15 +173,14 @@ module _ (s : Station) (i : Inside) (line : List (List ℕ)) (st : Stream (outsi
       (held-more (s .end .sending .held) bytes (s .send) (omega arith)) (ap (placeOr (s .end .sending .given)) (a .walked))
       (stream-keep bytes (a .place) st (a .walked))))
       (λ a k h. spill bytes a k)
-  stream-acts (Verb.prepareToReceive c) = closes ChangeDirection c
-  stream-acts (Verb.deallocate c) = closes EndBracket c
+  stream-acts (Verb.close f c) = close-cases After s f c (λ q n. quiet-line st) (λ a n. quiet-line st) (λ a n k. last f c a n)
   stream-acts (Verb.receive buffer) =
       read-cases After s buffer (λ q w n. quiet-line st) (λ a h. quiet-line st)
       (λ a h m. quiet-line (same-chain (markAnswered (s .end .control) .outchain) (answered-out (s .end .control)) st))
 
   -- a take at this end: only a bid has it make a unit, which is a response
-  abbrev Left : Took Station Reply (List ℕ) → Type 0
-  Left t = Stream (outsideOf (t .end)) i (line ++ t .sent)
+  abbrev Left : Took Lane Station Reply (List ℕ) → Type 0
+  Left t = Stream (outsideOf (t .end)) i (line ++ t .sent normal)
 
   answers : (c : Control) → isResponse (bidAnswer c) ≡ true
   answers c = by (isReset (c .state))
@@ -210,13 +207,13 @@ module _ (s : Station) (i : Inside) (line : List (List ℕ)) (st : Stream (outsi
   kind-out Confirmation n ru = quiet-line st
   kind-out PacingResponse n ru = quiet-line st
 
-  pub stream-takes : (naming : List ℕ → ℕ) (u : List ℕ) → Left (takes naming s u)
+  pub stream-takes : (naming : List ℕ → ℕ) (u : List ℕ) → Left (takes naming normal s u)
   stream-takes naming u = take-cases Left naming s u (λ q w n. quiet-line st) (λ a k. kind-out (headerTaken u) (numberIn u) (ruTaken u))
 
 -- ---- as the receiving end
 
 module _ (s : Station) (o : Outside) (back : List (List ℕ)) where
-  abbrev AfterIn : Acted Station Reply (List ℕ) → Type 0
+  abbrev AfterIn : Acted Lane Station Reply (List ℕ) → Type 0
   AfterIn m = Stream o (insideOf (m .end)) back
 
   same-link : {i : Inside} (b : Bool) → b ≡ i .chain → Stream o i back → Stream o (linked i b) back
@@ -227,17 +224,11 @@ module _ (s : Station) (o : Outside) (back : List (List ℕ)) where
   stream-in-acts st Verb.allocate =
       allocate-cases AfterIn s (λ q n. st) (λ g a w. same-link (allocated (s .end .control) .inchain) (allocated-in (s .end .control)) st)
       (λ g a w k. same-link (allocated (s .end .control) .inchain) (allocated-in (s .end .control)) st)
-  stream-in-acts st Verb.flush =
-      close-cases AfterIn s Stay false (λ q n. st) (λ a n. st) (λ a n k. same-link _ (closed-in Stay false (s .end .control)) st)
-  stream-in-acts st Verb.confirm =
-      close-cases AfterIn s Stay true (λ q n. st) (λ a n. st) (λ a n k. same-link _ (closed-in Stay true (s .end .control)) st)
   stream-in-acts st Verb.confirmed = confirmed-cases AfterIn s (λ q n. st) (λ g a. st)
   stream-in-acts st Verb.pace = pace-cases AfterIn s (λ q n. st) (λ g a. st)
   stream-in-acts st (Verb.sendData bytes) = send-cases AfterIn s bytes (λ q n. st) (λ a k. st) (λ a k h. st)
-  stream-in-acts st (Verb.prepareToReceive c) =
-      close-cases AfterIn s ChangeDirection c (λ q n. st) (λ a n. st) (λ a n k. same-link _ (closed-in ChangeDirection c (s .end .control)) st)
-  stream-in-acts st (Verb.deallocate c) =
-      close-cases AfterIn s EndBracket c (λ q n. st) (λ a n. st) (λ a n k. same-link _ (closed-in EndBracket c (s .end .control)) st)
+  stream-in-acts st (Verb.close f c) =
+      close-cases AfterIn s f c (λ q n. st) (λ a n. st) (λ a n k. same-link _ (closed-in f c (s .end .control)) st)
   stream-in-acts st (Verb.receive buffer) =
       read-cases AfterIn s buffer (λ q w n. st) (λ a h. st) (λ a h m. same-link _ (answered-in (s .end .control)) st)
 
@@ -253,9 +244,9 @@ module _ (s : Station) (o : Outside) (back : List (List ℕ)) where
 
   pub stream-in-takes : (naming : List ℕ → ℕ) (u : List ℕ)
       → Stream o (insideOf s) (u ∷ back)
-      → (let t = takes naming s u in Stream o (insideOf (t .end)) (cond (t .removed) back (u ∷ back)))
+      → (let t = takes naming normal s u in Stream o (insideOf (t .end)) (cond (t .removed) back (u ∷ back)))
   stream-in-takes naming u st =
-      take-cases (λ (t : Took Station Reply (List ℕ)). Stream o (insideOf (t .end)) (cond (t .removed) back (u ∷ back))) naming s u (λ q w n. st)
+      take-cases (λ (t : Took Lane Station Reply (List ℕ)). Stream o (insideOf (t .end)) (cond (t .removed) back (u ∷ back))) naming s u (λ q w n. st)
       (λ a k. removed (headerTaken u) (kind-in (headerTaken u) (numberIn u) (ruTaken u) (stream-take st .rest)))
     where
       removed : (h : Header) → Stream o (insideOf (tookKind s h (numberIn u) (ruTaken u) .end)) back

@@ -13,25 +13,25 @@ use Rattle.answers.specs.Answers.{BAD-RECORD}
 use Rattle.end.specs.Record.{recordGood, creditOf}
 use Rattle.sides.specs.declared.Session.{Session}
 use Rattle.joined.specs.Joined.{Call, act, take, At, first, second, Side, Both, firsts, seconds, run, AllFed}
-use Rattle.joined.specs.Ends.{Station, Verb, Reply, Buffers, OpeningAccepted, JoinedOpenings, openedBoth, acts, takes}
+use Rattle.joined.specs.Ends.{Lane, normal, sameLane, Station, Verb, Reply, Buffers, OpeningAccepted, JoinedOpenings, openedBoth, acts, takes}
 use Rattle.joined.specs.Histories.{bytesAccepted, bytesRead, bytesOnLine, bytesInInbox, bytesInSendBuffer, requestsMade, pacingResponsesTaken, breaches, refusedWith, badReads, CompleteIsRight, NoneCrosses}
 use Rattle.joined.specs.SingleCalls.{AllBytes, BytesOf}
 
 abbrev pub Pair : Type 0
-Pair = Both Station Verb Reply (List ℕ)
+Pair = Both Lane Station Verb Reply (List ℕ)
 
 abbrev pub JoinedEnd : Type 0
-JoinedEnd = Side Station Verb Reply (List ℕ)
+JoinedEnd = Side Lane Station Verb Reply (List ℕ)
 
 -- the two ends as opened, after the list of calls; `naming` is the choice of a rule that 21 leaves free
-abbrev pub after : (List ℕ → ℕ) → Session → Session → Buffers → Buffers → List (At Verb) → Pair
-after naming s t b c l = run acts (takes naming) (openedBoth s t b c) l
+abbrev pub after : (List ℕ → ℕ) → Session → Session → Buffers → Buffers → List (At Lane Verb) → Pair
+after naming s t b c l = run sameLane acts (takes naming) (openedBoth s t b c) l
 
 -- One way, from x to y: the bytes accepted for sending are exactly the bytes read at the other end, then those held in its inbox, then the data RUs
--- on the line, then those held in the sender's buffer.
+-- on the normal lane, then those held in the sender's buffer.
 abbrev pub BytesConserved : JoinedEnd → JoinedEnd → Type 0
 BytesConserved x y =
-    bytesAccepted (x .log) ≡ bytesRead (y .log) ++ (bytesInInbox (y .end) ++ (bytesOnLine (y .waiting) ++ bytesInSendBuffer (x .end)))
+    bytesAccepted (x .log) ≡ bytesRead (y .log) ++ (bytesInInbox (y .end) ++ (bytesOnLine (y .waiting normal) ++ bytesInSendBuffer (x .end)))
 
 -- requests made plus credit left = sending W × (1 + pacing answers taken)
 abbrev pub CreditCounted : ℕ → JoinedEnd → Type 0
@@ -52,19 +52,19 @@ pub record Joint (s t : Session) (p : Pair) : Type 0 where
 
 -- Every other list that starts alike, with the same calls in the same order at each end, where neither list takes with nothing waiting: the same
 -- records, every lent cell, lines and each end's answers in order.
-abbrev pub SameOutcome : (List ℕ → ℕ) → Pair → List (At Verb) → Type 0
+abbrev pub SameOutcome : (List ℕ → ℕ) → Pair → List (At Lane Verb) → Type 0
 SameOutcome naming p l =
-    (m : List (At Verb))
+    (m : List (At Lane Verb))
     → firsts l ≡ firsts m
     → seconds l ≡ seconds m
-    → AllFed acts (takes naming) p l
-    → AllFed acts (takes naming) p m
-    → run acts (takes naming) p l ≡ run acts (takes naming) p m
+    → AllFed sameLane acts (takes naming) p l
+    → AllFed sameLane acts (takes naming) p m
+    → run sameLane acts (takes naming) p l ≡ run sameLane acts (takes naming) p m
 
 -- THE CLAIM: for every two accepted openings that are joined, and every list of calls
 abbrev pub Claim : Type 0
 Claim =
-    (naming : List ℕ → ℕ) (s t : Session) (b c : Buffers) (l : List (At Verb))
+    (naming : List ℕ → ℕ) (s t : Session) (b c : Buffers) (l : List (At Lane Verb))
     → JoinedOpenings s t b c
     → Joint s t (after naming s t b c l) × SameOutcome naming (openedBoth s t b c) l
 
@@ -100,7 +100,7 @@ pub record Records (p : Pair) : Type 0 where
 -- THE RECORDS: wherever units, sends and reads cut them and whichever end began
 abbrev pub TheRecords : Type 0
 TheRecords =
-    (naming : List ℕ → ℕ) (s t : Session) (b c : Buffers) (l : List (At Verb))
+    (naming : List ℕ → ℕ) (s t : Session) (b c : Buffers) (l : List (At Lane Verb))
     → JoinedOpenings s t b c
     → Records (after naming s t b c l)
 
@@ -112,15 +112,15 @@ pub record LentBytes (b : Buffers) : Type 0 where
   pub inbox : AllBytes (b .inbox)
 
 -- the bytes that the calls of a list give are bytes
-abbrev pub BytesIn : Call Verb → Type 0
+abbrev pub BytesIn : Call Lane Verb → Type 0
 BytesIn (act v) = BytesOf v
-BytesIn take = Unit {0}
+BytesIn (take l) = Unit {0}
 
-abbrev pub BytesAt : At Verb → Type 0
+abbrev pub BytesAt : At Lane Verb → Type 0
 BytesAt (first c) = BytesIn c
 BytesAt (second c) = BytesIn c
 
-abbrev pub BytesOfAll : List (At Verb) → Type 0
+abbrev pub BytesOfAll : List (At Lane Verb) → Type 0
 BytesOfAll [] = Unit {0}
 BytesOfAll (c ∷ l) = BytesAt c × BytesOfAll l
 
@@ -134,7 +134,7 @@ pub record BothGood (p : Pair) : Type 0 where
 -- THE RECORD IS NEVER REFUSED: after every list of calls from two accepted openings, joined or not
 abbrev pub AlwaysGood : Type 0
 AlwaysGood =
-    (naming : List ℕ → ℕ) (s t : Session) (b c : Buffers) (l : List (At Verb))
+    (naming : List ℕ → ℕ) (s t : Session) (b c : Buffers) (l : List (At Lane Verb))
     → OpeningAccepted s b
     → OpeningAccepted t c
     → LentBytes b

@@ -4,8 +4,11 @@ use Prim.Native.Nat.{ℕ}
 use mathlib.Core.Bool.{Bool, true, false, cond}
 use mathlib.Core.List.{List, [], _∷_}
 use mathlib.Core.Path.{_≡_}
+use mathlib.Core.HLevel.{Discrete}
 use lib.Dec.{eqb}
 use lib.ListN.{length, take}
+use Rattle.header.specs.declared.Follows.{Follows}
+use Rattle.header.specs.declared.Follows.the-variants.{Stay, ChangeDirection, EndBracket}
 use Rattle.control.specs.declared.WhatReceived.the-variants as mark
 use Rattle.session.specs.Opening as O
 use Rattle.end.specs.Allocate as A
@@ -20,7 +23,13 @@ use Rattle.sides.specs.declared.Session.{Session}
 use Rattle.end.specs.declared.End.{End}
 use Rattle.answers.specs.declared.Answer.{Answer}
 use Rattle.answers.specs.declared.ReadAnswer.{ReadAnswer}
-use Rattle.joined.specs.Joined.{Acted, Took, Event, Side, Both, At}
+use Rattle.joined.specs.Lanes.{Lines, none, only}
+use Rattle.joined.specs.Joined.{Acted, Took, Side, Both}
+
+-- The lanes between two ends.
+pub data Lane : Type 0 where
+  normal : Lane
+  deriving Discrete as sameLane
 
 -- An end with the buffers that were lent to it at opening, which nobody else writes.
 pub record Station : Type 0 where
@@ -29,12 +38,26 @@ pub record Station : Type 0 where
   pub unit : List ℕ
   pub inbox : List ℕ
 
--- A call with all that its caller chooses: the bytes given; with or without confirmation; the read's buffer with its former cells.
+-- A call with all that its caller chooses: the bytes given; of a closing call what follows, and whether confirmation is asked; the read's buffer
+-- with its former cells.
 pub data Verb : Type 0 where
-  allocate flush confirm confirmed pace : Verb
+  allocate confirmed pace : Verb
   sendData : List ℕ → Verb
-  prepareToReceive deallocate : Bool → Verb
+  close : Follows → Bool → Verb
   receive : List ℕ → Verb
+
+-- the four closing calls by their names; document 01 says turn and end for the last two
+abbrev pub flush : Verb
+flush = close Stay false
+
+abbrev pub confirm : Verb
+confirm = close Stay true
+
+abbrev pub prepareToReceive : Bool → Verb
+prepareToReceive asked = close ChangeDirection asked
+
+abbrev pub deallocate : Bool → Verb
+deallocate asked = close EndBracket asked
 
 -- An answer, with what a read adds to it and the cells of its buffer.
 pub record Reply : Type 0 where
@@ -52,50 +75,51 @@ refusalIn r = r .answer .answer .refusal
 abbrev pub unitsOf : ℕ → List ℕ → List (List ℕ)
 unitsOf n cells = cond (eqb n 0) [] (take n cells ∷ [])
 
+-- units on the normal lane, and none on any other
+abbrev pub onNormal : List (List ℕ) → Lines Lane (List ℕ)
+onNormal us = only sameLane normal us
+
 -- a call that is lent the unit buffer, and the send buffer only to be read
-abbrev pub makes : Station → Made → Acted Station Reply (List ℕ)
+abbrev pub makes : Station → Made → Acted Lane Station Reply (List ℕ)
 makes s m =
     record {
       end = record { end = m .done .end; send = s .send; unit = m .unit; inbox = s .inbox };
       answer = plain (m .done .answer);
-      sent = unitsOf (m .done .answer .unit) (m .unit);
+      sent = onNormal (unitsOf (m .done .answer .unit) (m .unit));
     }
 
-abbrev pub sends : Station → Sent → Acted Station Reply (List ℕ)
+abbrev pub sends : Station → Sent → Acted Lane Station Reply (List ℕ)
 sends s m =
     record {
       end = record { end = m .done .end; send = m .send; unit = m .unit; inbox = s .inbox };
       answer = plain (m .done .answer);
-      sent = unitsOf (m .done .answer .unit) (m .unit);
+      sent = onNormal (unitsOf (m .done .answer .unit) (m .unit));
     }
 
-abbrev pub copies : Station → Copied → Acted Station Reply (List ℕ)
+abbrev pub copies : Station → Copied → Acted Lane Station Reply (List ℕ)
 copies s m =
     record {
       end = record { end = m .done .end; send = s .send; unit = s .unit; inbox = m .inbox };
       answer = record { answer = m .done .answer; buffer = m .buffer };
-      sent = [];
+      sent = onNormal [];
     }
 
-unfoldable pub acts : Station → Verb → Acted Station Reply (List ℕ)
+unfoldable pub acts : Station → Verb → Acted Lane Station Reply (List ℕ)
 acts s allocate = makes s (A.allocate (s .end) (s .unit))
 acts s (sendData bytes) = sends s (S.sendData (s .end) bytes (s .send) (s .unit))
-acts s flush = makes s (C.flush (s .end) (s .send) (s .unit))
-acts s confirm = makes s (C.confirm (s .end) (s .send) (s .unit))
-acts s (prepareToReceive b) = makes s (C.prepareToReceive b (s .end) (s .send) (s .unit))
-acts s (deallocate b) = makes s (C.deallocate b (s .end) (s .send) (s .unit))
+acts s (close f b) = makes s (C.close f b (s .end) (s .send) (s .unit))
 acts s confirmed = makes s (F.confirmed (s .end) (s .unit))
 acts s (receive buffer) = copies s (R.receive (s .end) (s .inbox) buffer)
 acts s pace = makes s (P.pace (s .end) (s .unit))
 
--- a take of the unit u; it goes from the line unless it is refused. `naming` is the choice of a rule that 21 leaves free
-unfoldable pub takes : (List ℕ → ℕ) → Station → List ℕ → Took Station Reply (List ℕ)
-takes naming s u =
+-- a take of the unit u from a lane; it goes from the line unless it is refused. `naming` is the choice of a rule that 21 leaves free
+unfoldable pub takes : (List ℕ → ℕ) → Lane → Station → List ℕ → Took Lane Station Reply (List ℕ)
+takes naming normal s u =
     let t : Taken = T.receiveUnit (naming u) (s .end) u (s .inbox) (s .unit) in
     record {
       end = record { end = t .done .end; send = s .send; unit = t .unit; inbox = t .inbox };
       answer = plain (t .done .answer);
-      sent = unitsOf (t .done .answer .unit) (t .unit);
+      sent = onNormal (unitsOf (t .done .answer .unit) (t .unit));
       removed = eqb (t .done .answer .refusal) 0;
     }
 
@@ -107,7 +131,7 @@ pub record Buffers : Type 0 where
   pub unit : List ℕ
   pub inbox : List ℕ
 
-abbrev pub openedWith : Session → Buffers → Side Station Verb Reply (List ℕ)
+abbrev pub openedWith : Session → Buffers → Side Lane Station Verb Reply (List ℕ)
 openedWith s b =
     record {
       end =
@@ -117,7 +141,7 @@ openedWith s b =
             unit = b .unit;
             inbox = b .inbox;
           };
-      waiting = [];
+      waiting = none;
       log = [];
     }
 
@@ -136,5 +160,5 @@ pub record JoinedOpenings (s t : Session) (b c : Buffers) : Type 0 where
   pub two : OpeningAccepted t c
 
 -- the two ends as opened: the first speaker is one, the bidder two; the lines are empty
-abbrev pub openedBoth : Session → Session → Buffers → Buffers → Both Station Verb Reply (List ℕ)
+abbrev pub openedBoth : Session → Session → Buffers → Buffers → Both Lane Station Verb Reply (List ℕ)
 openedBoth s t b c = record { one = openedWith s b; two = openedWith t c }

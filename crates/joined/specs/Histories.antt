@@ -14,36 +14,33 @@ use Rattle.header.specs.Rules.{isData, bytes, sameHeader}
 use Rattle.unit.specs.Unit.{RU-START, headerIn}
 use Rattle.answers.specs.Answers.{BAD-LL}
 use Rattle.joined.specs.Joined.{Event, acted, took}
-use Rattle.joined.specs.Ends.{Station, Verb, allocate, flush, confirm, confirmed, pace, sendData, prepareToReceive, deallocate, receive, Reply, refusalIn}
+use Rattle.joined.specs.Ends.{Lane, normal, Station, Verb, allocate, confirmed, pace, sendData, close, receive, Reply, refusalIn}
 
 abbrev pub Log : Type 0
-Log = List (Event Verb Reply (List ℕ))
+Log = List (Event Lane Verb Reply (List ℕ))
 
 -- ---- bytes
 
 -- the bytes that a call gives, if it is accepted
 abbrev pub given : Verb → ℕ → List ℕ
 given allocate q = []
-given flush q = []
-given confirm q = []
 given confirmed q = []
 given pace q = []
 given (sendData bytes) q = cond (eqb q 0) bytes []
-given (prepareToReceive b) q = []
-given (deallocate b) q = []
+given (close f b) q = []
 given (receive buffer) q = []
 
 -- accepted are the bytes of accepted send data calls
 unfoldable pub bytesAccepted : Log → List ℕ
 bytesAccepted [] = []
 bytesAccepted (acted v r us ∷ es) = bytesAccepted es ++ given v (refusalIn r)
-bytesAccepted (took u r us ∷ es) = bytesAccepted es
+bytesAccepted (took l u r us ∷ es) = bytesAccepted es
 
 -- read are those that reads copied
 unfoldable pub bytesRead : Log → List ℕ
 bytesRead [] = []
 bytesRead (acted v r us ∷ es) = bytesRead es ++ take (r .answer .copied) (r .buffer)
-bytesRead (took u r us ∷ es) = bytesRead es
+bytesRead (took l u r us ∷ es) = bytesRead es
 
 -- on the line the data RUs, oldest first
 abbrev pub dataRu : List ℕ → List ℕ
@@ -65,7 +62,7 @@ bytesInSendBuffer s = take (s .end .sending .held) (s .send)
 abbrev pub count : Bool → ℕ
 count b = cond b 1 0
 
--- units made without weight 80 in header byte 0
+-- a unit without weight 80 in header byte 0
 abbrev pub isRequest : List ℕ → Bool
 isRequest u = not (on 0x80 (headerIn u .b0))
 
@@ -73,19 +70,20 @@ unfoldable pub requestsAmong : List (List ℕ) → ℕ
 requestsAmong [] = 0
 requestsAmong (u ∷ us) = count (isRequest u) + requestsAmong us
 
+-- among the units made on the normal lane
 unfoldable pub requestsMade : Log → ℕ
 requestsMade [] = 0
-requestsMade (acted v r us ∷ es) = requestsAmong us + requestsMade es
-requestsMade (took u r us ∷ es) = requestsAmong us + requestsMade es
+requestsMade (acted v r us ∷ es) = requestsAmong (us normal) + requestsMade es
+requestsMade (took l u r us ∷ es) = requestsAmong (us normal) + requestsMade es
 
--- the accepted takes of pacing answers
+-- the accepted takes of pacing answers, on any lane
 abbrev pub isPacingResponse : List ℕ → Bool
 isPacingResponse u = sameHeader (headerIn u) (bytes 0x83 0x01 0x00)
 
 unfoldable pub pacingResponsesTaken : Log → ℕ
 pacingResponsesTaken [] = 0
 pacingResponsesTaken (acted v r us ∷ es) = pacingResponsesTaken es
-pacingResponsesTaken (took u r us ∷ es) = count (eqb (refusalIn r) 0 && isPacingResponse u) + pacingResponsesTaken es
+pacingResponsesTaken (took l u r us ∷ es) = count (eqb (refusalIn r) 0 && isPacingResponse u) + pacingResponsesTaken es
 
 -- ---- breaches
 
@@ -93,49 +91,46 @@ pacingResponsesTaken (took u r us ∷ es) = count (eqb (refusalIn r) 0 && isPaci
 abbrev pub isBreach : ℕ → Bool
 isBreach q = leb 20 q && leb q 29
 
--- the takes that were refused as a breach
+-- the takes, on any lane, that were refused as a breach
 unfoldable pub breaches : Log → ℕ
 breaches [] = 0
 breaches (acted v r us ∷ es) = breaches es
-breaches (took u r us ∷ es) = count (isBreach (refusalIn r)) + breaches es
+breaches (took l u r us ∷ es) = count (isBreach (refusalIn r)) + breaches es
 
 -- ---- refusals
 
--- the calls and takes that were refused with the number n
+-- the calls and the takes, on any lane, that were refused with the number n
 unfoldable pub refusedWith : ℕ → Log → ℕ
 refusedWith n [] = 0
 refusedWith n (acted v r us ∷ es) = count (eqb (refusalIn r) n) + refusedWith n es
-refusedWith n (took u r us ∷ es) = count (eqb (refusalIn r) n) + refusedWith n es
+refusedWith n (took l u r us ∷ es) = count (eqb (refusalIn r) n) + refusedWith n es
 
 -- ---- reads
 
 -- the reads that were refused with 8
 abbrev pub isBadRead : Verb → ℕ → Bool
 isBadRead allocate q = false
-isBadRead flush q = false
-isBadRead confirm q = false
 isBadRead confirmed q = false
 isBadRead pace q = false
 isBadRead (sendData bytes) q = false
-isBadRead (prepareToReceive b) q = false
-isBadRead (deallocate b) q = false
+isBadRead (close f b) q = false
 isBadRead (receive buffer) q = eqb q BAD-LL
 
 unfoldable pub badReads : Log → ℕ
 badReads [] = 0
 badReads (acted v r us ∷ es) = count (isBadRead v (refusalIn r)) + badReads es
-badReads (took u r us ∷ es) = badReads es
+badReads (took l u r us ∷ es) = badReads es
 
 -- 'complete' is said exactly by the calls that copied bytes and after which all bytes read so far are whole records
 unfoldable pub CompleteIsRight : Log → Type 0
 CompleteIsRight [] = Unit {0}
 CompleteIsRight (acted v r us ∷ es) =
     (r .answer .complete ≡ (not (eqb (r .answer .copied) 0) && ended (walk start (bytesRead (acted v r us ∷ es))))) × CompleteIsRight es
-CompleteIsRight (took u r us ∷ es) = (r .answer .complete ≡ false) × CompleteIsRight es
+CompleteIsRight (took l u r us ∷ es) = (r .answer .complete ≡ false) × CompleteIsRight es
 
 -- no read crosses a record's end: no proper, non-empty front of the bytes that one read copied ends a record
 unfoldable pub NoneCrosses : Log → Type 0
 NoneCrosses [] = Unit {0}
 NoneCrosses (acted v r us ∷ es) =
     ((n : ℕ) → 0 < n → n < r .answer .copied → ended (walk start (bytesRead es ++ take n (r .buffer))) ≡ false) × NoneCrosses es
-NoneCrosses (took u r us ∷ es) = NoneCrosses es
+NoneCrosses (took l u r us ∷ es) = NoneCrosses es

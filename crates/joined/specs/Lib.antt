@@ -1,3 +1,4 @@
+pub mod Lanes
 pub mod Joined
 pub mod Ends
 pub mod Histories

@@ -7,7 +7,6 @@ use mathlib.Core.Bool.{Bool, true, false, _&&_}
 use mathlib.Core.List.{List, [], _++_}
 use lib.Dec.{eqb}
 use lib.ListN.{length, getD}
-use Rattle.header.specs.declared.Follows.the-variants.{Stay, ChangeDirection, EndBracket}
 use Rattle.unit.specs.Unit.{numberIn}
 use Rattle.answers.specs.Questions.{firstNo}
 use Rattle.session.specs.Opening.{opened}
@@ -20,7 +19,7 @@ use Rattle.end.specs.ReceiveUnit.{headQuestions, kindQuestions, headerTaken, ru
 use Rattle.end.specs.Receive.{readQuestions}
 use Rattle.end.specs.Pace.{paceQuestions}
 use Rattle.sides.specs.declared.Session.{Session}
-use Rattle.joined.specs.Ends.{Station, Verb, allocate, flush, confirm, confirmed, pace, sendData, prepareToReceive, deallocate, receive, refusalIn, acts, takes}
+use Rattle.joined.specs.Ends.{normal, Station, Verb, allocate, confirmed, pace, sendData, close, receive, refusalIn, onNormal, acts, takes}
 use Rattle.joined.specs.Histories.{count, isRequest, requestsAmong, isPacingResponse}
 
 -- ---- refusals
@@ -28,13 +27,10 @@ use Rattle.joined.specs.Histories.{count, isRequest, requestsAmong, isPa
 -- the questions of a call in document 01's order, each with its number
 abbrev pub questions : Station → Verb → List (Bool × ℕ)
 questions s allocate = allocateQuestions (s .end) (length (s .unit))
-questions s flush = closeQuestions (s .end) Stay false (length (s .send)) (length (s .unit))
-questions s confirm = closeQuestions (s .end) Stay true (length (s .send)) (length (s .unit))
 questions s confirmed = confirmedQuestions (s .end) (length (s .unit))
 questions s pace = paceQuestions (s .end) (length (s .unit))
 questions s (sendData bytes) = sendQuestions (s .end) bytes (length (s .send)) (length (s .unit))
-questions s (prepareToReceive b) = closeQuestions (s .end) ChangeDirection b (length (s .send)) (length (s .unit))
-questions s (deallocate b) = closeQuestions (s .end) EndBracket b (length (s .send)) (length (s .unit))
+questions s (close f b) = closeQuestions (s .end) f b (length (s .send)) (length (s .unit))
 questions s (receive buffer) = readQuestions (s .end) (s .inbox) (length buffer)
 
 abbrev pub takeQuestions : Station → List ℕ → List (Bool × ℕ)
@@ -45,15 +41,15 @@ takeQuestions s u =
 pub record Refusals : Type 0 where
   -- the first "no" gives the number
   pub number : (s : Station) (v : Verb) → refusalIn (acts s v .answer) ≡ firstNo (questions s v)
-  pub number-of-take : (naming : List ℕ → ℕ) (s : Station) (u : List ℕ) → refusalIn (takes naming s u .answer) ≡ firstNo (takeQuestions s u)
+  pub number-of-take : (naming : List ℕ → ℕ) (s : Station) (u : List ℕ) → refusalIn (takes naming normal s u .answer) ≡ firstNo (takeQuestions s u)
   -- the record and the cells lent at opening are as before, and no unit is made
-  pub changes-nothing : (s : Station) (v : Verb) → (refusalIn (acts s v .answer) ≡ 0 → ⊥) → (acts s v .end ≡ s) × (acts s v .sent ≡ [])
+  pub changes-nothing : (s : Station) (v : Verb) → (refusalIn (acts s v .answer) ≡ 0 → ⊥) → (acts s v .end ≡ s) × (acts s v .sent ≡ onNormal [])
   -- the buffer lent to a read too
   pub leaves-buffer : (s : Station) (buffer : List ℕ) → (refusalIn (acts s (receive buffer) .answer) ≡ 0 → ⊥)
       → acts s (receive buffer) .answer .buffer ≡ buffer
   -- and a take leaves its unit on the line
-  pub takes-nothing : (naming : List ℕ → ℕ) (s : Station) (u : List ℕ) → (refusalIn (takes naming s u .answer) ≡ 0 → ⊥)
-      → (takes naming s u .end ≡ s) × (takes naming s u .sent ≡ []) × (takes naming s u .removed ≡ false)
+  pub takes-nothing : (naming : List ℕ → ℕ) (s : Station) (u : List ℕ) → (refusalIn (takes naming normal s u .answer) ≡ 0 → ⊥)
+      → (takes naming normal s u .end ≡ s) × (takes naming normal s u .sent ≡ onNormal []) × (takes naming normal s u .removed ≡ false)
 
 -- ---- question 5
 
@@ -64,45 +60,39 @@ AllBytes bs = (k : ℕ) → getD bs k 0 < 256
 -- the bytes that a call gives are bytes
 abbrev pub BytesOf : Verb → Type 0
 BytesOf allocate = Unit {0}
-BytesOf flush = Unit {0}
-BytesOf confirm = Unit {0}
 BytesOf confirmed = Unit {0}
 BytesOf pace = Unit {0}
 BytesOf (sendData bytes) = AllBytes bytes
-BytesOf (prepareToReceive b) = Unit {0}
-BytesOf (deallocate b) = Unit {0}
+BytesOf (close f b) = Unit {0}
 BytesOf (receive buffer) = Unit {0}
 
 -- An accepted call's record was within the section 'The end's record', and the record that it leaves is; so is that of an accepted opening.
 pub record StaysGood : Type 0 where
   pub was : (s : Station) (v : Verb) → refusalIn (acts s v .answer) ≡ 0 → recordGood (s .end) ≡ true
-  pub was-at-take : (naming : List ℕ → ℕ) (s : Station) (u : List ℕ) → refusalIn (takes naming s u .answer) ≡ 0 → recordGood (s .end) ≡ true
+  pub was-at-take : (naming : List ℕ → ℕ) (s : Station) (u : List ℕ) → refusalIn (takes naming normal s u .answer) ≡ 0 → recordGood (s .end) ≡ true
   pub is : (s : Station) (v : Verb) → BytesOf v → AllBytes (s .inbox) → refusalIn (acts s v .answer) ≡ 0 → recordGood (acts s v .end .end) ≡ true
-  pub is-after-take : (naming : List ℕ → ℕ) (s : Station) (u : List ℕ) → AllBytes u → refusalIn (takes naming s u .answer) ≡ 0
-      → recordGood (takes naming s u .end .end) ≡ true
+  pub is-after-take : (naming : List ℕ → ℕ) (s : Station) (u : List ℕ) → AllBytes u → refusalIn (takes naming normal s u .answer) ≡ 0
+      → recordGood (takes naming normal s u .end .end) ≡ true
   pub is-opened : (s : Session) (send unit inbox : ℕ) → opened s send unit inbox .answer .refusal ≡ 0 → recordGood (opened s send unit inbox .end) ≡ true
 
 -- ---- credit and open
 
 abbrev pub isPace : Verb → Bool
 isPace allocate = false
-isPace flush = false
-isPace confirm = false
 isPace confirmed = false
 isPace pace = true
 isPace (sendData bytes) = false
-isPace (prepareToReceive b) = false
-isPace (deallocate b) = false
+isPace (close f b) = false
 isPace (receive buffer) = false
 
 -- A request made costs exactly 1 credit and a pacing answer taken raises it by exactly W; a request taken lowers open by exactly 1 and pace raises it by
 -- exactly W; nothing else moves them.
 pub record CreditExact : Type 0 where
-  pub made : (s : Station) (v : Verb) → requestsAmong (acts s v .sent) + creditOf (acts s v .end .end) ≡ creditOf (s .end)
+  pub made : (s : Station) (v : Verb) → requestsAmong (acts s v .sent normal) + creditOf (acts s v .end .end) ≡ creditOf (s .end)
   pub answered : (naming : List ℕ → ℕ) (s : Station) (u : List ℕ)
-      → creditOf (takes naming s u .end .end)
-      ≡ creditOf (s .end) + s .end .sending .window .size * count (eqb (refusalIn (takes naming s u .answer)) 0 && isPacingResponse u)
+      → creditOf (takes naming normal s u .end .end)
+      ≡ creditOf (s .end) + s .end .sending .window .size * count (eqb (refusalIn (takes naming normal s u .answer)) 0 && isPacingResponse u)
   pub taken : (naming : List ℕ → ℕ) (s : Station) (u : List ℕ)
-      → openOf (takes naming s u .end .end) + count (eqb (refusalIn (takes naming s u .answer)) 0 && isRequest u) ≡ openOf (s .end)
+      → openOf (takes naming normal s u .end .end) + count (eqb (refusalIn (takes naming normal s u .answer)) 0 && isRequest u) ≡ openOf (s .end)
   pub paced : (s : Station) (v : Verb)
       → openOf (acts s v .end .end) ≡ openOf (s .end) + s .end .receiving .window .size * count (eqb (refusalIn (acts s v .answer)) 0 && isPace v)

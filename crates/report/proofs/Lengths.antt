@@ -9,6 +9,7 @@ use native.Mathlib.Omega.{arith}
 use lib.Dec.{eqb, leb, ltb}
 use lib.ListN.{length, length-append}
 use borrow.Author.Tests.{ltb-true, ltb-false}
+use Rattle.header.specs.declared.Follows.the-variants.{Stay, ChangeDirection, EndBracket}
 use Rattle.script.specs.declared.Verb.{Verb}
 use Rattle.script.specs.declared.Verb.the-variants as verb
 use Rattle.script.specs.declared.Request.{Request}
@@ -37,13 +38,12 @@ end-length false = omega arith
 
 verb-length : (v : Verb) → length (verbWords v) ≤ 12
 verb-length verb.Allocate = omega arith
-verb-length verb.Flush = omega arith
-verb-length verb.Confirm = omega arith
 verb-length verb.Confirmed = omega arith
 verb-length verb.SendPacingResponse = omega arith
 verb-length verb.SendData = omega arith
-verb-length (verb.PrepareToReceive confirm) = cond-length confirm (ascii "turn confirm") (ascii "turn") 12 (omega arith) (omega arith)
-verb-length (verb.Deallocate confirm) = cond-length confirm (ascii "end confirm") (ascii "end") 12 (omega arith) (omega arith)
+verb-length (verb.Close Stay confirm) = cond-length confirm (ascii "confirm") (ascii "flush") 12 (omega arith) (omega arith)
+verb-length (verb.Close ChangeDirection confirm) = cond-length confirm (ascii "turn confirm") (ascii "turn") 12 (omega arith) (omega arith)
+verb-length (verb.Close EndBracket confirm) = cond-length confirm (ascii "end confirm") (ascii "end") 12 (omega arith) (omega arith)
 verb-length verb.Receive = omega arith
 
 request-length : (r : Request) → length (requestWords r) ≤ 12

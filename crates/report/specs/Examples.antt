@@ -4,6 +4,7 @@ use Prim.Native.Nat.{ℕ}
 use mathlib.Core.Path.{_≡_, refl}
 use mathlib.Core.Bool.{Bool, true, false}
 use mathlib.Core.List.{List, [], _∷_}
+use Rattle.script.specs.Closing.{deallocate}
 use Rattle.script.specs.declared.Verb.the-variants as verb
 use Rattle.script.specs.declared.Request.{Request}
 use Rattle.script.specs.declared.Request.the-variants.{Call, Take, Offer}
@@ -50,7 +51,7 @@ bids = refl
 
 speaks : (accepted false (Call verb.Allocate) [] ≡ ascii "1 allocate 0\n")
     × (accepted false (Call verb.SendData) [] ≡ ascii "1 send 0\n")
-    × (accepted false (Call (verb.Deallocate false)) aRecord ≡ ascii "1 end 0 unit 00010391810005414243\n")
+    × (accepted false (Call (deallocate false)) aRecord ≡ ascii "1 end 0 unit 00010391810005414243\n")
 unfolding aRecord decimalIn decimalOf hexOf hexWordOf callText senseText ruleText refusalText bytesText completeText markText answerText
 speaks = (refl, refl, refl)
 
@@ -83,7 +84,7 @@ unfolding decimalIn decimalOf hexOf hexWordOf callText senseText ruleText refusa
 breaches = (refl, refl, refl, refl)
 
 -- calls that were not made, and long numbers
-others : (fullText false (Call (verb.Deallocate true)) ≡ ascii "1 end confirm full\n")
+others : (fullText false (Call (deallocate true)) ≡ ascii "1 end confirm full\n")
     × (badLineText 1048576 ≡ ascii "bad line 1048576\n")
     × (endText true state.ConfirmAwaited mark.ConfirmTurn 1024 65535 10 9 512
     ≡ ascii "2 Waits mark confirm-turn send 1024 inbox 65535 credit 10 open 9 waiting 512\n")

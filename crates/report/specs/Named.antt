@@ -3,6 +3,8 @@
 use Prim.Native.Nat.{ℕ}
 use mathlib.Core.Bool.{Bool, cond}
 use mathlib.Core.List.{List}
+use Rattle.header.specs.declared.Follows.{Follows}
+use Rattle.header.specs.declared.Follows.the-variants.{Stay, ChangeDirection, EndBracket}
 use Rattle.script.specs.declared.Verb.{Verb}
 use Rattle.script.specs.declared.Verb.the-variants as verb
 use Rattle.script.specs.declared.Request.{Request}
@@ -16,21 +18,17 @@ use Rattle.report.specs.Ascii.{ascii}
 abbrev pub endWord : Bool → List ℕ
 endWord second = cond second (ascii "2") (ascii "1")
 
-abbrev pub turnWords : Bool → List ℕ
-turnWords confirm = cond confirm (ascii "turn confirm") (ascii "turn")
-
-abbrev pub deallocateWords : Bool → List ℕ
-deallocateWords confirm = cond confirm (ascii "end confirm") (ascii "end")
+abbrev pub closingWords : Follows → Bool → List ℕ
+closingWords Stay confirm = cond confirm (ascii "confirm") (ascii "flush")
+closingWords ChangeDirection confirm = cond confirm (ascii "turn confirm") (ascii "turn")
+closingWords EndBracket confirm = cond confirm (ascii "end confirm") (ascii "end")
 
 abbrev pub verbWords : Verb → List ℕ
 verbWords verb.Allocate = ascii "allocate"
-verbWords verb.Flush = ascii "flush"
-verbWords verb.Confirm = ascii "confirm"
 verbWords verb.Confirmed = ascii "confirmed"
 verbWords verb.SendPacingResponse = ascii "pace"
 verbWords verb.SendData = ascii "send"
-verbWords (verb.PrepareToReceive confirm) = turnWords confirm
-verbWords (verb.Deallocate confirm) = deallocateWords confirm
+verbWords (verb.Close follows confirm) = closingWords follows confirm
 verbWords verb.Receive = ascii "read"
 
 -- an offered unit is taken too

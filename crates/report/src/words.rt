@@ -1,6 +1,7 @@
 // The words for an end, a call, a mark and a state.
 use control::State;
 use control::WhatReceived;
+use header::Follows;
 use script::Request;
 use script::Verb;
 use text::put;
@@ -8,7 +9,7 @@ ghost use mathlib.Core.Path.{_≡_};
 ghost use Prim.Native.Nat.{_≤_};
 ghost use lib.ListN.{length, take};
 ghost use Rattle.text.specs.Put.{putAt};
-ghost use Rattle.report.specs.Named.{endWord, turnWords, deallocateWords, verbWords, requestWords, markWord, stateWord};
+ghost use Rattle.report.specs.Named.{endWord, closingWords, verbWords, requestWords, markWord, stateWord};
 
 // Letters, filled up with blanks, and how many of them count.
 pub(crate) struct Word(pub [u8; 12], pub usize);
@@ -31,22 +32,21 @@ pub(crate) fn end_digit(second: bool) -> Word
     Word(*b"1           ", 1)
 }
 
-fn turn_word(confirm: bool) -> Word
-    ensures { λ r. ⌜ (take (r .1) (r .0) ≡ turnWords confirm) × (r .1 ≤ length (r .0)) ⌝ }
+fn closing_word(follows: Follows, confirm: bool) -> Word
+    ensures { λ r. ⌜ (take (r .1) (r .0) ≡ closingWords follows confirm) × (r .1 ≤ length (r .0)) ⌝ }
 {
     if confirm {
-        return Word(*b"turn confirm", 12);
+        return match follows {
+            Follows::Stay => Word(*b"confirm     ", 7),
+            Follows::ChangeDirection => Word(*b"turn confirm", 12),
+            Follows::EndBracket => Word(*b"end confirm ", 11),
+        };
     }
-    Word(*b"turn        ", 4)
-}
-
-fn deallocate_word(confirm: bool) -> Word
-    ensures { λ r. ⌜ (take (r .1) (r .0) ≡ deallocateWords confirm) × (r .1 ≤ length (r .0)) ⌝ }
-{
-    if confirm {
-        return Word(*b"end confirm ", 11);
+    match follows {
+        Follows::Stay => Word(*b"flush       ", 5),
+        Follows::ChangeDirection => Word(*b"turn        ", 4),
+        Follows::EndBracket => Word(*b"end         ", 3),
     }
-    Word(*b"end         ", 3)
 }
 
 fn verb_word(verb: Verb) -> Word
@@ -54,13 +54,10 @@ fn verb_word(verb: Verb) -> Word
 {
     match verb {
         Verb::Allocate => Word(*b"allocate    ", 8),
-        Verb::Flush => Word(*b"flush       ", 5),
-        Verb::Confirm => Word(*b"confirm     ", 7),
         Verb::Confirmed => Word(*b"confirmed   ", 9),
         Verb::SendPacingResponse => Word(*b"pace        ", 4),
         Verb::SendData => Word(*b"send        ", 4),
-        Verb::PrepareToReceive(confirm) => turn_word(confirm),
-        Verb::Deallocate(confirm) => deallocate_word(confirm),
+        Verb::Close(follows, confirm) => closing_word(follows, confirm),
         Verb::Receive => Word(*b"read        ", 4),
     }
 }

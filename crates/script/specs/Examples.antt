@@ -12,7 +12,8 @@ use Rattle.script.specs.FirstLine.{sizesOf, firstLineOf}
 use Rattle.script.specs.Requests.{noBytes, plain, givenOf, offerOf, readOf}
 use Rattle.script.specs.CallLine.{requestOf, callOf}
 use Rattle.script.specs.declared.FirstLine.the-variants as first
-use Rattle.script.specs.declared.Verb.the-variants.{Allocate, SendData, Receive, PrepareToReceive, Deallocate}
+use Rattle.script.specs.declared.Verb.the-variants.{Allocate, SendData, Receive}
+use Rattle.script.specs.Closing.{prepareToReceive, deallocate}
 use Rattle.script.specs.declared.Request.the-variants.{Call, Take, Offer}
 use Rattle.script.specs.declared.Parsed.the-variants as parsed
 
@@ -56,12 +57,12 @@ unfolding callOf requestOf begins sameBytes givenOf offerOf readOf hexOf arePair
 gives-none = refl
 
 -- `1 end confirm`
-ends-with-confirm : callOf (0x31 ∷ 0x20 ∷ 0x65 ∷ 0x6E ∷ 0x64 ∷ 0x20 ∷ 0x63 ∷ 0x6F ∷ 0x6E ∷ 0x66 ∷ 0x69 ∷ 0x72 ∷ 0x6D ∷ []) 2048 ≡ noBytes (plain false (Call (Deallocate true)) 0)
+ends-with-confirm : callOf (0x31 ∷ 0x20 ∷ 0x65 ∷ 0x6E ∷ 0x64 ∷ 0x20 ∷ 0x63 ∷ 0x6F ∷ 0x6E ∷ 0x66 ∷ 0x69 ∷ 0x72 ∷ 0x6D ∷ []) 2048 ≡ noBytes (plain false (Call (deallocate true)) 0)
 unfolding callOf requestOf begins sameBytes givenOf offerOf readOf hexOf arePairs bytesOf numberOf readOn
 ends-with-confirm = refl
 
 -- `2 turn`
-turns : callOf (0x32 ∷ 0x20 ∷ 0x74 ∷ 0x75 ∷ 0x72 ∷ 0x6E ∷ []) 2048 ≡ noBytes (plain true (Call (PrepareToReceive false)) 0)
+turns : callOf (0x32 ∷ 0x20 ∷ 0x74 ∷ 0x75 ∷ 0x72 ∷ 0x6E ∷ []) 2048 ≡ noBytes (plain true (Call (prepareToReceive false)) 0)
 unfolding callOf requestOf begins sameBytes givenOf offerOf readOf hexOf arePairs bytesOf numberOf readOn
 turns = refl
 

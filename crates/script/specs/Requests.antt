@@ -12,7 +12,8 @@ use Rattle.numerals.specs.declared.Number.{Number}
 use Rattle.numerals.specs.declared.Number.the-variants as number
 use Rattle.numerals.specs.declared.Hex.{Hex}
 use Rattle.numerals.specs.declared.Hex.the-variants as hex
-use Rattle.script.specs.declared.Verb.the-variants.{Allocate, Flush, Confirm, Confirmed, SendPacingResponse, SendData, PrepareToReceive, Deallocate, Receive}
+use Rattle.script.specs.declared.Verb.the-variants.{Allocate, Confirmed, SendPacingResponse, SendData, Receive}
+use Rattle.script.specs.Closing.{flush, confirm, prepareToReceive, deallocate}
 use Rattle.script.specs.declared.Request.{Request}
 use Rattle.script.specs.declared.Request.the-variants.{Call, Take, Offer}
 use Rattle.script.specs.declared.Parsed.{Parsed}
@@ -38,19 +39,19 @@ wordRows =
     -- allocate
     (0x61 ∷ 0x6C ∷ 0x6C ∷ 0x6F ∷ 0x63 ∷ 0x61 ∷ 0x74 ∷ 0x65 ∷ [], Call Allocate)
     -- flush
-    ∷ (0x66 ∷ 0x6C ∷ 0x75 ∷ 0x73 ∷ 0x68 ∷ [], Call Flush)
+    ∷ (0x66 ∷ 0x6C ∷ 0x75 ∷ 0x73 ∷ 0x68 ∷ [], Call flush)
     -- confirm
-    ∷ (0x63 ∷ 0x6F ∷ 0x6E ∷ 0x66 ∷ 0x69 ∷ 0x72 ∷ 0x6D ∷ [], Call Confirm)
+    ∷ (0x63 ∷ 0x6F ∷ 0x6E ∷ 0x66 ∷ 0x69 ∷ 0x72 ∷ 0x6D ∷ [], Call confirm)
     -- confirmed
     ∷ (0x63 ∷ 0x6F ∷ 0x6E ∷ 0x66 ∷ 0x69 ∷ 0x72 ∷ 0x6D ∷ 0x65 ∷ 0x64 ∷ [], Call Confirmed)
     -- turn
-    ∷ (0x74 ∷ 0x75 ∷ 0x72 ∷ 0x6E ∷ [], Call (PrepareToReceive false))
+    ∷ (0x74 ∷ 0x75 ∷ 0x72 ∷ 0x6E ∷ [], Call (prepareToReceive false))
     -- turn confirm
-    ∷ (0x74 ∷ 0x75 ∷ 0x72 ∷ 0x6E ∷ 0x20 ∷ 0x63 ∷ 0x6F ∷ 0x6E ∷ 0x66 ∷ 0x69 ∷ 0x72 ∷ 0x6D ∷ [], Call (PrepareToReceive true))
+    ∷ (0x74 ∷ 0x75 ∷ 0x72 ∷ 0x6E ∷ 0x20 ∷ 0x63 ∷ 0x6F ∷ 0x6E ∷ 0x66 ∷ 0x69 ∷ 0x72 ∷ 0x6D ∷ [], Call (prepareToReceive true))
     -- end
-    ∷ (0x65 ∷ 0x6E ∷ 0x64 ∷ [], Call (Deallocate false))
+    ∷ (0x65 ∷ 0x6E ∷ 0x64 ∷ [], Call (deallocate false))
     -- end confirm
-    ∷ (0x65 ∷ 0x6E ∷ 0x64 ∷ 0x20 ∷ 0x63 ∷ 0x6F ∷ 0x6E ∷ 0x66 ∷ 0x69 ∷ 0x72 ∷ 0x6D ∷ [], Call (Deallocate true))
+    ∷ (0x65 ∷ 0x6E ∷ 0x64 ∷ 0x20 ∷ 0x63 ∷ 0x6F ∷ 0x6E ∷ 0x66 ∷ 0x69 ∷ 0x72 ∷ 0x6D ∷ [], Call (deallocate true))
     -- take
     ∷ (0x74 ∷ 0x61 ∷ 0x6B ∷ 0x65 ∷ [], Take)
     -- pace

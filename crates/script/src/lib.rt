@@ -5,19 +5,17 @@ mod six_numbers;
 pub mod text;
 mod words;
 
+use header::Follows;
+
 // A call that an end answers by itself. Bytes given, and the buffer of a read, stand beside it.
 pub enum Verb {
     Allocate,
-    Flush,
-    Confirm,
     Confirmed,
     // Document 01: pace.
     SendPacingResponse,
     SendData,
-    // Document 01: turn, with or without confirmation.
-    PrepareToReceive(bool),
-    // Document 01: end, with or without confirmation.
-    Deallocate(bool),
+    // What follows, and whether confirmation is asked. Document 01: flush, confirm, turn and end.
+    Close(Follows, bool),
     // Document 01: read.
     Receive,
 }

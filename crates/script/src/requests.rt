@@ -4,6 +4,7 @@ use crate::Parsed;
 use crate::Request;
 use crate::Verb;
 use cells::same;
+use header::Follows;
 use numerals::Hex;
 use numerals::Number;
 use numerals::hexadecimal::hex;
@@ -35,10 +36,10 @@ pub(crate) fn words_alone(second: bool, words: &[u8]) -> Parsed
         return plain(second, Request::Call(Verb::Allocate), 0);
     }
     if same(words, b"flush") {
-        return plain(second, Request::Call(Verb::Flush), 0);
+        return plain(second, Request::Call(Verb::Close(Follows::Stay, false)), 0);
     }
     if same(words, b"confirm") {
-        return plain(second, Request::Call(Verb::Confirm), 0);
+        return plain(second, Request::Call(Verb::Close(Follows::Stay, true)), 0);
     }
     if same(words, b"confirmed") {
         return plain(second, Request::Call(Verb::Confirmed), 0);
@@ -50,16 +51,32 @@ fn turn_or_end(second: bool, words: &[u8]) -> Parsed
     ensures { λ r. ⌜ r ≡ rowOf second (now (words .entry)) (drop 4 wordRows) ⌝ }
 {
     if same(words, b"turn") {
-        return plain(second, Request::Call(Verb::PrepareToReceive(false)), 0);
+        return plain(
+            second,
+            Request::Call(Verb::Close(Follows::ChangeDirection, false)),
+            0,
+        );
     }
     if same(words, b"turn confirm") {
-        return plain(second, Request::Call(Verb::PrepareToReceive(true)), 0);
+        return plain(
+            second,
+            Request::Call(Verb::Close(Follows::ChangeDirection, true)),
+            0,
+        );
     }
     if same(words, b"end") {
-        return plain(second, Request::Call(Verb::Deallocate(false)), 0);
+        return plain(
+            second,
+            Request::Call(Verb::Close(Follows::EndBracket, false)),
+            0,
+        );
     }
     if same(words, b"end confirm") {
-        return plain(second, Request::Call(Verb::Deallocate(true)), 0);
+        return plain(
+            second,
+            Request::Call(Verb::Close(Follows::EndBracket, true)),
+            0,
+        );
     }
     take_pace_send(second, words)
 }

@@ -13,31 +13,28 @@ use Rattle.end.specs.declared.End.{End}
 use Rattle.end.specs.declared.Done.{Done}
 use Rattle.end.specs.declared.ReadDone.{ReadDone}
 use Rattle.joined.specs.Joined.{Acted}
-use Rattle.joined.specs.Ends.{Station, Reply, unitsOf, makes, sends, copies}
+use Rattle.joined.specs.Ends.{Lane, Station, Reply, unitsOf, onNormal, makes, sends, copies}
 use Rattle.joined.proofs.Cases.{cases}
 use Rattle.script.specs.declared.Verb.{Verb}
-use Rattle.script.specs.declared.Verb.the-variants.{Allocate, Flush, Confirm, Confirmed, SendPacingResponse, SendData, PrepareToReceive, Deallocate, Receive}
+use Rattle.script.specs.declared.Verb.the-variants.{Allocate, Confirmed, SendPacingResponse, SendData, Close, Receive}
 use Rattle.script_calls.specs.Calls.{isRead, stationOf, plainDone}
 
 -- one call alone is a read
 pub read-is : (v : Verb) → isRead v ≡ true → v ≡ Receive
 read-is Allocate e = absurd (false≢true e)
-read-is Flush e = absurd (false≢true e)
-read-is Confirm e = absurd (false≢true e)
 read-is Confirmed e = absurd (false≢true e)
 read-is SendPacingResponse e = absurd (false≢true e)
 read-is SendData e = absurd (false≢true e)
-read-is (PrepareToReceive b) e = absurd (false≢true e)
-read-is (Deallocate b) e = absurd (false≢true e)
+read-is (Close f b) e = absurd (false≢true e)
 read-is Receive e = refl
 
 -- the end, the cells, the reply's buffer and the unit made, of what is handed back
-abbrev pub left : ReadDone → List ℕ → List ℕ → List ℕ → List ℕ → Acted Station Reply (List ℕ)
+abbrev pub left : ReadDone → List ℕ → List ℕ → List ℕ → List ℕ → Acted Lane Station Reply (List ℕ)
 left d send unit inbox buffer =
     record {
       end = stationOf (d .end) send unit inbox;
       answer = record { answer = d .answer; buffer = buffer };
-      sent = unitsOf (d .answer .answer .unit) unit;
+      sent = onNormal (unitsOf (d .answer .answer .unit) unit);
     }
 
 pub made-left : (s : Station) (d : Done) (r : ReadDone) (unit : List ℕ) (m : Made) → r ≡ plainDone d → madeBy d unit ≡ m
@@ -63,4 +60,5 @@ copied-left s r inbox buffer before e =
     let z : r .answer .answer .unit ≡ 0 =
     ap (λ (m : Copied). m .done .answer .answer .unit) e ∙ no-unit (s .end) (s .inbox) (length before) in
     let answers : Reply = record { answer = r .answer; buffer = buffer } in
-    ap (λ (n : ℕ). record { end = stationOf (r .end) (s .send) (s .unit) inbox; answer = answers; sent = unitsOf n (s .unit) }) z ∙ ap (copies s) e
+    ap (λ (n : ℕ). record { end = stationOf (r .end) (s .send) (s .unit) inbox; answer = answers; sent = onNormal (unitsOf n (s .unit)) }) z
+    ∙ ap (copies s) e

@@ -9,31 +9,25 @@ use Rattle.answers.specs.declared.ReadAnswer.{ReadAnswer}
 use Rattle.end.specs.declared.ReadDone.{ReadDone}
 use Rattle.joined.specs.Joined.{Acted}
 use Rattle.joined.specs.Ends as J
-use Rattle.joined.specs.Ends.{Station, Reply, plain, unitsOf}
+use Rattle.joined.specs.Ends.{Lane, Station, Reply, plain, unitsOf, onNormal}
 use Rattle.script.specs.declared.Verb.{Verb}
-use Rattle.script.specs.declared.Verb.the-variants.{Allocate, Flush, Confirm, Confirmed, SendPacingResponse, SendData, PrepareToReceive, Deallocate, Receive}
+use Rattle.script.specs.declared.Verb.the-variants.{Allocate, Confirmed, SendPacingResponse, SendData, Close, Receive}
 
 -- the call of two joined ends, with the bytes given and the cells of a read's buffer
 abbrev pub verbOf : Verb → List ℕ → List ℕ → J.Verb
 verbOf Allocate given buffer = J.allocate
-verbOf Flush given buffer = J.flush
-verbOf Confirm given buffer = J.confirm
 verbOf Confirmed given buffer = J.confirmed
 verbOf SendPacingResponse given buffer = J.pace
 verbOf SendData given buffer = J.sendData given
-verbOf (PrepareToReceive b) given buffer = J.prepareToReceive b
-verbOf (Deallocate b) given buffer = J.deallocate b
+verbOf (Close f b) given buffer = J.close f b
 verbOf Receive given buffer = J.receive buffer
 
 abbrev pub isRead : Verb → Bool
 isRead Allocate = false
-isRead Flush = false
-isRead Confirm = false
 isRead Confirmed = false
 isRead SendPacingResponse = false
 isRead SendData = false
-isRead (PrepareToReceive b) = false
-isRead (Deallocate b) = false
+isRead (Close f b) = false
 isRead Receive = true
 
 -- only a read's reply has the cells of a buffer
@@ -44,12 +38,12 @@ abbrev pub stationOf : End → List ℕ → List ℕ → List ℕ → Station
 stationOf e send unit inbox = record { end = e; send = send; unit = unit; inbox = inbox }
 
 -- what a call leaves, by what it hands back and the cells it is lent as it returns
-abbrev pub actedBy : Verb → ReadDone → List ℕ → List ℕ → List ℕ → List ℕ → Acted Station Reply (List ℕ)
+abbrev pub actedBy : Verb → ReadDone → List ℕ → List ℕ → List ℕ → List ℕ → Acted Lane Station Reply (List ℕ)
 actedBy v d send unit inbox buffer =
     record {
       end = stationOf (d .end) send unit inbox;
       answer = replyOf v (d .answer) buffer;
-      sent = unitsOf (d .answer .answer .unit) unit;
+      sent = onNormal (unitsOf (d .answer .answer .unit) unit);
     }
 
 -- the answer of a call that is no read: nothing copied, no record complete, no mark

@@ -34,13 +34,10 @@ fn is_read(verb: Verb) -> bool
 {
     match verb {
         Verb::Allocate => false,
-        Verb::Flush => false,
-        Verb::Confirm => false,
         Verb::Confirmed => false,
         Verb::SendPacingResponse => false,
         Verb::SendData => false,
-        Verb::PrepareToReceive(_) => false,
-        Verb::Deallocate(_) => false,
+        Verb::Close(_, _) => false,
         Verb::Receive => true,
     }
 }
@@ -64,13 +61,10 @@ fn make(end: End, verb: Verb, given: &[u8], send: &mut [u8], unit: &mut [u8]) ->
 {
     match verb {
         Verb::Allocate => end.allocate(unit),
-        Verb::Flush => end.flush(send, unit),
-        Verb::Confirm => end.confirm(send, unit),
         Verb::Confirmed => end.confirmed(unit),
         Verb::SendPacingResponse => end.send_pacing_response(unit),
         Verb::SendData => end.send_data(given, send, unit),
-        Verb::PrepareToReceive(confirm) => end.prepare_to_receive(confirm, send, unit),
-        Verb::Deallocate(confirm) => end.deallocate(confirm, send, unit),
+        Verb::Close(follows, confirm) => end.close(follows, confirm, send, unit),
         Verb::Receive => unmade(end),
     }
 }

@@ -8,7 +8,8 @@ use mathlib.Core.List.{List, [], _∷_}
 use lib.Dec.{eqb}
 use Rattle.control.specs.declared.State.{State}
 use Rattle.control.specs.declared.State.the-variants.{Reset, Send, Receive, ConfirmOwed, ConfirmAwaited}
-use Rattle.joined.specs.Ends.{Station, Verb, takes, plain}
+use Rattle.joined.specs.Ends as J
+use Rattle.joined.specs.Ends.{normal, Station, Verb, takes, plain, onNormal}
 use Rattle.worked_examples.specs.Computed.{computed}
 use Rattle.worked_examples.specs.Stations.{zeros, firstSpeaker, bidder, after, takeRefuses, afterTaking, shortestRecord, firstUnit, secondUnit, thirdUnit, aBid, aPacingAnswer, sending, oneSent, hasBid, receiving}
 
@@ -17,11 +18,11 @@ use Rattle.worked_examples.specs.Stations.{zeros, firstSpeaker, bidder, 
 abbrev pub Refused : Station → List ℕ → ℕ → ℕ → Type 0
 Refused s u number sense =
     (naming : List ℕ → ℕ)
-    → takes naming s u
+    → takes naming normal s u
     ≡ record {
       end = s;
       answer = plain (record { refusal = number; sense = sense; rule = cond (eqb number 21) (naming u) 0; unit = 0 });
-      sent = [];
+      sent = onNormal [];
       removed = false;
     }
 
@@ -52,7 +53,7 @@ owes =
 
 -- a first speaker in Waits, for a confirmation of number 1
 abbrev pub waits : Station
-waits = after sending (Verb.sendData shortestRecord ∷ Verb.confirm ∷ [])
+waits = after sending (Verb.sendData shortestRecord ∷ J.confirm ∷ [])
 
 -- a bidder that has taken a unit with CD and has not read it: the mark is turn
 abbrev pub marked : Station

@@ -9,7 +9,8 @@ use Rattle.control.specs.declared.State.{State}
 use Rattle.control.specs.declared.State.the-variants.{Reset, Send, Receive}
 use Rattle.end.specs.Record.{creditOf}
 use Rattle.joined.specs.Joined.{At, first, second, act, take, acted, took, Side, Both}
-use Rattle.joined.specs.Ends.{Station, Verb, Reply, refusalIn, openedBoth}
+use Rattle.joined.specs.Ends as J
+use Rattle.joined.specs.Ends.{Lane, normal, Station, Verb, Reply, refusalIn, openedBoth}
 use Rattle.joined.specs.Histories as H
 use Rattle.joined.specs.Histories.{Log, pacingResponsesTaken, requestsMade}
 use Rattle.worked_examples.specs.Computed.{computed}
@@ -19,9 +20,9 @@ use Rattle.worked_examples.specs.Stations.{zeros, session, joined, runs}
 abbrev pub numbers : Log → List ℕ
 numbers [] = []
 numbers (acted v r us ∷ es) = numbers es ++ (refusalIn r ∷ [])
-numbers (took u r us ∷ es) = numbers es ++ (refusalIn r ∷ [])
+numbers (took l u r us ∷ es) = numbers es ++ (refusalIn r ∷ [])
 
-abbrev pub stateOf : Side Station Verb Reply (List ℕ) → State
+abbrev pub stateOf : Side Lane Station Verb Reply (List ℕ) → State
 stateOf s = s .end .end .control .state
 
 -- ---- a bid crosses the first speaker's data
@@ -31,20 +32,20 @@ aRecord = 0x00 ∷ 0x05 ∷ 0x41 ∷ 0x42 ∷ 0x43 ∷ []
 
 -- the bidder bids while the first speaker begins, sends a record and ends; the bid is granted once the bracket has ended, but the bidder reads
 -- the record and its end before it takes the grant
-abbrev pub race : List (At Verb)
+abbrev pub race : List (At Lane Verb)
 race =
     second (act Verb.allocate)
     ∷ first (act Verb.allocate)
     ∷ first (act (Verb.sendData aRecord))
-    ∷ first (act (Verb.deallocate false))
-    ∷ first take
-    ∷ second take
+    ∷ first (act (J.deallocate false))
+    ∷ first (take normal)
+    ∷ second (take normal)
     ∷ second (act (Verb.receive (zeros 3)))
     ∷ second (act (Verb.receive (zeros 64)))
-    ∷ second take
+    ∷ second (take normal)
     ∷ second (act (Verb.receive (zeros 64)))
-    ∷ second take
-    ∷ first take
+    ∷ second (take normal)
+    ∷ first (take normal)
     ∷ []
 
 pub record Race : Type 0 where
@@ -58,15 +59,15 @@ pub record Race : Type 0 where
 -- ---- the bid comes too late
 
 -- the same, but the first speaker takes the bid while it still sends: the bid is refused, and the bidder has the turn by reading CD
-abbrev pub refused : List (At Verb)
+abbrev pub refused : List (At Lane Verb)
 refused =
     second (act Verb.allocate)
     ∷ first (act Verb.allocate)
     ∷ first (act (Verb.sendData aRecord))
-    ∷ first take
-    ∷ first (act (Verb.prepareToReceive false))
-    ∷ second take
-    ∷ second take
+    ∷ first (take normal)
+    ∷ first (act (J.prepareToReceive false))
+    ∷ second (take normal)
+    ∷ second (take normal)
     ∷ second (act (Verb.receive (zeros 64)))
     ∷ second (act (Verb.receive (zeros 1)))
     ∷ []
@@ -90,25 +91,25 @@ abbrev pub four : List ℕ
 four = 0x0F ∷ 0x10 ∷ 0x11 ∷ 0x12 ∷ []
 
 -- W 2, M 8, and an inbox of 32, so that the receiving end may answer before its inbox is empty
-abbrev pub cutEnds : Both Station Verb Reply (List ℕ)
+abbrev pub cutEnds : Both Lane Station Verb Reply (List ℕ)
 cutEnds =
     openedBoth (session 0 2 8) (session 1 2 8) (record { send = zeros 8; unit = zeros 13; inbox = zeros 32 })
     (record { send = zeros 8; unit = zeros 13; inbox = zeros 32 })
 
-abbrev pub cut : List (At Verb)
+abbrev pub cut : List (At Lane Verb)
 cut =
     first (act Verb.allocate)
     ∷ first (act (Verb.sendData eight))
     ∷ first (act (Verb.sendData sixteen))
-    ∷ second take
+    ∷ second (take normal)
     ∷ second (act Verb.pace)
     ∷ first (act (Verb.sendData four))
-    ∷ first (act (Verb.deallocate false))
-    ∷ first take
-    ∷ first (act (Verb.deallocate false))
+    ∷ first (act (J.deallocate false))
+    ∷ first (take normal)
+    ∷ first (act (J.deallocate false))
     ∷ second (act (Verb.receive (zeros 5)))
-    ∷ second take
-    ∷ second take
+    ∷ second (take normal)
+    ∷ second (take normal)
     ∷ second (act (Verb.receive (zeros 32)))
     ∷ second (act (Verb.receive (zeros 32)))
     ∷ []
@@ -125,16 +126,16 @@ pub record Cut : Type 0 where
 
 -- ---- confirm-turn
 
-abbrev pub confirmTurn : List (At Verb)
+abbrev pub confirmTurn : List (At Lane Verb)
 confirmTurn =
     first (act Verb.allocate)
     ∷ first (act (Verb.sendData aRecord))
-    ∷ first (act (Verb.prepareToReceive true))
-    ∷ second take
+    ∷ first (act (J.prepareToReceive true))
+    ∷ second (take normal)
     ∷ second (act (Verb.receive (zeros 8)))
     ∷ second (act (Verb.receive (zeros 8)))
     ∷ second (act Verb.confirmed)
-    ∷ first take
+    ∷ first (take normal)
     ∷ []
 
 pub record ConfirmTurn : Type 0 where

@@ -6,6 +6,7 @@ use mathlib.Core.Bool.{Bool, true, false}
 use mathlib.Core.List.{List, [], _∷_, _++_}
 use Rattle.end.specs.Record.{creditOf, openOf}
 use Rattle.end.specs.Outcome.{withSending, withReceiving}
+use Rattle.joined.specs.Ends as J
 use Rattle.joined.specs.Ends.{Station, Verb, openedWith}
 use Rattle.worked_examples.specs.Computed.{computed}
 use Rattle.worked_examples.specs.Stations.{zeros, session, firstSpeaker, bidder, after, makes, unitsMade, refuses, taking, takeRefuses, afterTaking, takesRefuse, flushed, firstUnit, secondUnit, thirdUnit, aBid, aPacingAnswer, sending, oneSent, twoSent, hasBid, receiving}
@@ -127,16 +128,16 @@ abbrev pub inRecord : Station
 inRecord = after sending (Verb.sendData (0x00 ∷ 0x05 ∷ 0x41 ∷ []) ∷ [])
 
 pub record Unfinished : Type 0 where
-  pub turn : refuses inRecord (Verb.prepareToReceive false) ≡ 9
-  pub confirm-turn : refuses inRecord (Verb.prepareToReceive true) ≡ 9
-  pub end : refuses inRecord (Verb.deallocate false) ≡ 9
-  pub confirm-end : refuses inRecord (Verb.deallocate true) ≡ 9
-  pub confirm : refuses inRecord Verb.confirm ≡ 9
+  pub turn : refuses inRecord (J.prepareToReceive false) ≡ 9
+  pub confirm-turn : refuses inRecord (J.prepareToReceive true) ≡ 9
+  pub end : refuses inRecord (J.deallocate false) ≡ 9
+  pub confirm-end : refuses inRecord (J.deallocate true) ≡ 9
+  pub confirm : refuses inRecord J.confirm ≡ 9
   -- a flush is accepted, and the record is unfinished still
-  pub flush : makes inRecord Verb.flush ≡ (0x00 ∷ 0x01 ∷ 0x03 ∷ 0x91 ∷ 0x80 ∷ 0x00 ∷ 0x05 ∷ 0x41 ∷ []) ∷ []
-  pub turn-flushed : refuses (after inRecord (Verb.flush ∷ [])) (Verb.prepareToReceive false) ≡ 9
+  pub flush : makes inRecord J.flush ≡ (0x00 ∷ 0x01 ∷ 0x03 ∷ 0x91 ∷ 0x80 ∷ 0x00 ∷ 0x05 ∷ 0x41 ∷ []) ∷ []
+  pub turn-flushed : refuses (after inRecord (J.flush ∷ [])) (J.prepareToReceive false) ≡ 9
   -- the last two bytes, and the turn is made
-  pub turn-whole : refuses (after inRecord (Verb.flush ∷ Verb.sendData (0x42 ∷ 0x43 ∷ []) ∷ [])) (Verb.prepareToReceive false) ≡ 0
+  pub turn-whole : refuses (after inRecord (J.flush ∷ Verb.sendData (0x42 ∷ 0x43 ∷ []) ∷ [])) (J.prepareToReceive false) ≡ 0
 
 pub record FurtherRows : Type 0 where
   pub numbers : Numbers

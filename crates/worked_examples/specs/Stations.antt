@@ -5,7 +5,8 @@ use mathlib.Core.List.{List, [], _∷_, _++_}
 use lib.ListN.{length}
 use Rattle.sides.specs.declared.Session.{Session}
 use Rattle.joined.specs.Joined.{Acted, Took, Side, Both, At, run}
-use Rattle.joined.specs.Ends.{Station, Verb, Reply, Buffers, acts, takes, openedWith, openedBoth}
+use Rattle.joined.specs.Ends as J
+use Rattle.joined.specs.Ends.{Lane, normal, sameLane, Station, Verb, Reply, Buffers, acts, takes, openedWith, openedBoth}
 
 abbrev pub zeros : ℕ → List ℕ
 zeros zero = []
@@ -33,7 +34,7 @@ after s [] = s
 after s (v ∷ vs) = after (acts s v .end) vs
 
 abbrev pub makes : Station → Verb → List (List ℕ)
-makes s v = acts s v .sent
+makes s v = acts s v .sent normal
 
 -- the units that calls in a row make
 abbrev pub unitsMade : Station → List Verb → List (List ℕ)
@@ -49,8 +50,8 @@ refuses s v = acts s v .answer .answer .answer .refusal
 abbrev pub anyRule : List ℕ → ℕ
 anyRule u = 0
 
-abbrev pub taking : Station → List ℕ → Took Station Reply (List ℕ)
-taking s u = takes anyRule s u
+abbrev pub taking : Station → List ℕ → Took Lane Station Reply (List ℕ)
+taking s u = takes anyRule normal s u
 
 -- its refusal number
 abbrev pub takeRefuses : Station → List ℕ → ℕ
@@ -67,11 +68,11 @@ takesRefuse s (u ∷ us) = takeRefuses s u ∷ takesRefuse (taking s u .end) us
 
 -- ---- two joined ends
 
-abbrev pub joined : ℕ → ℕ → Both Station Verb Reply (List ℕ)
+abbrev pub joined : ℕ → ℕ → Both Lane Station Verb Reply (List ℕ)
 joined window max = openedBoth (session 0 window max) (session 1 window max) (buffers window max) (buffers window max)
 
-abbrev pub runs : Both Station Verb Reply (List ℕ) → List (At Verb) → Both Station Verb Reply (List ℕ)
-runs s l = run acts (takes anyRule) s l
+abbrev pub runs : Both Lane Station Verb Reply (List ℕ) → List (At Lane Verb) → Both Lane Station Verb Reply (List ℕ)
+runs s l = run sameLane acts (takes anyRule) s l
 
 -- ---- W 3 and M 64
 
@@ -80,7 +81,7 @@ abbrev pub shortestRecord : List ℕ
 shortestRecord = 0x00 ∷ 0x02 ∷ []
 
 abbrev pub flushed : List Verb
-flushed = Verb.sendData shortestRecord ∷ Verb.flush ∷ []
+flushed = Verb.sendData shortestRecord ∷ J.flush ∷ []
 
 -- the first three such units of a first speaker
 abbrev pub firstUnit : List ℕ

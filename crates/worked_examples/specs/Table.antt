@@ -17,7 +17,8 @@ use Rattle.control.specs.declared.State.the-variants.{ConfirmOwed}
 use Rattle.control.specs.declared.WhatReceived.the-variants as mark
 use Rattle.end.specs.Outcome.{withControl, withOwed}
 use Rattle.end.specs.RuleNamed.{NamesBroken}
-use Rattle.joined.specs.Ends.{Station, Verb, acts, takes}
+use Rattle.joined.specs.Ends as J
+use Rattle.joined.specs.Ends.{normal, Station, Verb, acts, takes}
 use Rattle.joined.specs.Histories.{bytesInSendBuffer}
 use Rattle.worked_examples.specs.Computed.{computed}
 use Rattle.worked_examples.specs.Stations.{zeros, firstSpeaker, bidder, after, makes, refuses, taking, takeRefuses, shortestRecord, flushed, aBid, sending, receiving}
@@ -77,21 +78,21 @@ pub record Table : Type 0 where
   -- fresh bidder allocates
   pub bid : makes (bidder 3 64) Verb.allocate ≡ aBid ∷ []
   -- fresh first speaker takes it
-  pub grant : taking (firstSpeaker 3 64) aBid .sent ≡ (0x00 ∷ 0x01 ∷ 0xCB ∷ 0x80 ∷ 0x00 ∷ 0x04 ∷ []) ∷ []
+  pub grant : taking (firstSpeaker 3 64) aBid .sent normal ≡ (0x00 ∷ 0x01 ∷ 0xCB ∷ 0x80 ∷ 0x00 ∷ 0x04 ∷ []) ∷ []
   -- the same, already in Send
-  pub refusal : taking sending aBid .sent ≡ (0x00 ∷ 0x01 ∷ 0xCF ∷ 0x90 ∷ 0x00 ∷ 0x08 ∷ 0x13 ∷ 0x00 ∷ 0x00 ∷ 0x04 ∷ []) ∷ []
+  pub refusal : taking sending aBid .sent normal ≡ (0x00 ∷ 0x01 ∷ 0xCF ∷ 0x90 ∷ 0x00 ∷ 0x08 ∷ 0x13 ∷ 0x00 ∷ 0x00 ∷ 0x04 ∷ []) ∷ []
   -- confirmed, number owed 7
   pub confirmation : makes owing Verb.confirmed ≡ (0x00 ∷ 0x07 ∷ 0x83 ∷ 0x20 ∷ 0x00 ∷ []) ∷ []
   -- first speaker allocates, gives 00 05 41 42 43, ends
   pub ends :
-      makes (after sending (Verb.sendData (0x00 ∷ 0x05 ∷ 0x41 ∷ 0x42 ∷ 0x43 ∷ []) ∷ [])) (Verb.deallocate false)
+      makes (after sending (Verb.sendData (0x00 ∷ 0x05 ∷ 0x41 ∷ 0x42 ∷ 0x43 ∷ []) ∷ [])) (J.deallocate false)
       ≡ (0x00 ∷ 0x01 ∷ 0x03 ∷ 0x91 ∷ 0x81 ∷ 0x00 ∷ 0x05 ∷ 0x41 ∷ 0x42 ∷ 0x43 ∷ []) ∷ []
   -- M 8: gives 00 0A 31 to 36, then 37 38
   pub cut :
       makes eightGiven twoMore
       ≡ (0x00 ∷ 0x01 ∷ 0x02 ∷ 0x91 ∷ 0x80 ∷ 0x00 ∷ 0x0A ∷ 0x31 ∷ 0x32 ∷ 0x33 ∷ 0x34 ∷ 0x35 ∷ 0x36 ∷ []) ∷ []
   -- then confirm
-  pub confirm : makes (after eightGiven (twoMore ∷ [])) Verb.confirm ≡ (0x00 ∷ 0x02 ∷ 0x01 ∷ 0x20 ∷ 0x00 ∷ 0x37 ∷ 0x38 ∷ []) ∷ []
+  pub confirm : makes (after eightGiven (twoMore ∷ [])) J.confirm ≡ (0x00 ∷ 0x02 ∷ 0x01 ∷ 0x20 ∷ 0x00 ∷ 0x37 ∷ 0x38 ∷ []) ∷ []
   -- header 03 90 20 is good: a unit of it is taken where it fits, and leaves the mark of a turn
   pub good-header : headerGood (bytes 0x03 0x90 0x20) ≡ true
   pub good-taken : takeRefuses receiving goodUnit ≡ 0
@@ -102,16 +103,16 @@ pub record Table : Type 0 where
   pub bad-header :
       (naming : List ℕ → ℕ)
       → NamesBroken (naming badUnit) (headerIn badUnit)
-      → takes naming receiving badUnit .answer .answer .answer ≡ record { refusal = 21; sense = 0; rule = 5; unit = 0 }
+      → takes naming normal receiving badUnit .answer .answer .answer ≡ record { refusal = 21; sense = 0; rule = 5; unit = 0 }
   -- LL 00 02 given: accepted, a whole record; the place is between records, and the end carries the record
   pub good-length : refuses sending (Verb.sendData length2) ≡ 0
   pub whole-record : wholeRecords (bytesInSendBuffer length2Given) ≡ (0x00 ∷ 0x02 ∷ []) ∷ []
   pub whole-place : length2Given .end .sending .given ≡ Between
-  pub whole-carried : makes length2Given (Verb.deallocate false) ≡ (0x00 ∷ 0x01 ∷ 0x03 ∷ 0x91 ∷ 0x81 ∷ 0x00 ∷ 0x02 ∷ []) ∷ []
+  pub whole-carried : makes length2Given (J.deallocate false) ≡ (0x00 ∷ 0x01 ∷ 0x03 ∷ 0x91 ∷ 0x81 ∷ 0x00 ∷ 0x02 ∷ []) ∷ []
   -- LL 00 01 given: 8
   pub bad-length : refuses sending (Verb.sendData length1) ≡ 8
   -- W 2: third unit before a pacing answer
-  pub no-credit : refuses twoGone Verb.flush ≡ 10
+  pub no-credit : refuses twoGone J.flush ≡ 10
   -- inbox 00 05 41 42 43 00, read 4, 4, 4
   pub read-first : copied holding read4 ≡ 0x00 ∷ 0x05 ∷ 0x41 ∷ 0x42 ∷ []
   pub not-complete : complete holding read4 ≡ false
