@@ -7,17 +7,14 @@ use Prim.Native.Nat.{ℕ, zero, suc}
 use native.Mathlib.Omega.{arith}
 use lib.ListN.{getD}
 use lib.Dec.{T, eqb}
-use Rattle.answers.specs.Questions.{firstNo}
+use borrow.Author.Tests.{ne-eqb}
+use Rattle.answers.specs.Questions.{firstNo, thenAsk}
 
-pub both : (a b : Bool) → a && b ≡ true → (a ≡ true) × (b ≡ true)
-both true b e = (refl, e)
-both false b e = absurd (let z : _≡_ {A = ℕ} 0 1 = cc in omega arith)
-
-both-left : (a b : Bool) → T (a && b) → T a
+pub both-left : (a b : Bool) → T (a && b) → T a
 both-left true b t = tt
 both-left false b t = t
 
-both-right : (a b : Bool) → T (a && b) → T b
+pub both-right : (a b : Bool) → T (a && b) → T b
 both-right true b t = t
 both-right false b t = absurd t
 
@@ -30,7 +27,7 @@ abbrev pub outcomes : List (Bool × ℕ) → List Bool
 outcomes [] = []
 outcomes (q ∷ qs) = q .0 ∷ outcomes qs
 
-one : (a : Bool) (rest n : ℕ) → T (not (eqb n 0)) → cond a rest n ≡ 0 → (a ≡ true) × (rest ≡ 0)
+pub one : (a : Bool) (rest n : ℕ) → T (not (eqb n 0)) → cond a rest n ≡ 0 → (a ≡ true) × (rest ≡ 0)
 one true rest n t e = (refl, e)
 one false rest n t e = absurd (subst (λ (k : ℕ). T (not (eqb k 0))) e t)
 
@@ -46,3 +43,27 @@ yes (q ∷ qs) t e k =
     at-place : (a : Bool) (bs : List Bool) (k : ℕ) → a ≡ true → ((j : ℕ) → getD bs j true ≡ true) → getD (a ∷ bs) k true ≡ true
     at-place a bs zero h f = h
     at-place a bs (suc k) h f = f k
+
+-- a row asked from its first question to its last. At a row that is written out this is what the code computes
+abbrev pub asked : ℕ → List (Bool × ℕ) → ℕ
+asked before [] = before
+asked before (q ∷ qs) = asked (thenAsk before (q .0) (q .1)) qs
+
+-- a number once given stands
+stands : (n : ℕ) (qs : List (Bool × ℕ)) → (n ≡ 0 → ⊥) → asked n qs ≡ n
+unfolding thenAsk
+stands n [] z = refl
+stands n (q ∷ qs) z = rw (ne-eqb n 0 z) (stands n qs z)
+
+first-asked : (a : Bool) (n : ℕ) (qs : List (Bool × ℕ)) → T (not (eqb n 0)) → asked 0 qs ≡ firstNo qs
+    → asked (thenAsk 0 a n) qs ≡ cond a (firstNo qs) n
+unfolding thenAsk
+first-asked true n qs t h = h
+first-asked false n qs t h = stands n qs (λ z. subst (λ (k : ℕ). T (not (eqb k 0))) z t)
+
+-- no question has the number 0, so the row gives its first "no"
+pub in-order : (qs : List (Bool × ℕ)) → T (numbered qs) → asked 0 qs ≡ firstNo qs
+in-order [] t = refl
+in-order (q ∷ qs) t =
+    first-asked (q .0) (q .1) qs (both-left (not (eqb (q .1) 0)) (numbered qs) t)
+    (in-order qs (both-right (not (eqb (q .1) 0)) (numbered qs) t))

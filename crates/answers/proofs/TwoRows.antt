@@ -1,15 +1,16 @@
 -- A row of questions in two parts, and numbers that a row never gives.
 -- Assumes nothing.
-use mathlib.Core.Path.{_≡_, refl}
+use mathlib.Core.Path.{_≡_, refl, sym, subst}
 use mathlib.Core.Bool.{Bool, true, false, not, cond, _&&_}
 use mathlib.Core.List.{List, [], _∷_, _++_}
 use Prim.Native.Nat.{ℕ, suc}
 use native.Mathlib.Omega.{arith}
 use lib.ListN.{getD}
-use lib.Dec.{eqb}
+use lib.Dec.{T, eqb}
 use borrow.Author.Tests.{eq-eqb}
 use Rattle.answers.specs.Questions.{firstNo}
-use Rattle.answers.proofs.Rows.{both, outcomes}
+use Rattle.bools.proofs.Tests.{both}
+use Rattle.answers.proofs.Rows.{both-left, both-right, one, numbered, outcomes}
 
 -- the first part is passed
 pub pass : (xs ys : List (Bool × ℕ)) → ((k : ℕ) → getD (outcomes xs) k true ≡ true) → firstNo (xs ++ ys) ≡ firstNo ys
@@ -24,6 +25,14 @@ stop-one false x y n h f = refl
 pub stop : (xs ys : List (Bool × ℕ)) → (firstNo xs ≡ 0 → ⊥) → firstNo (xs ++ ys) ≡ firstNo xs
 stop [] ys h = absurd (h refl)
 stop (q ∷ xs) ys h = stop-one (q .0) (firstNo xs) (firstNo (xs ++ ys)) (q .1) h (stop xs ys)
+
+-- both parts are passed
+pub pass-both : (xs ys : List (Bool × ℕ)) → T (numbered xs) → firstNo (xs ++ ys) ≡ 0 → (firstNo xs ≡ 0) × (firstNo ys ≡ 0)
+pass-both [] ys t e = (refl, e)
+pass-both (q ∷ xs) ys t e =
+    let o = one (q .0) (firstNo (xs ++ ys)) (q .1) (both-left (not (eqb (q .1) 0)) (numbered xs) t) e in
+    let p = pass-both xs ys (both-right (not (eqb (q .1) 0)) (numbered xs) t) (o .1) in
+    (subst (λ (b : Bool). cond b (firstNo xs) (q .1) ≡ 0) (sym (o .0)) (p .0), p .1)
 
 -- no question of a row has the number n
 abbrev pub lacks : ℕ → List (Bool × ℕ) → Bool

@@ -3,7 +3,6 @@ pub mod numbers;
 pub mod questions;
 
 use crate::numbers::BAD_HEADER;
-use crate::questions::ask;
 use control::Control;
 use control::WhatReceived;
 use header::Rule;
@@ -96,7 +95,7 @@ pub fn refuse(number: u8) -> Answer
 fn rule_for(number: u8, rule: u8) -> u8
     ensures { λ r. ⌜ r ≡ refusedNaming rule number .rule ⌝ }
 {
-    ask(number == BAD_HEADER, 0, rule)
+    if number == BAD_HEADER { rule } else { 0 }
 }
 
 // A refusal that names the rule broken, where its number is that of a bad header.

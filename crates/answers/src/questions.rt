@@ -1,11 +1,13 @@
-// Questions before each call, asked one by one.
+// Questions before each call, asked one by one, the first first.
 ghost use mathlib.Core.Path.{_≡_};
-ghost use mathlib.Core.Bool.{cond};
+ghost use Rattle.answers.specs.Questions.{thenAsk};
 
-// One question. A row is asked from its last question to its first: `rest` is what the later ones gave, and stands only if
-// this one is answered yes.
-pub fn ask(ok: bool, number: u8, rest: u8) -> u8
-    ensures { λ r. ⌜ r ≡ cond ok rest number ⌝ }
+// One question of a row. `before` is what those before it gave: a number stands; after none but yes, 0, this one is answered.
+pub fn then_ask(before: u8, ok: bool, number: u8) -> u8
+    ensures { λ r. ⌜ r ≡ thenAsk before ok number ⌝ }
 {
-    if ok { rest } else { number }
+    if before != 0 {
+        return before;
+    }
+    if ok { 0 } else { number }
 }

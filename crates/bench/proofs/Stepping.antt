@@ -6,7 +6,7 @@ use mathlib.Core.Bool.{Bool, true, false, cond}
 use mathlib.Core.List.{List, [], _∷_, _++_}
 use native.Mathlib.Omega.{arith}
 use lib.Dec.{leb, eqb}
-use lib.ListN.{length, take}
+use lib.ListN.{length}
 use Rattle.unit.specs.Unit.{headerIn}
 use Rattle.end.specs.Outcome.{Taken}
 use Rattle.end.specs.Results.{takenBy}
@@ -15,9 +15,8 @@ use Rattle.end.specs.RuleNamed.{NamesBroken}
 use Rattle.end.specs.declared.Done.{Done}
 use Rattle.answers.specs.declared.ReadAnswer.{ReadAnswer}
 use Rattle.end.specs.declared.ReadDone.{ReadDone}
-use Rattle.joined.specs.Joined.{Acted, Took}
-use Rattle.joined.specs.Ends as J
-use Rattle.joined.specs.Ends.{Lane, normal, Station, Reply, plain, unitsOf, onNormal, acts, takes}
+use Rattle.joined.specs.Joined.{Took}
+use Rattle.joined.specs.Ends.{Lane, normal, onNormal, acts, takes}
 use Rattle.joined.specs.Histories.{Log}
 use Rattle.script.specs.declared.Verb.{Verb}
 use Rattle.script.specs.declared.Request.{Request}
@@ -28,7 +27,8 @@ use Rattle.bench.specs.declared.Outcome.the-variants.{Answered, NothingW
 use Rattle.unit_lines.specs.Lines.{Holds}
 use Rattle.script_calls.specs.Calls.{verbOf, isRead, stationOf, actedBy, plainDone}
 use Rattle.bench.specs.Step.{Bench, benchOf, unlessFull, outcomeOf, replyTo, NamesRule, accepted, Steps}
-use Rattle.bench.proofs.Lengths.{Fits, acts-fit, takes-fit}
+use Rattle.calls.proofs.UnitSizes.{Fits, acts-fit, takes-fit}
+use Rattle.calls.specs.Calls.{Called, called, taken, Reply, Station, plain, unitsOf}
 
 -- ---- outcomes are apart
 
@@ -71,10 +71,10 @@ nothing-step given b o a b₁ es vs eo eb =
 -- ---- a call
 
 module _ (v : Verb) (given : List ℕ) (b : Bench) (d : ReadDone) (send unit inbox buffer : List ℕ)
-    (e : actedBy v d send unit inbox buffer ≡ acts (b .station) (verbOf v given (b .buffer))) where
+    (e : actedBy v d send unit inbox buffer ≡ called (b .station) (verbOf v given (b .buffer))) where
   pub call-fits : Fits (d .answer .answer .unit) unit
   call-fits =
-      subst (λ (m : Acted Lane Station Reply (List ℕ)). Fits (m .answer .answer .answer .unit) (m .end .unit)) (sym e)
+      subst (λ (m : Called). Fits (m .answer .answer .answer .unit) (m .end .unit)) (sym e)
       (acts-fit (b .station) (verbOf v given (b .buffer)))
 
   pub call-step : (to : Line) (far : List ℕ) (es : Log) (us vs : List (List ℕ))
@@ -83,15 +83,16 @@ module _ (v : Verb) (given : List ℕ) (b : Bench) (d : ReadDone) (send unit inb
       → Holds to far (vs ++ unitsOf (d .answer .answer .unit) unit)
       → leb 512 (length vs) ≡ false
       → Steps (Call v) given b Answered (d .answer) (benchOf (d .end) send unit inbox buffer (b .from) (b .waiting) to far) es us vs
+  unfolding acts
   call-step to far es us vs k hw hf n =
       record {
         outcome-is = rw n;
         answered = λ z.
             record {
-              station-is = ap (λ (m : Acted Lane Station Reply (List ℕ)). m .end) e;
+              station-is = ap (λ (m : Called). m .end) e;
               waiting-are = hw;
-              far-are = subst (λ (m : Acted Lane Station Reply (List ℕ)). Holds to far (vs ++ m .sent normal)) e hf;
-              answer-is = ap (λ (m : Acted Lane Station Reply (List ℕ)). m .answer) e;
+              far-are = subst (λ (m : Called). Holds to far (vs ++ m .sent)) e hf;
+              answer-is = ap (λ (m : Called). m .answer) e;
             };
         named = λ z. tt;
         unread = k;
@@ -113,10 +114,11 @@ tookBy s t =
 module _ (u : List ℕ) (b : Bench) (d : Done) (r : ReadDone) (inbox unit : List ℕ) (p : r ≡ plainDone d)
     (e : takenBy d inbox unit ≡ receiveUnit (d .answer .rule) (b .station .end) u (b .station .inbox) (b .station .unit)) where
   took-is : tookBy (b .station) (takenBy d inbox unit) ≡ takes (λ x. r .answer .answer .rule) normal (b .station) u
-  unfolding takes
+  unfolding takes taken
   took-is = rw p (ap (tookBy (b .station)) e)
 
   pub offer-fits : Fits (r .answer .answer .unit) unit
+  unfolding takes
   offer-fits =
       rw p
       (subst (λ (t : Took Lane Station Reply (List ℕ)). Fits (t .answer .answer .answer .unit) (t .end .unit)) (sym took-is)

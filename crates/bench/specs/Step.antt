@@ -12,8 +12,8 @@ use Rattle.end.specs.declared.End.{End}
 use Rattle.answers.specs.declared.ReadAnswer.{ReadAnswer}
 use Rattle.joined.specs.Joined as joined
 use Rattle.joined.specs.Joined.{Local, apply, acted, took}
-use Rattle.joined.specs.Ends as J
-use Rattle.joined.specs.Ends.{Lane, normal, sameLane, Station, Reply, onNormal, acts, takes}
+use Rattle.calls.specs.Calls as J
+use Rattle.joined.specs.Ends.{Lane, normal, sameLane, onNormal, acts, takes}
 use Rattle.joined.specs.Histories.{Log}
 use Rattle.script.specs.declared.Request.{Request}
 use Rattle.script.specs.declared.Request.the-variants.{Call, Take, Offer}
@@ -22,6 +22,7 @@ use Rattle.bench.specs.declared.Outcome.{Outcome}
 use Rattle.bench.specs.declared.Outcome.the-variants.{Answered, NothingWaiting, Full}
 use Rattle.unit_lines.specs.Lines.{MOST-UNITS, Holds}
 use Rattle.script_calls.specs.Calls.{verbOf, isRead, replyOf, stationOf}
+use Rattle.calls.specs.Calls.{Reply, Station}
 
 -- What a step is lent and leaves: an end with its buffers; the buffer of a read; the line to this end; and the line to the other end.
 pub record Bench : Type 0 where

@@ -1,10 +1,10 @@
 -- Laws of `front` and `written`.
 -- Assumes nothing.
 use mathlib.Core.Path.{_≡_, refl, sym, ap, _∙_}
-use mathlib.Core.List.{List, [], _∷_, _++_, append-assoc}
-use Prim.Native.Nat.{ℕ, _+_, _-_, _≤_}
+use mathlib.Core.List.{List, [], _++_, append-assoc}
+use Prim.Native.Nat.{ℕ, _+_, _≤_}
 use native.Mathlib.Omega.{arith}
-use lib.ListN.{length, take, drop, length-append, length-drop, length-take}
+use lib.ListN.{length, take, drop, length-append, length-drop, length-take, take-append-drop}
 use lib.Seq.{take-append-seam, drop-append-seam, drop-drop, take-append-le, length-take-le, take-all, take-at, drop-at}
 use Rattle.cells.specs.Cells.{front, written}
 
@@ -18,14 +18,14 @@ pub front-bytes : (bs cells : List ℕ) → take (length bs) (front bs cells) �
 unfolding front
 front-bytes bs cells = take-append-seam bs (drop (length bs) cells)
 
-pub front-past : (bs cells : List ℕ) → drop (length bs) (front bs cells) ≡ drop (length bs) cells
-unfolding front
-front-past bs cells = drop-append-seam bs (drop (length bs) cells)
-
 -- nothing written
 pub front-none : (cells : List ℕ) → front [] cells ≡ cells
 unfolding front
 front-none cells = refl
+
+pub written-none : (at : ℕ) (cells : List ℕ) → written at [] cells ≡ cells
+unfolding written front
+written-none at cells = take-append-drop at cells
 
 -- bytes at the front, and more bytes right behind them
 pub front-then : (vs bs cells : List ℕ) → vs ++ front bs (drop (length vs) cells) ≡ front (vs ++ bs) cells

@@ -1,17 +1,18 @@
 -- The claim read off one conversation: what it asks holds by computation, and each of its fields is what is written there.
 -- Assumes nothing.
-use Prim.Native.Nat.{ℕ, zero, suc, _<_}
+use Prim.Native.Nat.{ℕ, zero, suc}
 use mathlib.Core.Path.{_≡_, refl}
 use mathlib.Core.Bool.{Bool, true, false, _&&_}
 use mathlib.Core.List.{List, [], _∷_}
 use native.Mathlib.Omega.{arith}
 use borrow.Author.Tests.{ltb-true}
 use lib.Dec.{ltb}
-use lib.ListN.{getD}
+use Rattle.bools.proofs.Tests.{both}
 use Rattle.joined.specs.Joined as J
 use Rattle.joined.specs.Joined.{At, first, second, act, Some, step, AllFed}
-use Rattle.joined.specs.Ends.{Lane, sameLane, Verb, acts, takes}
-use Rattle.joined.specs.SingleCalls.{AllBytes, BytesOf}
+use Rattle.joined.specs.Ends.{Lane, sameLane, acts, takes}
+use Rattle.calls.specs.Calls.{Verb}
+use Rattle.calls.specs.Laws.{AllBytes, BytesOf}
 use Rattle.joined.specs.Claim.{Pair, Claim, TheRecords, LentBytes, AlwaysGood, BytesOfAll}
 use Rattle.worked_examples.specs.Stations.{anyRule}
 use Rattle.worked_examples.specs.Computed.{computed}
@@ -24,14 +25,10 @@ abbrev below256 : List ℕ → Bool
 below256 [] = true
 below256 (b ∷ bs) = ltb b 256 && below256 bs
 
-halves : (a b : Bool) → a && b ≡ true → (a ≡ true) × (b ≡ true)
-halves true b e = (refl, e)
-halves false b e = absurd (let z : _≡_ {A = ℕ} 0 1 = cc in omega arith)
-
 are-bytes : (bs : List ℕ) → below256 bs ≡ true → AllBytes bs
 are-bytes [] e k = omega arith
-are-bytes (b ∷ bs) e zero = ltb-true b 256 (halves (ltb b 256) (below256 bs) e .0)
-are-bytes (b ∷ bs) e (suc k) = are-bytes bs (halves (ltb b 256) (below256 bs) e .1) k
+are-bytes (b ∷ bs) e zero = ltb-true b 256 (both (ltb b 256) (below256 bs) e .0)
+are-bytes (b ∷ bs) e (suc k) = are-bytes bs (both (ltb b 256) (below256 bs) e .1) k
 
 lent-bytes : LentBytes lent
 lent-bytes = record { send = are-bytes (lent .send) refl; inbox = are-bytes (lent .inbox) refl }
@@ -54,9 +51,9 @@ gives-bytes (Verb.receive buffer) e = tt
 
 all-bytes : (l : List (At Lane Verb)) → allBelow256 l ≡ true → BytesOfAll l
 all-bytes [] e = tt
-all-bytes (first (act v) ∷ l) e = let h = halves (below256 (bytesOf v)) (allBelow256 l) e in (gives-bytes v (h .0), all-bytes l (h .1))
+all-bytes (first (act v) ∷ l) e = let h = both (below256 (bytesOf v)) (allBelow256 l) e in (gives-bytes v (h .0), all-bytes l (h .1))
 all-bytes (first (J.take k) ∷ l) e = (tt, all-bytes l e)
-all-bytes (second (act v) ∷ l) e = let h = halves (below256 (bytesOf v)) (allBelow256 l) e in (gives-bytes v (h .0), all-bytes l (h .1))
+all-bytes (second (act v) ∷ l) e = let h = both (below256 (bytesOf v)) (allBelow256 l) e in (gives-bytes v (h .0), all-bytes l (h .1))
 all-bytes (second (J.take k) ∷ l) e = (tt, all-bytes l e)
 
 -- ---- takes
@@ -82,12 +79,12 @@ all-fed p [] e = tt
 all-fed p (first (act v) ∷ l) e = (tt, all-fed (step sameLane acts (takes anyRule) p (first (act v))) l e)
 all-fed p (first (J.take k) ∷ l) e =
     let q = step sameLane acts (takes anyRule) p (first (J.take k)) in
-    let h = halves (waits (p .one .waiting k)) (allFind q l) e in
+    let h = both (waits (p .one .waiting k)) (allFind q l) e in
     (waits-fed (p .one .waiting k) (h .0), all-fed q l (h .1))
 all-fed p (second (act v) ∷ l) e = (tt, all-fed (step sameLane acts (takes anyRule) p (second (act v))) l e)
 all-fed p (second (J.take k) ∷ l) e =
     let q = step sameLane acts (takes anyRule) p (second (J.take k)) in
-    let h = halves (waits (p .two .waiting k)) (allFind q l) e in
+    let h = both (waits (p .two .waiting k)) (allFind q l) e in
     (waits-fed (p .two .waiting k) (h .0), all-fed q l (h .1))
 
 -- ---- what happened
@@ -127,8 +124,8 @@ module _ (claim : Claim) (records : TheRecords) (always : AlwaysGood) where
   said : Said
   unfolding computed
   said =
-      let both = claim anyRule speaker bidder lent lent calls (asked .openings) in
-      let joint = both .0 in
+      let parts = claim anyRule speaker bidder lent lent calls (asked .openings) in
+      let joint = parts .0 in
       let r = records anyRule speaker bidder lent lent calls (asked .openings) in
       let good = always anyRule speaker bidder lent lent calls (asked .openings .one) (asked .openings .two) lent-bytes lent-bytes (all-bytes calls refl) in
       record {
@@ -139,7 +136,7 @@ module _ (claim : Claim) (records : TheRecords) (always : AlwaysGood) where
         bytes-back = joint .bytes-back;
         credit-one = joint .credit-one;
         credit-two = joint .credit-two;
-        same = both .1 reordered refl refl (asked .fed) (asked .fed-reordered);
+        same = parts .1 reordered refl refl (asked .fed) (asked .fed-reordered);
         to-come-out = r .out .still-to-come;
         records-out = r .out .first-are-read;
         to-come-back = r .back .still-to-come;

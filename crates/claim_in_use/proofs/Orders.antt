@@ -2,10 +2,11 @@
 -- Assumes nothing.
 use Prim.Native.Nat.{ℕ}
 use mathlib.Core.Path.{_≡_, refl, ap}
-use mathlib.Core.List.{List, [], _∷_, _++_}
-use Rattle.joined.specs.Joined.{Call, act, take, At, first, second, firsts, seconds, Some, step, run, Ready, AllFed}
-use Rattle.joined.specs.Ends.{Lane, sameLane, Verb, acts, takes}
+use mathlib.Core.List.{List, [], _∷_}
+use Rattle.joined.specs.Joined.{Call, act, take, At, first, second, firsts, seconds, Some, step, Ready, AllFed}
+use Rattle.joined.specs.Ends.{Lane, sameLane, acts, takes}
 use Rattle.claim_in_use.specs.OtherWords.{Ends, Interleaves, none, at-first, at-second, TakesFind}
+use Rattle.calls.specs.Calls.{Verb}
 
 pub firsts-are : {xs ys : List (Call Lane Verb)} {l : List (At Lane Verb)} → Interleaves xs ys l → firsts l ≡ xs
 firsts-are none = refl

@@ -2,8 +2,8 @@
 -- Assumes nothing.
 use Prim.Native.Nat.{ℕ, _+_, _*_}
 use mathlib.Core.Path.{_≡_, refl, sym, ap, _∙_}
-use mathlib.Core.Bool.{Bool, true, false}
-use mathlib.Core.List.{List, [], _∷_, _++_}
+use mathlib.Core.Bool.{false}
+use mathlib.Core.List.{List, [], _++_}
 use lib.ListN.{length, take}
 use Rattle.logical_record.specs.Positions.{start}
 use Rattle.logical_record.specs.Walk.{walk}
@@ -13,13 +13,14 @@ use Rattle.control.specs.Tests.{isSend}
 use Rattle.control.specs.declared.State.{State}
 use Rattle.control.specs.declared.State.the-variants.{Reset, Send, Receive, ConfirmOwed, ConfirmAwaited}
 use Rattle.joined.specs.Joined.{Call, At}
-use Rattle.joined.specs.Ends.{Lane, normal, Station, Verb, Buffers}
-use Rattle.joined.specs.Histories.{bytesAccepted, bytesRead, bytesOnLine, breaches}
+use Rattle.joined.specs.Ends.{Lane, normal, Buffers}
+use Rattle.joined.specs.Histories.{bytesOnLine, breaches}
 use Rattle.joined.specs.Claim.{Claim, BytesConserved, CreditCounted, ReadsRight, RecordsArrive, TheRecords}
-use Rattle.claim_in_use.specs.OtherWords.{Numbers, speaker, bidder, InRange, Seen, story, each, gave, copied, made, request, pacingAnswer, dataBytes, creditLeft, Ends, OneEnd, given, hasRead, AtOneEnd, OneWay, Agree, Interleaves, after, TakesFind, SameEnd, InOtherWords, answer}
+use Rattle.claim_in_use.specs.OtherWords.{Numbers, speaker, bidder, InRange, story, each, made, request, pacingAnswer, creditLeft, Ends, OneEnd, hasRead, AtOneEnd, OneWay, Agree, Interleaves, after, TakesFind, SameEnd, InOtherWords, answer}
 use Rattle.claim_in_use.proofs.Stories.{given-is, read-is, line-is, requests-are, answers-are, no-breach-in, ends-there, says-so, none-before}
 use Rattle.claim_in_use.proofs.Openings.{openings}
 use Rattle.claim_in_use.proofs.Orders.{firsts-are, seconds-are, fed}
+use Rattle.calls.specs.Calls.{Verb}
 
 not-send : (s : State) → (s ≡ Send → ⊥) → isSend s ≡ false
 not-send Reset h = refl

@@ -6,18 +6,21 @@ use mathlib.Core.Bool.{Bool, true, false, not, cond, _&&_}
 use mathlib.Core.List.{List, [], _∷_, _++_, append-nil, append-assoc}
 use native.Mathlib.Omega.{arith}
 use borrow.Author.Tests.{le-leb, ne-eqb}
-use lib.Dec.{eqb, leb}
+use lib.Dec.{eqb}
 use lib.ListN.{length, take, getD, length-append}
+use Rattle.bools.proofs.Tests.{right}
 use Rattle.header.specs.Weights.{on}
 use Rattle.logical_record.specs.Positions.{start}
 use Rattle.logical_record.specs.Walk.{walk}
 use Rattle.logical_record.specs.Records.{ended}
 use Rattle.joined.specs.Lanes.{Lines}
-use Rattle.joined.specs.Joined.{Event, acted, took}
-use Rattle.joined.specs.Ends.{Lane, normal, Verb, Reply}
+use Rattle.joined.specs.Joined.{acted, took}
+use Rattle.joined.specs.Ends.{Lane, normal}
 use Rattle.joined.specs.Histories as H
-use Rattle.joined.specs.Histories.{Log, bytesAccepted, bytesRead, bytesOnLine, count, isBreach, breaches, requestsAmong, requestsMade, pacingResponsesTaken, CompleteIsRight, NoneCrosses}
+use Rattle.joined.specs.Histories.{Log, bytesAccepted, bytesRead, bytesOnLine, isBreach, breaches, requestsMade, pacingResponsesTaken, CompleteIsRight, NoneCrosses}
 use Rattle.claim_in_use.specs.OtherWords.{Seen, story, each, All, numberOf, gave, copied, made, takeNumber, request, pacingAnswer, dataBytes}
+use Rattle.calls.specs.Calls.{Reply, Verb}
+use Rattle.calls.specs.Units.{count, requestsAmong, isPacingResponse}
 
 -- ---- lists
 
@@ -97,7 +100,7 @@ answers-are (acted v r us ∷ es) =
 answers-are (took l u r us ∷ es) =
     ap length (goes-on pacingAnswer (took l u r us) es)
     ∙ length-append (each pacingAnswer (story es)) (pacingAnswer (took l u r us))
-    ∙ by (eqb (numberOf r) 0 && H.isPacingResponse u) (answers-are es)
+    ∙ by (eqb (numberOf r) 0 && isPacingResponse u) (answers-are es)
   where
     by : (b : Bool) → length (each pacingAnswer (story es)) ≡ pacingResponsesTaken es
         → length (each pacingAnswer (story es)) + length (cond b (u ∷ []) []) ≡ count b + pacingResponsesTaken es
@@ -140,10 +143,6 @@ apart-at [] earlier h = h
 apart-at (acted v r us ∷ later) earlier h = apart-at later earlier (h .1)
 apart-at (took l u r us ∷ later) earlier h = apart-at later earlier h
 
-and-right : (a b : Bool) → a && b ≡ true → b ≡ true
-and-right true b e = e
-and-right false b e = absurd (let y : _≡_ {A = ℕ} 0 1 = cc in omega arith)
-
 -- what a call says of the record's end, where it stands in the log
 module _ (log later earlier : Log) (v : Verb) (r : Reply) (us : Lines Lane (List ℕ)) (here : log ≡ later ++ (acted v r us ∷ earlier)) where
   abbrev until : List ℕ
@@ -156,7 +155,7 @@ module _ (log later earlier : Log) (v : Verb) (r : Reply) (us : Lines Lane (List
       c .0 ∙ ap (λ (bs : List ℕ). not (eqb (r .answer .copied) 0) && ended (walk start bs)) (sym (read-is (acted v r us ∷ earlier)))
 
   pub ends-there : CompleteIsRight log → r .answer .complete ≡ true → ended (walk start until) ≡ true
-  ends-there h e = and-right (not (eqb (r .answer .copied) 0)) (ended (walk start until)) (sym (said h) ∙ e)
+  ends-there h e = right (not (eqb (r .answer .copied) 0)) (ended (walk start until)) (sym (said h) ∙ e)
 
   pub says-so : CompleteIsRight log → 0 < r .answer .copied → ended (walk start until) ≡ true → r .answer .complete ≡ true
   says-so h some e = said h ∙ rw (ne-eqb (r .answer .copied) 0 (λ z. omega (arith, z, some)), e)

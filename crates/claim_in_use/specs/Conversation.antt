@@ -3,11 +3,11 @@
 -- Assumes nothing.
 use Prim.Native.Nat.{ℕ, _+_, _*_}
 use mathlib.Core.Path.{_≡_}
-use mathlib.Core.Bool.{Bool, true, false}
+use mathlib.Core.Bool.{true, false}
 use mathlib.Core.List.{List, [], _∷_, _++_}
 use Rattle.logical_record.specs.Positions.{start}
 use Rattle.logical_record.specs.Walk.{walk}
-use Rattle.logical_record.specs.declared.Position.the-variants.{Between, AfterFirst, Remaining}
+use Rattle.logical_record.specs.declared.Position.the-variants.{Between, Remaining}
 use Rattle.logical_record.specs.declared.Walked.the-variants.{At}
 use Rattle.control.specs.Tests.{isSend}
 use Rattle.control.specs.declared.State.the-variants.{Send, Receive}
@@ -15,10 +15,11 @@ use Rattle.end.specs.Record.{recordGood, creditOf}
 use Rattle.sides.specs.declared.Session.{Session}
 use Rattle.joined.specs.Joined as J
 use Rattle.joined.specs.Joined.{first, second, act, AllFed, run}
-use Rattle.joined.specs.Ends.{Lane, normal, sameLane, Verb, prepareToReceive, Buffers, JoinedOpenings, openedBoth, acts, takes}
+use Rattle.joined.specs.Ends.{Lane, normal, sameLane, Buffers, JoinedOpenings, openedBoth, acts, takes}
 use Rattle.joined.specs.Histories.{bytesAccepted, bytesRead, bytesInInbox, bytesOnLine, bytesInSendBuffer, requestsMade, pacingResponsesTaken, breaches, refusedWith, badReads, CompleteIsRight, NoneCrosses}
 use Rattle.joined.specs.Claim.{Pair}
 use Rattle.worked_examples.specs.Stations.{zeros, session, anyRule}
+use Rattle.calls.specs.Calls.{Verb, prepareToReceive}
 
 -- ---- the calls
 

@@ -3,7 +3,7 @@
 -- Assumes nothing.
 use Prim.Native.Nat.{ℕ, _+_, _-_, _*_, _≤_, _<_}
 use mathlib.Core.Path.{_≡_}
-use mathlib.Core.Bool.{Bool, true, false, cond, _&&_}
+use mathlib.Core.Bool.{true, false, cond, _&&_}
 use mathlib.Core.List.{List, [], _∷_, _++_}
 use lib.Dec.{eqb, leb}
 use lib.ListN.{length, take, drop, getD}
@@ -18,7 +18,8 @@ use Rattle.sides.specs.declared.Session.{Session}
 use Rattle.joined.specs.Lanes.{Lines}
 use Rattle.joined.specs.Joined as J
 use Rattle.joined.specs.Joined.{Call, At, first, second, Event, acted, took, Side, Both, run}
-use Rattle.joined.specs.Ends.{Lane, normal, sameLane, Station, Verb, Reply, Buffers, acts, takes, openedBoth}
+use Rattle.joined.specs.Ends.{Lane, normal, sameLane, Buffers, acts, takes, openedBoth}
+use Rattle.calls.specs.Calls.{Reply, Station, Verb}
 
 -- ---- two sessions that are joined, by their numbers
 

@@ -1,6 +1,6 @@
 -- What the calls ask of the finite part.
 -- Assumes nothing.
-use mathlib.Core.Bool.{Bool, true, false, not, _&&_, _||_}
+use mathlib.Core.Bool.{Bool, not, _&&_, _||_}
 use Rattle.control.specs.Tests.{isFirstSpeaker, isBidder, isReset, isSend, isReceive, isConfirmOwed, isConfirmAwaited, agree}
 use Rattle.control.specs.declared.Control.{Control}
 

@@ -1,8 +1,10 @@
-mod Within
+pub mod Within
 mod Rooms
+mod Makes
+mod Makings
 mod Spills
 mod Reading
-mod ReceivingIn
 mod TakeRooms
 mod UnitReads
 mod Takes
+mod Joins

@@ -1,4 +1,4 @@
--- A read, from its parts.
+-- A read, from its decision: what its writer may rely on.
 -- Assumes nothing.
 use Prim.Native.Nat.{ℕ, _≤_}
 use mathlib.Core.Path.{_≡_, refl}
@@ -6,14 +6,14 @@ use mathlib.Core.Bool.{Bool, true, false, cond}
 use mathlib.Core.List.{List}
 use native.Mathlib.Omega.{arith}
 use lib.Dec.{eqb}
-use lib.ListN.{length, drop}
+use lib.ListN.{length}
 use borrow.Author.Tests.{eqb-true}
-use Rattle.cells.specs.Cells.{front}
-use Rattle.cells.proofs.Copies.{front-same}
+use Rattle.answers.specs.Answers.{readRefused}
 use Rattle.answers.proofs.Rows.{yes}
-use Rattle.end.specs.Receive.{inboxBytes, readQuestions, readRefusal, inboxMoved}
+use Rattle.end.specs.Receive.{someHeld, readQuestions, readRefusal, copyCount, bytesRead, markRead, readDecision}
 use Rattle.end.proofs.Within.{held-in-inbox}
 use Rattle.end.specs.declared.End.{End}
+use Rattle.end.specs.declared.ReadDone.{ReadDone}
 
 -- the questions were all answered yes
 pub read-room : (e : End) (inbox : List ℕ) (buffer : ℕ) → readRefusal e inbox buffer ≡ 0 → e .receiving .held ≤ length inbox
@@ -24,13 +24,22 @@ read-room e inbox buffer h =
     let i = held-in-inbox e (t 1) in
     omega arith
 
--- with no byte gone, the bytes held are moved to where they stand
-moved′ : (t : Bool) (e : End) (k : ℕ) (inbox : List ℕ) → eqb k 0 ≡ t → e .receiving .held ≤ length inbox
-    → front (drop k (inboxBytes e inbox)) inbox ≡ cond t inbox (front (drop k (inboxBytes e inbox)) inbox)
-moved′ true e k inbox q h = rw (eqb-true k 0 q) (front-same (e .receiving .held) inbox h)
-moved′ false e k inbox q h = refl
+-- bytes go: they are held, they stand in the inbox, and the caller's buffer has room for them
+pub record Copies (e : End) (inbox : List ℕ) (buffer k : ℕ) : Type 0 where
+  pub of-held : k ≤ e .receiving .held
+  pub held-in : e .receiving .held ≤ length inbox
+  pub in-buffer : k ≤ buffer
 
-pub moved : (e : End) (k : ℕ) (inbox : List ℕ) → e .receiving .held ≤ length inbox
-    → front (drop k (inboxBytes e inbox)) inbox ≡ inboxMoved e k inbox
-unfolding inboxMoved
-moved e k inbox h = moved′ (eqb k 0) e k inbox refl h
+copies : (t b : Bool) (e : End) (inbox : List ℕ) (buffer : ℕ) → eqb (readRefusal e inbox buffer) 0 ≡ t
+    → (let d : ReadDone = cond t (cond b (bytesRead e (copyCount e inbox buffer) inbox) (markRead e)) (record { answer = readRefused (readRefusal e inbox buffer); end = e }) in
+    (d .answer .copied ≡ 0 → ⊥) → Copies e inbox buffer (d .answer .copied))
+unfolding bytesRead markRead copyCount
+copies false b e inbox buffer z h = absurd (h refl)
+copies true false e inbox buffer z h = absurd (h refl)
+copies true true e inbox buffer z h =
+    record { of-held = omega arith; held-in = read-room e inbox buffer (eqb-true (readRefusal e inbox buffer) 0 z); in-buffer = omega arith }
+
+pub read-copies : (e : End) (inbox : List ℕ) (buffer : ℕ) → (readDecision e inbox buffer .answer .copied ≡ 0 → ⊥)
+    → Copies e inbox buffer (readDecision e inbox buffer .answer .copied)
+unfolding readDecision
+read-copies e inbox buffer h = copies (eqb (readRefusal e inbox buffer) 0) (someHeld e) e inbox buffer refl h

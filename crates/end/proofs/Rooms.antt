@@ -6,20 +6,21 @@ use mathlib.Core.Bool.{Bool, true}
 use native.Mathlib.Omega.{arith}
 use borrow.Author.Tests.{leb-true}
 use Rattle.header.specs.declared.Follows.{Follows}
-use Rattle.answers.proofs.Rows.{both, yes}
+use Rattle.answers.proofs.Rows.{yes}
 use Rattle.end.specs.Record.{recordGood, sendLent, unitLent}
 use Rattle.end.specs.Allocate.{allocateQuestions, allocateRefusal}
 use Rattle.end.specs.Confirmed.{confirmedQuestions, confirmedRefusal}
 use Rattle.end.specs.Close.{closeQuestions, closeRefusal}
 use Rattle.end.specs.Pace.{paceQuestions, paceRefusal}
-use Rattle.end.proofs.Within.{sending-in}
+use Rattle.end.proofs.Within.{facts}
 use Rattle.end.specs.declared.End.{End}
+use Rattle.bools.proofs.Tests.{both}
 
 -- the longest unit that holds no data, a bid, has ten bytes: M is at least 8
 fixed-room : (e : End) (n : ℕ) → unitLent e n ≡ true → recordGood e ≡ true → 10 ≤ n
 fixed-room e n u g =
     let l = leb-true (e .sending .max + 5) n u in
-    let s = sending-in e g in
+    let s = facts e g .sending in
     omega arith
 
 pub allocate-room : (e : End) (n : ℕ) → allocateRefusal e n ≡ 0 → 10 ≤ n
@@ -47,5 +48,5 @@ close-room e f confirm send unit h =
     let b = both (sendLent e send) (unitLent e unit) (t 0) in
     let l = leb-true (e .sending .max) send (b .0) in
     let u = leb-true (e .sending .max + 5) unit (b .1) in
-    let s = sending-in e (t 1) in
+    let s = facts e (t 1) .sending in
     record { in-send = omega arith; in-unit = omega arith }

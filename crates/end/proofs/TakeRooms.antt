@@ -18,13 +18,13 @@ use Rattle.control.specs.Tests.{isReset, agree}
 use Rattle.transitions.specs.Transitions.{bidAnswer}
 use Rattle.control.specs.declared.Control.{Control}
 use Rattle.answers.specs.Questions.{firstNo}
-use Rattle.answers.proofs.Rows.{both, yes}
+use Rattle.answers.proofs.Rows.{yes}
 use Rattle.end.specs.Record.{recordGood, inboxLent, unitLent}
 use Rattle.end.specs.ReceiveUnit.{endQuestions, kindQuestions}
 use Rattle.end.specs.Kinds.{endRefusal, kindRefusal}
-use Rattle.end.proofs.Within.{sending-in}
-use Rattle.end.proofs.ReceivingIn.{receiving-in}
+use Rattle.end.proofs.Within.{facts}
 use Rattle.end.specs.declared.End.{End}
+use Rattle.bools.proofs.Tests.{both}
 
 pub end-good : (e : End) (inbox unit : ℕ) → endRefusal e inbox unit ≡ 0
     → (inboxLent e inbox && unitLent e unit ≡ true) × (recordGood e ≡ true)
@@ -35,7 +35,7 @@ end-good e inbox unit q = let t = yes (endQuestions e inbox unit) tt q in (t 0, 
 pub bid-room : (e : End) (inbox unit : ℕ) → inboxLent e inbox && unitLent e unit ≡ true → recordGood e ≡ true → 10 ≤ unit
 bid-room e inbox unit l g =
     let u = leb-true (e .sending .max + 5) unit (both (inboxLent e inbox) (unitLent e unit) l .1) in
-    let s = sending-in e g in
+    let s = facts e g .sending in
     omega arith
 
 answer-length : (b : Bool) → length (fixedRu (cond b PositiveBidResponse NegativeBidResponse)) ≤ 5
@@ -55,7 +55,7 @@ unfolding ruGood
 data-room e d n ru g q =
     let t = yes (kindQuestions e (Data d) n ru) tt q in
     let r = e .receiving in
-    let room = receiving-in e g in
+    let room = facts e g .receiving .room in
     let short = leb-true (length ru) (r .max) (both (leb (length ru) (r .max)) (leb 1 (length ru) || marks (d .ends)) (t 0) .0) in
     let open-one = leb-true 1 (credit (r .window)) (both (hasCredit (r .window)) (agree (d .pacing) (paced (r .window))) (t 1) .0) in
     let most : 1 * r .max ≤ credit (r .window) * r .max = mul-le-mul open-one (le-refl (r .max)) in

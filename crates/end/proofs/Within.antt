@@ -1,56 +1,42 @@
--- A record within its rules (question 5): the bounds of its numbers.
+-- Question 5, a record within its rules, as facts: taken apart and put together over its parts.
 -- Assumes nothing.
 use Prim.Native.Nat.{_+_, _*_, _≤_}
 use mathlib.Core.Path.{_≡_}
-use mathlib.Core.Bool.{true, not, _&&_, _||_}
+use mathlib.Core.Bool.{true, _&&_}
 use native.Mathlib.Nat.{le-trans, le-add-right}
-use lib.Dec.{leb, eqb}
-use borrow.Author.Tests.{leb-true}
-use Rattle.logical_record.specs.Positions.{isPosition}
-use Rattle.pacing.specs.Pacing.{windowGood, credit}
-use Rattle.control.specs.Tests.{isSend}
+use Rattle.bools.proofs.Tests.{both, join}
+use Rattle.pacing.specs.Pacing.{credit}
 use Rattle.control.specs.Within.{controlGood}
-use Rattle.answers.proofs.Rows.{both}
-use Rattle.sides.specs.Shared.{maxGood}
-use Rattle.sides.specs.Sending.{heldGood, sendingGood}
-use Rattle.sides.specs.Receiving.{inboxGood, receivingGood}
-use Rattle.sides.specs.declared.Sending.{Sending}
+use Rattle.control.proofs.Within.{ControlWithin, control-facts, control-good}
+use Rattle.sides.specs.Sending.{sendingGood}
+use Rattle.sides.specs.Receiving.{receivingGood}
+use Rattle.sides.proofs.Within.{SendingWithin, HeldFits, sending-facts, sending-good, ReceivingWithin, receiving-facts, receiving-good}
 use Rattle.end.specs.Record.{recordGood}
 use Rattle.end.specs.declared.End.{End}
 
-pub record SendingIn (s : Sending) : Type 0 where
-  pub max-least : 8 ≤ s .max
-  pub max-most : s .max ≤ 1024
-  pub held-in : s .held ≤ s .max
+pub record Within (e : End) : Type 0 where
+  pub control : ControlWithin (e .control)
+  pub fits : HeldFits (e .control) (e .sending .held)
+  pub sending : SendingWithin (e .sending)
+  pub receiving : ReceivingWithin (e .receiving)
 
-pub sending-in : (e : End) → recordGood e ≡ true → SendingIn (e .sending)
-unfolding recordGood sendingGood
-sending-in e h =
-    let c = e .control in
-    let s = e .sending in
-    let parts = both (controlGood c) (sendingGood c s && receivingGood (e .receiving)) h in
-    let sending = both (sendingGood c s) (receivingGood (e .receiving)) (parts .1) .0 in
-    let past-window = both (windowGood (s .window)) (maxGood (s .max) && (heldGood c s && isPosition (s .given))) sending .1 in
-    let from-max = both (maxGood (s .max)) (heldGood c s && isPosition (s .given)) past-window in
-    let max-in = both (leb 8 (s .max)) (leb (s .max) 1024) (from-max .0) in
-    let held = both (heldGood c s) (isPosition (s .given)) (from-max .1) .0 in
-    record {
-      max-least = leb-true 8 (s .max) (max-in .0);
-      max-most = leb-true (s .max) 1024 (max-in .1);
-      held-in =
-          leb-true (s .held) (s .max)
-          (both (leb (s .held) (s .max)) ((not (c .outchain) || leb 1 (s .held)) && (isSend (c .state) || eqb (s .held) 0)) held .0);
-    }
+pub facts : (e : End) → recordGood e ≡ true → Within e
+unfolding recordGood
+facts e g =
+    let c = both (controlGood (e .control)) (sendingGood (e .control) (e .sending) && receivingGood (e .receiving)) g in
+    let s = both (sendingGood (e .control) (e .sending)) (receivingGood (e .receiving)) (c .1) in
+    let o = sending-facts (e .control) (e .sending) (s .0) in
+    record { control = control-facts (e .control) (c .0); fits = o .1; sending = o .0; receiving = receiving-facts (e .receiving) (s .1) }
+
+pub good : (e : End) → Within e → recordGood e ≡ true
+unfolding recordGood
+good e w =
+    join (controlGood (e .control)) _ (control-good (e .control) (w .control))
+    (join (sendingGood (e .control) (e .sending)) (receivingGood (e .receiving)) (sending-good (e .control) (e .sending) (w .sending) (w .fits))
+    (receiving-good (e .receiving) (w .receiving)))
 
 -- the bytes held stand in the inbox
 pub held-in-inbox : (e : End) → recordGood e ≡ true → e .receiving .held ≤ e .receiving .inbox
-unfolding recordGood receivingGood
-held-in-inbox e h =
+held-in-inbox e g =
     let r = e .receiving in
-    let places = isPosition (r .taken) && isPosition (r .read) in
-    let parts = both (controlGood (e .control)) (sendingGood (e .control) (e .sending) && receivingGood r) h in
-    let receiving = both (sendingGood (e .control) (e .sending)) (receivingGood r) (parts .1) .1 in
-    let past-window = both (windowGood (r .window)) (maxGood (r .max) && (inboxGood r && places)) receiving .1 in
-    let from-inbox = both (maxGood (r .max)) (inboxGood r && places) past-window .1 in
-    let room = leb-true (r .held + credit (r .window) * r .max) (r .inbox) (both (inboxGood r) places from-inbox .0) in
-    le-trans (le-add-right (r .held) (credit (r .window) * r .max)) room
+    le-trans (le-add-right (r .held) (credit (r .window) * r .max)) (facts e g .receiving .room)

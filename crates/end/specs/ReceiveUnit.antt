@@ -26,6 +26,7 @@ use Rattle.taking.specs.Taking.{dataQuestions, bidQuestions, responseQuestions,
 use Rattle.end.specs.Record.{recordGood, inboxLent, unitLent}
 use Rattle.end.specs.Outcome.{nothing, aUnit, lengthOut, cellsOut, Decision, accept, decided, Taken, withControl, withSending, withReceiving, withOwed}
 use Rattle.end.specs.declared.End.{End}
+use Rattle.end.specs.declared.Done.{Done}
 
 -- ---- questions
 
@@ -115,6 +116,10 @@ inboxCells e taken q inbox = cond (eqb q 0) (kindJoined e (headerTaken taken) (r
 -- 21 names a rule that is broken; which one is free, and is the first argument here
 abbrev pub answerNaming : ℕ → Decision → Answer
 answerNaming rule d = cond (eqb (d .refusal) 0) (accepted (lengthOut (d .out))) (refusedNaming rule (d .refusal))
+
+-- what the decision hands back
+abbrev pub doneNaming : ℕ → Decision → Done
+doneNaming rule d = record { answer = answerNaming rule d; end = d .end }
 
 unfoldable pub receiveUnit : ℕ → End → List ℕ → List ℕ → List ℕ → Taken
 receiveUnit rule e taken inbox unit =

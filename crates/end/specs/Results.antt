@@ -2,11 +2,7 @@
 -- Assumes nothing.
 use Prim.Native.Nat.{ℕ}
 use mathlib.Core.List.{List}
-use lib.ListN.{take}
-use Rattle.cells.specs.Cells.{front}
 use Rattle.end.specs.Outcome.{Made, Sent, Taken, Copied}
-use Rattle.end.specs.Receive.{inboxMoved}
-use Rattle.end.specs.declared.End.{End}
 use Rattle.end.specs.declared.Done.{Done}
 use Rattle.end.specs.declared.ReadDone.{ReadDone}
 
@@ -21,12 +17,3 @@ takenBy d inbox unit = record { done = d; inbox = inbox; unit = unit }
 
 abbrev pub copiedBy : ReadDone → List ℕ → List ℕ → Copied
 copiedBy d inbox buffer = record { done = d; inbox = inbox; buffer = buffer }
-
--- the cells that go with a read's answer, by the count that it says: `receive` is this of its decision
-abbrev pub readBy : End → ReadDone → List ℕ → List ℕ → Copied
-readBy e d inbox buffer =
-    record {
-      done = d;
-      inbox = inboxMoved e (d .answer .copied) inbox;
-      buffer = front (take (d .answer .copied) inbox) buffer;
-    }

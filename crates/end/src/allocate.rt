@@ -1,22 +1,21 @@
 // The call allocate.
 use crate::Done;
 use crate::End;
-use crate::requests::make_fixed;
+use crate::requests::fixed_made;
+use crate::requests::write_made;
 use crate::results::accepted;
 use crate::results::refused;
 use answers::numbers::BAD_BUFFER;
 use answers::numbers::BAD_RECORD;
 use answers::numbers::NO_CREDIT;
 use answers::numbers::WRONG_STATE;
-use answers::questions::ask;
+use answers::questions::then_ask;
 use header::Header;
 use sides::outgoing::request_sent;
 use transitions::allocated;
 ghost use mathlib.Core.Path.{_≡_};
-ghost use Prim.Native.Nat.{_≤_};
-ghost use lib.ListN.{length};
-ghost use Rattle.end.specs.Allocate.{allocateRefusal, bidMade, allocate};
-ghost use Rattle.end.specs.Outcome.{made};
+ghost use Rattle.end.specs.Allocate.{allocateRefusal, bidMade, allocateDecision, allocate};
+ghost use Rattle.end.specs.Outcome.{doneOf};
 ghost use Rattle.end.specs.Results.{madeBy};
 
 impl End {
@@ -24,44 +23,47 @@ impl End {
     fn allocate_refusal(self, unit: usize) -> u8
         ensures { λ r. ⌜ r ≡ allocateRefusal self unit ⌝ }
     {
-        let credit = ask(
+        let q = then_ask(0, self.unit_lent(unit), BAD_BUFFER);
+        let q = then_ask(q, self.record_good(), BAD_RECORD);
+        let q = then_ask(q, self.control.may_allocate(), WRONG_STATE);
+        then_ask(
+            q,
             self.control.speaks_first() | self.sending.window.has_credit(),
             NO_CREDIT,
-            0,
-        );
-        let state = ask(self.control.may_allocate(), WRONG_STATE, credit);
-        let record = ask(self.record_good(), BAD_RECORD, state);
-        ask(self.unit_lent(unit), BAD_BUFFER, record)
+        )
     }
 
     // The bid is a request; its number is kept, for the response that will carry it.
-    fn bid(self, unit: &mut [u8]) -> Done
-        requires { ⌜ 10 ≤ length (now unit) ⌝ }
-        ensures { λ r. ⌜ madeBy r (now (unit .exit)) ≡ made (bidMade self) (now (unit .entry)) ⌝ }
+    fn bid_decision(self) -> Done
+        ensures { λ r. ⌜ r ≡ doneOf (bidMade self) ⌝ }
     {
         let control = allocated(self.control);
         let next = request_sent(self.sending, self.sending.held);
         let mut end = self.with_control(control).with_sending(next);
         end.bidding = next.number;
-        make_fixed(
-            end,
-            next.number,
-            Header::Bid(self.sending.window.paced()),
-            unit,
-        )
+        fixed_made(end, Header::Bid(self.sending.window.paced()))
     }
 
-    // Starts a conversation. A first speaker may send at once; a bidder makes a bid.
-    pub fn allocate(self, unit: &mut [u8]) -> Done
-        ensures { λ r. ⌜ madeBy r (now (unit .exit)) ≡ allocate self (now (unit .entry)) ⌝ }
+    // What allocate answers and leaves of the record, before a cell is written.
+    pub fn allocate_decision(self, unit: usize) -> Done
+        ensures { λ r. ⌜ r ≡ doneOf (allocateDecision self unit) ⌝ }
     {
-        let q = self.allocate_refusal(unit.len());
+        let q = self.allocate_refusal(unit);
         if q != 0 {
             return refused(q, self);
         }
         if self.control.speaks_first() {
             return accepted(0, self.with_control(allocated(self.control)));
         }
-        self.bid(unit)
+        self.bid_decision()
+    }
+
+    // Starts a conversation. A first speaker may send at once; a bidder makes a bid.
+    pub fn allocate(self, unit: &mut [u8]) -> Done
+        ensures { λ r. ⌜ madeBy r (now (unit .exit)) ≡ allocate self (now (unit .entry)) ⌝ }
+    {
+        let done = self.allocate_decision(unit.len());
+        let header = Header::Bid(self.sending.window.paced());
+        write_made(done, done.end.bidding, header, unit)
     }
 }

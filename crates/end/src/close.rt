@@ -9,7 +9,7 @@ use answers::numbers::BAD_RECORD;
 use answers::numbers::NO_CREDIT;
 use answers::numbers::UNFINISHED_RECORD;
 use answers::numbers::WRONG_STATE;
-use answers::questions::ask;
+use answers::questions::then_ask;
 use giving::send_held;
 use header::ChainEnd;
 use header::Follows;
@@ -17,12 +17,14 @@ use sides::outgoing::given_whole;
 use sides::outgoing::nothing_goes;
 use sides::outgoing::request_sent;
 use transitions::closed;
+use unit::RU_START;
 use unit::ru::marks;
 ghost use mathlib.Core.Path.{_≡_};
-ghost use Prim.Native.Nat.{_+_, _≤_};
+ghost use mathlib.Core.List.{List};
+ghost use Prim.Native.Nat.{ℕ, _≤_};
 ghost use lib.ListN.{length};
-ghost use Rattle.end.specs.Close.{closeRefusal, lastMade, close, flush, confirm, prepareToReceive, deallocate};
-ghost use Rattle.end.specs.Outcome.{made};
+ghost use Rattle.end.specs.Close.{closeRefusal, lastMade, closeDecision, close, flush, confirm, prepareToReceive, deallocate};
+ghost use Rattle.end.specs.Outcome.{doneOf};
 ghost use Rattle.end.specs.Results.{madeBy};
 
 impl End {
@@ -31,49 +33,63 @@ impl End {
         ensures { λ r. ⌜ r ≡ closeRefusal self follows confirm send unit ⌝ }
     {
         let ends = ChainEnd::Last { follows, confirm };
-        let credit = ask(
-            nothing_goes(self.sending.held, ends) | self.sending.window.has_credit(),
-            NO_CREDIT,
-            0,
-        );
-        let whole = ask(
+        let q = then_ask(0, self.send_lent(send) & self.unit_lent(unit), BAD_BUFFER);
+        let q = then_ask(q, self.record_good(), BAD_RECORD);
+        let q = then_ask(q, self.control.may_send(), WRONG_STATE);
+        let q = then_ask(
+            q,
             !marks(ends) | given_whole(self.sending),
             UNFINISHED_RECORD,
-            credit,
         );
-        let state = ask(self.control.may_send(), WRONG_STATE, whole);
-        let record = ask(self.record_good(), BAD_RECORD, state);
-        ask(
-            self.send_lent(send) & self.unit_lent(unit),
-            BAD_BUFFER,
-            record,
+        then_ask(
+            q,
+            nothing_goes(self.sending.held, ends) | self.sending.window.has_credit(),
+            NO_CREDIT,
         )
     }
 
     // The last unit, with the bytes held.
-    fn send_last(self, follows: Follows, confirm: bool, send: &[u8], unit: &mut [u8]) -> Done
-        requires { ⌜ (self .sending .held ≤ length (now send)) × (5 + self .sending .held ≤ length (now unit)) ⌝ }
-        ensures { λ r. ⌜ madeBy r (now (unit .exit)) ≡ made (lastMade self follows confirm (now (send .entry))) (now (unit .entry)) ⌝ }
+    fn last_decision(self, follows: Follows, confirm: bool) -> Done
+        ensures { λ r. ⌜ ((cells : List ℕ) → self .sending .held ≤ length cells → r ≡ doneOf (lastMade self follows confirm cells)) ⌝ }
     {
-        let header = self.data_header(ChainEnd::Last { follows, confirm });
         let control = closed(self.control, follows, confirm);
         let next = request_sent(self.sending, 0);
-        let n = send_held(next.number, header, self.sending.held, send, unit);
+        let n = RU_START + self.sending.held as usize;
         accepted(n, self.with_control(control).with_sending(next))
     }
 
-    // The closing call, of which the four below are names.
-    pub fn close(self, follows: Follows, confirm: bool, send: &[u8], unit: &mut [u8]) -> Done
-        ensures { λ r. ⌜ madeBy r (now (unit .exit)) ≡ close follows confirm self (now (send .entry)) (now (unit .entry)) ⌝ }
+    // What a closing call answers and leaves of the record, before a cell is written: the same for every send buffer of this
+    // length.
+    pub fn close_decision(self, follows: Follows, confirm: bool, send: usize, unit: usize) -> Done
+        ensures { λ r. ⌜ ((cells : List ℕ) → length cells ≡ send → r ≡ doneOf (closeDecision self follows confirm cells unit)) ⌝ }
     {
-        let q = self.close_refusal(follows, confirm, send.len(), unit.len());
+        let q = self.close_refusal(follows, confirm, send, unit);
         if q != 0 {
             return refused(q, self);
         }
         if nothing_goes(self.sending.held, ChainEnd::Last { follows, confirm }) {
             return accepted(0, self);
         }
-        self.send_last(follows, confirm, send, unit)
+        self.last_decision(follows, confirm)
+    }
+
+    // The closing call, of which the four below are names.
+    pub fn close(self, follows: Follows, confirm: bool, send: &[u8], unit: &mut [u8]) -> Done
+        ensures { λ r. ⌜ madeBy r (now (unit .exit)) ≡ close follows confirm self (now (send .entry)) (now (unit .entry)) ⌝ }
+    {
+        let done = self.close_decision(follows, confirm, send.len(), unit.len());
+        if done.answer.unit == 0 {
+            return done;
+        }
+        let header = self.data_header(ChainEnd::Last { follows, confirm });
+        send_held(
+            done.end.sending.number,
+            header,
+            self.sending.held,
+            send,
+            unit,
+        );
+        done
     }
 
     // Sends the bytes held, if there are any.

@@ -9,11 +9,12 @@ use answers::numbers::BAD_LENGTH;
 use answers::numbers::BAD_LL;
 use answers::numbers::BAD_RECORD;
 use answers::numbers::NOTHING_TO_READ;
-use answers::questions::ask;
+use answers::questions::then_ask;
 use logical_record::Rest;
 use logical_record::positions::is_between;
+use reading::after_read;
 use reading::copy_count;
-use reading::read_bytes;
+use reading::hand_over;
 use reading::record_rest;
 use reading::rest_good;
 use reading::some_held;
@@ -21,32 +22,32 @@ use transitions::mark_answered;
 ghost use mathlib.Core.Path.{_≡_};
 ghost use Prim.Native.Nat.{_≤_};
 ghost use lib.ListN.{length};
-ghost use Rattle.end.specs.Receive.{recordRest, readRefusal, copyCount, bytesRead, markRead, receive};
-ghost use Rattle.end.specs.Results.{copiedBy, readBy};
+ghost use Rattle.end.specs.Receive.{recordRest, readRefusal, copyCount, bytesRead, markRead, readDecision, receive};
+ghost use Rattle.end.specs.Results.{copiedBy};
 
 impl End {
     fn read_refusal(self, rest: Rest, inbox: &[u8], buffer: usize) -> u8
         requires { ⌜ rest ≡ recordRest self (now inbox) ⌝ }
         ensures { λ r. ⌜ r ≡ readRefusal self (now (inbox .entry)) buffer ⌝ }
     {
-        let waiting = ask(
+        let q = then_ask(0, self.inbox_lent(inbox.len()), BAD_BUFFER);
+        let q = then_ask(q, self.record_good(), BAD_RECORD);
+        let q = then_ask(q, 1 <= buffer, BAD_LENGTH);
+        let q = then_ask(q, rest_good(rest), BAD_LL);
+        then_ask(
+            q,
             some_held(self.receiving.held) | !self.control.has_no_mark(),
             NOTHING_TO_READ,
-            0,
-        );
-        let length = ask(rest_good(rest), BAD_LL, waiting);
-        let room = ask(1 <= buffer, BAD_LENGTH, length);
-        let record = ask(self.record_good(), BAD_RECORD, room);
-        ask(self.inbox_lent(inbox.len()), BAD_BUFFER, record)
+        )
     }
 
-    // Bytes of the current record go to the caller's buffer, and the rest of those held to the inbox's front.
-    fn read_bytes(self, rest: Rest, inbox: &mut [u8], buffer: &mut [u8]) -> ReadDone
+    // Bytes of the current record: how many, and the record place after them.
+    fn bytes_decision(self, rest: Rest, inbox: &[u8], buffer: usize) -> ReadDone
         requires { ⌜ (rest ≡ recordRest self (now inbox)) × (self .receiving .held ≤ length (now inbox)) ⌝ }
-        ensures { λ r. ⌜ copiedBy r (now (inbox .exit)) (now (buffer .exit)) ≡ readBy self (bytesRead self (copyCount self (now (inbox .entry)) (length (now (buffer .entry)))) (now (inbox .entry))) (now (inbox .entry)) (now (buffer .entry)) ⌝ }
+        ensures { λ r. ⌜ r ≡ bytesRead self (copyCount self (now (inbox .entry)) buffer) (now (inbox .entry)) ⌝ }
     {
-        let k = copy_count(buffer.len(), self.receiving.held, rest);
-        let next = read_bytes(self.receiving, k, inbox, buffer);
+        let k = copy_count(buffer, self.receiving.held, rest);
+        let next = after_read(self.receiving, k, inbox);
         let place = next.read;
         ReadDone {
             answer: bytes_read(k, is_between(place)),
@@ -64,18 +65,32 @@ impl End {
         }
     }
 
-    // Reads what was received: bytes of the current record, as many as the buffer takes, or the mark.
-    pub fn receive(self, inbox: &mut [u8], buffer: &mut [u8]) -> ReadDone
-        ensures { λ r. ⌜ copiedBy r (now (inbox .exit)) (now (buffer .exit)) ≡ receive self (now (inbox .entry)) (now (buffer .entry)) ⌝ }
+    // What receive answers and leaves of the record, before a cell is written.
+    pub fn receive_decision(self, inbox: &[u8], buffer: usize) -> ReadDone
+        ensures { λ r. ⌜ r ≡ readDecision self (now (inbox .entry)) buffer ⌝ }
     {
         let rest = record_rest(self.receiving, inbox);
-        let q = self.read_refusal(rest, inbox, buffer.len());
+        let q = self.read_refusal(rest, inbox, buffer);
         if q != 0 {
             return read_refused(q, self);
         }
         if some_held(self.receiving.held) {
-            return self.read_bytes(rest, inbox, buffer);
+            return self.bytes_decision(rest, inbox, buffer);
         }
         self.read_mark()
+    }
+
+    // Reads what was received: bytes of the current record, as many as the buffer takes, or the mark. The bytes go to the caller's
+    // buffer, and the rest of those held to the inbox's front.
+    pub fn receive(self, inbox: &mut [u8], buffer: &mut [u8]) -> ReadDone
+        ensures { λ r. ⌜ copiedBy r (now (inbox .exit)) (now (buffer .exit)) ≡ receive self (now (inbox .entry)) (now (buffer .entry)) ⌝ }
+    {
+        let done = self.receive_decision(inbox, buffer.len());
+        if done.answer.copied == 0 {
+            return done;
+        }
+        let held = self.receiving.held as usize;
+        hand_over(inbox, held, done.answer.copied, buffer);
+        done
     }
 }

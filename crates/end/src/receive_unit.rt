@@ -1,52 +1,47 @@
 // The call receive unit (document 01: take).
 use crate::Done;
 use crate::End;
+use crate::requests::write_made;
 use crate::results::refused;
 use answers::numbers::BAD_HEADER;
 use answers::numbers::SHORT_UNIT;
 use answers::refuse_naming;
 use answers::rule_number;
 use header::Header;
+use taking::join;
 use taking::walk_data;
+use transitions::bid_answer;
 use unit::UnitRead;
 use unit::read::read_unit;
 ghost use mathlib.Core.Path.{_≡_};
-ghost use mathlib.Core.Bool.{true, _&&_};
-ghost use lib.ListN.{length};
+ghost use mathlib.Core.Bool.{true};
 ghost use Rattle.unit.specs.Unit.{headerIn};
-ghost use Rattle.end.specs.Record.{recordGood, inboxLent, unitLent};
+ghost use Rattle.end.specs.Record.{recordGood};
+ghost use Rattle.end.specs.Outcome.{doneOf};
 ghost use Rattle.end.specs.Results.{takenBy};
-ghost use Rattle.end.specs.ReceiveUnit.{receiveUnit};
+ghost use Rattle.end.specs.ReceiveUnit.{takeDecision, doneNaming, receiveUnit};
 ghost use Rattle.end.specs.RuleNamed.{NamesBroken};
-ghost use Rattle.end.specs.Kinds.{kindReceived};
+ghost use Rattle.end.specs.Kinds.{kindDecision};
 
 impl End {
-    // A unit whose heading is read: asked by its kind, and then taken.
-    fn receive_kind(
-        self,
-        header: Header,
-        number: u16,
-        ru: &[u8],
-        inbox: &mut [u8],
-        unit: &mut [u8],
-    ) -> Done
-        requires { ⌜ (inboxLent self (length (now inbox)) && unitLent self (length (now unit)) ≡ true) × (recordGood self ≡ true) ⌝ }
-        ensures outcome { λ r. ⌜ takenBy r (now (inbox .exit)) (now (unit .exit)) ≡ kindReceived (r .answer .rule) self header number (now (ru .entry)) (now (inbox .entry)) (now (unit .entry)) ⌝ }
-        ensures unnamed { λ r. ⌜ (r .answer .refusal ≡ 21 → ⊥) ⌝ }
+    // Of a unit whose heading is read: it is asked by its kind, and then taken. The RU is walked over once.
+    fn kind_decision(self, header: Header, number: u16, ru: &[u8]) -> Done
+        requires { ⌜ recordGood self ≡ true ⌝ }
+        ensures { λ r. ⌜ r ≡ doneOf (kindDecision self header number (now (ru .entry))) ⌝ }
     {
         let walked = walk_data(header, self.receiving, ru);
         let q = self.kind_refusal(header, number, walked, ru);
         if q != 0 {
             return refused(q, self);
         }
-        self.take_kind(header, number, walked, ru, inbox, unit)
+        self.take_kind(header, number, walked, ru)
     }
 
-    // Takes one unit from the partner, or refuses it and changes nothing. A bid is answered: its answer is the unit made.
-    pub fn receive_unit(self, taken: &[u8], inbox: &mut [u8], unit: &mut [u8]) -> Done
-        ensures { λ r. ⌜ (takenBy r (now (inbox .exit)) (now (unit .exit)) ≡ receiveUnit (r .answer .rule) self (now (taken .entry)) (now (inbox .entry)) (now (unit .entry))) × (r .answer .refusal ≡ 21 → NamesBroken (r .answer .rule) (headerIn (now (taken .entry)))) ⌝ }
+    // What receive unit answers and leaves of the record, before a cell is written. With 21 it names a rule that is broken.
+    pub fn receive_unit_decision(self, taken: &[u8], inbox: usize, unit: usize) -> Done
+        ensures { λ r. ⌜ (r ≡ doneNaming (r .answer .rule) (takeDecision self (now (taken .entry)) inbox unit)) × (r .answer .refusal ≡ 21 → NamesBroken (r .answer .rule) (headerIn (now (taken .entry)))) ⌝ }
     {
-        let q = self.end_refusal(inbox.len(), unit.len());
+        let q = self.end_refusal(inbox, unit);
         if q != 0 {
             return refused(q, self);
         }
@@ -54,7 +49,7 @@ impl End {
         match read {
             UnitRead::Good(heading) => {
                 let header = heading.header;
-                self.receive_kind(header, heading.number, &taken[5..], inbox, unit)
+                self.kind_decision(header, heading.number, &taken[5..])
             }
             UnitRead::TooShort => refused(SHORT_UNIT, self),
             UnitRead::Breaks(rule) => Done {
@@ -62,5 +57,16 @@ impl End {
                 end: self,
             },
         }
+    }
+
+    // Takes one unit from the partner, or refuses it and changes nothing. If more bytes are held then, they are the unit's own and
+    // join the inbox. A bid is answered, under its number, which is the last one taken: its answer is the unit made.
+    pub fn receive_unit(self, taken: &[u8], inbox: &mut [u8], unit: &mut [u8]) -> Done
+        ensures { λ r. ⌜ (takenBy r (now (inbox .exit)) (now (unit .exit)) ≡ receiveUnit (r .answer .rule) self (now (taken .entry)) (now (inbox .entry)) (now (unit .entry))) × (r .answer .refusal ≡ 21 → NamesBroken (r .answer .rule) (headerIn (now (taken .entry)))) ⌝ }
+    {
+        let done = self.receive_unit_decision(taken, inbox.len(), unit.len());
+        join(self.receiving.held, done.end.receiving.held, taken, inbox);
+        let answer = bid_answer(self.control);
+        write_made(done, done.end.receiving.number, answer, unit)
     }
 }

@@ -1,5 +1,4 @@
-// Units that an end makes: one of a kind that holds no data, written for an end that is already the new one; and the header of
-// its next data unit.
+// Units that an end makes: one of a kind that holds no data, decided and then written; and the header of the next data unit.
 use crate::Done;
 use crate::End;
 use crate::results::accepted;
@@ -7,22 +6,36 @@ use header::ChainEnd;
 use header::DataHeader;
 use header::Header;
 use transitions::begin_of;
+use unit::write::fixed_length;
 use unit::write::write_fixed;
 ghost use mathlib.Core.Path.{_≡_};
-ghost use Prim.Native.Nat.{_+_, _≤_};
+ghost use mathlib.Core.Bool.{cond};
+ghost use Prim.Native.Nat.{_+_};
+ghost use lib.Dec.{eqb};
 ghost use lib.ListN.{length};
 ghost use Rattle.unit.specs.Ru.{fixedRu};
+ghost use Rattle.unit.specs.Unit.{RU-START, cellsMade};
+ghost use Rattle.answers.specs.Answers.{accepted};
 ghost use Rattle.end.specs.Requests.{dataHeader};
-ghost use Rattle.end.specs.Outcome.{accept, aUnit, made};
 ghost use Rattle.end.specs.Results.{madeBy};
 
-// Makes the unit of a kind that holds no data.
-pub(crate) fn make_fixed(end: End, number: u16, header: Header, unit: &mut [u8]) -> Done
-    requires { ⌜ 5 + length (fixedRu header) ≤ length (now unit) ⌝ }
-    ensures { λ r. ⌜ madeBy r (now (unit .exit)) ≡ made (accept end (aUnit number header (fixedRu header))) (now (unit .entry)) ⌝ }
+// Accepted, with the length of a unit that holds no data; the end is already the new one.
+pub(crate) fn fixed_made(end: End, header: Header) -> Done
+    ensures { λ r. ⌜ r ≡ record { answer = accepted (RU-START + length (fixedRu header)); end = end } ⌝ }
 {
-    let n = write_fixed(unit, number, header);
+    let n = fixed_length(header);
     accepted(n, end)
+}
+
+// Writes the unit that was decided on, of a kind that holds no data. Where none was, nothing is written.
+pub(crate) fn write_made(done: Done, number: u16, header: Header, unit: &mut [u8]) -> Done
+    ensures { λ r. ⌜ madeBy r (now (unit .exit)) ≡ madeBy done (cond (eqb (done .answer .unit) 0) (now (unit .entry)) (cellsMade number header (fixedRu header) (now (unit .entry)))) ⌝ }
+{
+    if done.answer.unit == 0 {
+        return done;
+    }
+    write_fixed(unit, number, header);
+    done
 }
 
 impl End {

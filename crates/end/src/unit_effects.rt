@@ -1,7 +1,7 @@
-// What a unit changes that is taken, by its kind.
+// What a unit changes of the record that is taken, by its kind.
 use crate::Done;
 use crate::End;
-use crate::requests::make_fixed;
+use crate::requests::fixed_made;
 use crate::results::accepted;
 use control::Control;
 use header::DataHeader;
@@ -10,7 +10,7 @@ use header::build::confirms;
 use logical_record::Walked;
 use sides::incoming::request_counted;
 use sides::outgoing::credit_answered;
-use taking::join;
+use taking::joined;
 use taking::owed_after;
 use transitions::bid_answer;
 use transitions::bid_taken;
@@ -19,54 +19,38 @@ use transitions::data_taken;
 use transitions::grant_taken;
 use transitions::refusal_taken;
 ghost use mathlib.Core.Path.{_≡_};
-ghost use mathlib.Core.Bool.{true, _&&_};
+ghost use mathlib.Core.Bool.{true};
 ghost use Prim.Native.Nat.{_+_, _≤_};
 ghost use lib.ListN.{length};
-ghost use Rattle.cells.specs.Cells.{written};
 ghost use Rattle.logical_record.specs.Walk.{walk};
 ghost use Rattle.taking.specs.Taking.{walkedFor};
-ghost use Rattle.end.specs.Record.{recordGood, inboxLent, unitLent};
-ghost use Rattle.end.specs.Outcome.{accept, nothing, doneOf, made, withControl};
-ghost use Rattle.end.specs.Results.{madeBy, takenBy};
-ghost use Rattle.end.specs.ReceiveUnit.{dataJoined, bidAnswered, creditRaised};
-ghost use Rattle.end.specs.Kinds.{kindRefusal, kindLeft};
+ghost use Rattle.end.specs.Record.{recordGood};
+ghost use Rattle.end.specs.Outcome.{accept, nothing, doneOf, withControl};
+ghost use Rattle.end.specs.ReceiveUnit.{dataJoined, bidAnswered, creditRaised, kindTaken};
+ghost use Rattle.end.specs.Kinds.{kindRefusal};
 
 impl End {
     // `walked` is what the one walk over the RU found.
-    fn join_data(
-        self,
-        d: DataHeader,
-        number: u16,
-        walked: Walked,
-        ru: &[u8],
-        inbox: &mut [u8],
-    ) -> Done
-        requires { ⌜ (walked ≡ walk (self .receiving .taken) (now ru)) × (self .receiving .held + length (now ru) ≤ self .receiving .inbox) × (length (now inbox) ≡ self .receiving .inbox) ⌝ }
-        ensures done { λ r. ⌜ r ≡ doneOf (dataJoined self d number (now (ru .entry))) ⌝ }
-        ensures cells { λ _. ⌜ now (inbox .exit) ≡ written (self .receiving .held) (now (ru .entry)) (now (inbox .entry)) ⌝ }
+    fn join_data(self, d: DataHeader, number: u16, walked: Walked, ru: &[u8]) -> Done
+        requires { ⌜ (walked ≡ walk (self .receiving .taken) (now ru)) × (self .receiving .held + length (now ru) ≤ self .receiving .inbox) ⌝ }
+        ensures { λ r. ⌜ r ≡ doneOf (dataJoined self d number (now (ru .entry))) ⌝ }
     {
         let ends = d.ends;
-        let joined = join(self.receiving, walked, ru, inbox);
+        let next = joined(self.receiving, ru.len(), walked);
         let marked = data_taken(self.control, ends);
-        let mut end = self.with_control(marked).with_receiving(joined);
+        let mut end = self.with_control(marked).with_receiving(next);
         end.owed = owed_after(confirms(ends), number, self.owed);
         accepted(0, end)
     }
 
-    // A bid is granted in Reset and refused in any other state; either answer carries the bid's number.
-    fn answer_bid(self, number: u16, unit: &mut [u8]) -> Done
-        requires { ⌜ 10 ≤ length (now unit) ⌝ }
-        ensures { λ r. ⌜ madeBy r (now (unit .exit)) ≡ made (bidAnswered self number) (now (unit .entry)) ⌝ }
+    // A bid is granted in Reset and refused in any other state.
+    fn answer_bid(self, number: u16) -> Done
+        ensures { λ r. ⌜ r ≡ doneOf (bidAnswered self number) ⌝ }
     {
         let answer = bid_answer(self.control);
         let next = bid_taken(self.control);
         let counted = request_counted(self.receiving);
-        make_fixed(
-            self.with_control(next).with_receiving(counted),
-            number,
-            answer,
-            unit,
-        )
+        fixed_made(self.with_control(next).with_receiving(counted), answer)
     }
 
     // Of a grant, a bid refusal and a confirmation: only the finite part changes.
@@ -84,21 +68,13 @@ impl End {
     }
 
     // A unit that no question refused.
-    pub(crate) fn take_kind(
-        self,
-        header: Header,
-        number: u16,
-        walked: Walked,
-        ru: &[u8],
-        inbox: &mut [u8],
-        unit: &mut [u8],
-    ) -> Done
-        requires { ⌜ (inboxLent self (length (now inbox)) && unitLent self (length (now unit)) ≡ true) × (recordGood self ≡ true) × (kindRefusal self header number (now ru) ≡ 0) × (walked ≡ walkedFor header (self .receiving .taken) (now ru)) ⌝ }
-        ensures { λ r. ⌜ takenBy r (now (inbox .exit)) (now (unit .exit)) ≡ kindLeft self header number (now (ru .entry)) (now (inbox .entry)) (now (unit .entry)) ⌝ }
+    pub(crate) fn take_kind(self, header: Header, number: u16, walked: Walked, ru: &[u8]) -> Done
+        requires { ⌜ (recordGood self ≡ true) × (kindRefusal self header number (now ru) ≡ 0) × (walked ≡ walkedFor header (self .receiving .taken) (now ru)) ⌝ }
+        ensures { λ r. ⌜ r ≡ doneOf (kindTaken self header number (now (ru .entry))) ⌝ }
     {
         match header {
-            Header::Data(d) => self.join_data(d, number, walked, ru, inbox),
-            Header::Bid(_) => self.answer_bid(number, unit),
+            Header::Data(d) => self.join_data(d, number, walked, ru),
+            Header::Bid(_) => self.answer_bid(number),
             Header::PositiveBidResponse => self.settle(grant_taken(self.control)),
             Header::NegativeBidResponse => self.settle(refusal_taken(self.control)),
             Header::Confirmation => self.settle(confirmation_taken(self.control)),

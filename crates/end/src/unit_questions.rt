@@ -3,7 +3,7 @@ use crate::End;
 use answers::numbers::BAD_BUFFER;
 use answers::numbers::BAD_RECORD;
 use answers::numbers::UNREAD_MARK;
-use answers::questions::ask;
+use answers::questions::then_ask;
 use header::Header;
 use logical_record::Walked;
 use taking::bid_refusal;
@@ -19,13 +19,9 @@ impl End {
     pub(crate) fn end_refusal(self, inbox: usize, unit: usize) -> u8
         ensures { λ r. ⌜ r ≡ endRefusal self inbox unit ⌝ }
     {
-        let unread = ask(self.control.has_no_mark(), UNREAD_MARK, 0);
-        let record = ask(self.record_good(), BAD_RECORD, unread);
-        ask(
-            self.inbox_lent(inbox) & self.unit_lent(unit),
-            BAD_BUFFER,
-            record,
-        )
+        let q = then_ask(0, self.inbox_lent(inbox) & self.unit_lent(unit), BAD_BUFFER);
+        let q = then_ask(q, self.record_good(), BAD_RECORD);
+        then_ask(q, self.control.has_no_mark(), UNREAD_MARK)
     }
 
     // By the kind of unit. A response to a bid carries the bid's number, a confirmation the last one sent.

@@ -39,15 +39,12 @@ pub fn walk_given(s: Sending, bytes: &[u8]) -> Walked
     walk_over(given, bytes)
 }
 
-// The bytes are kept behind those held; `walked` is what the walk over them found.
-pub fn keep(s: Sending, walked: Walked, bytes: &[u8], send: &mut [u8]) -> Sending
-    requires { ⌜ (s .held + length (now bytes) ≤ s .max) × (s .max ≤ length (now send)) ⌝ }
-    ensures side { λ r. ⌜ r ≡ bytesAdded (length (now (bytes .entry))) (placeOr (s .given) walked) s ⌝ }
-    ensures cells { λ _. ⌜ now (send .exit) ≡ written (s .held) (now (bytes .entry)) (now (send .entry)) ⌝ }
+// The side once n more bytes are kept; `walked` is what the walk over them found.
+pub fn kept(s: Sending, n: usize, walked: Walked) -> Sending
+    requires { ⌜ s .held + n ≤ s .max ⌝ }
+    ensures { λ r. ⌜ r ≡ bytesAdded n (placeOr (s .given) walked) s ⌝ }
 {
-    let from = s.held as usize;
-    let held = s.held + bytes.len() as u16;
-    bytes::copy(bytes, &mut send[from..]);
+    let held = s.held + n as u16;
     let window = s.window;
     let before = s.given;
     let given = place_or(before, walked);
@@ -60,18 +57,26 @@ pub fn keep(s: Sending, walked: Walked, bytes: &[u8], send: &mut [u8]) -> Sendin
     }
 }
 
-// Makes the unit of the bytes held, and answers its length.
-pub fn send_held(number: u16, header: Header, held: u16, send: &[u8], unit: &mut [u8]) -> usize
-    requires { ⌜ (held ≤ length (now send)) × (5 + held ≤ length (now unit)) ⌝ }
-    ensures length { λ r. ⌜ r ≡ 5 + length (take held (now (send .entry))) ⌝ }
-    ensures cells { λ _. ⌜ now (unit .exit) ≡ front (unitOf number header (take held (now (send .entry)))) (now (unit .entry)) ⌝ }
+// The bytes are put behind those held.
+pub fn keep(held: u16, bytes: &[u8], send: &mut [u8])
+    requires { ⌜ held + length (now bytes) ≤ length (now send) ⌝ }
+    ensures { λ _. ⌜ now (send .exit) ≡ written held (now (bytes .entry)) (now (send .entry)) ⌝ }
 {
-    let n = held as usize;
-    write_unit(unit, number, header, &send[..n], b"")
+    let from = held as usize;
+    bytes::copy(bytes, &mut send[from..]);
 }
 
-// Makes the unit of the bytes held and the first of the new ones, `gone` of them, and answers its length. The rest is kept, at
-// the front of the send buffer. The buffer is not filled first: cells past the rest keep what they had.
+// Makes the unit of the bytes held.
+pub fn send_held(number: u16, header: Header, held: u16, send: &[u8], unit: &mut [u8])
+    requires { ⌜ (held ≤ length (now send)) × (5 + held ≤ length (now unit)) ⌝ }
+    ensures { λ _. ⌜ now (unit .exit) ≡ front (unitOf number header (take held (now (send .entry)))) (now (unit .entry)) ⌝ }
+{
+    let n = held as usize;
+    write_unit(unit, number, header, &send[..n], b"");
+}
+
+// Makes the unit of the bytes held and the first of the new ones, `gone` of them. The rest is kept, at the front of the send
+// buffer. The buffer is not filled first: cells past the rest keep what they had.
 pub fn send_full(
     number: u16,
     header: Header,
@@ -80,13 +85,11 @@ pub fn send_full(
     bytes: &[u8],
     send: &mut [u8],
     unit: &mut [u8],
-) -> usize
+)
     requires { ⌜ (held ≤ length (now send)) × (gone ≤ length (now bytes)) × (length (now bytes) ≤ length (now send)) × (5 + (held + gone) ≤ length (now unit)) ⌝ }
-    ensures length { λ r. ⌜ r ≡ 5 + length (take held (now (send .entry)) ++ take gone (now (bytes .entry))) ⌝ }
     ensures cells { λ _. ⌜ now (unit .exit) ≡ front (unitOf number header (take held (now (send .entry)) ++ take gone (now (bytes .entry)))) (now (unit .entry)) ⌝ }
     ensures kept { λ _. ⌜ now (send .exit) ≡ front (drop gone (now (bytes .entry))) (now (send .entry)) ⌝ }
 {
-    let n = write_unit(unit, number, header, &send[..held], &bytes[..gone]);
+    write_unit(unit, number, header, &send[..held], &bytes[..gone]);
     bytes::copy(&bytes[gone..], send);
-    n
 }

@@ -9,8 +9,9 @@ use lib.Dec.{T, leb}
 use Rattle.header.specs.Rules.{bytes, oneOf, dataH3, headerGood}
 use Rattle.header.specs.Claims.{sumBelow, goodHeaders, FortyEight}
 use Rattle.header.specs.declared.HeaderBytes.{HeaderBytes}
-use Rattle.header.proofs.Finite.{never, holds, both, follows-from}
+use Rattle.header.proofs.Finite.{never, holds, follows-from}
 use Rattle.header.proofs.Candidates.{allCandidates, good-at}
+use Rattle.bools.proofs.Tests.{both}
 
 -- ---- sums
 

@@ -2,12 +2,10 @@
 -- Assumes nothing.
 use mathlib.Core.Path.{_≡_, refl, sym, ap, _∙_}
 use mathlib.Core.Bool.{Bool, true, false, not, cond, _&&_, _||_}
-use mathlib.Core.List.{List}
 use Prim.Native.Nat.{ℕ, zero, suc, _≤_, _<_}
 use native.Mathlib.Omega.{arith}
-use borrow.Author.Tests.{le-leb, lt-leb, eqb-true, ne-eqb}
+use borrow.Author.Tests.{eqb-true, ne-eqb}
 use lib.Dec.{eqb}
-use lib.ListN.{length}
 use Rattle.header.specs.Weights.{PACING, on}
 use Rattle.header.specs.Rules.{bytes, keepsH1, keepsH2, keepsH3, keepsH4, keepsH5, keepsH6, keeps, breaks, headerGood}
 use Rattle.header.specs.Header.{fieldsOf, readAs, readLowest, ruleNamed}

@@ -5,7 +5,7 @@ use mathlib.Core.Bool.{Bool, true, false, not, cond, _||_}
 use Prim.Native.Nat.{ℕ, _+_}
 use native.Mathlib.Omega.{arith}
 use lib.Dec.{T, leb}
-use Rattle.header.specs.Weights.{FIRST, LAST, EXCEPTION, CONFIRM, PACING, BB, CD, CEB, on, bit}
+use Rattle.header.specs.Weights.{FIRST, LAST, DR1, DR2, EXCEPTION, PACING, BB, CD, CEB, on, bit}
 use Rattle.header.specs.Rules.{sameHeader, requestsConfirmation, headerGood}
 use Rattle.header.specs.Header.{isFirst, beginsBracket, isLast, confirms, followsOf, turns, endsBracket, dataBytes, headerBytes, beginOf, followOf, endOf, dataFields, fieldsOf, readAs}
 use Rattle.header.specs.Claims.{BuiltIsRead, ReadIsBuilt}
@@ -49,7 +49,7 @@ byte-0 false true = (refl, refl)
 byte-0 false false = (refl, refl)
 
 byte-1 : (confirm pacing : Bool)
-    → let y = cond confirm CONFIRM EXCEPTION + bit pacing PACING in (requestsConfirmation y ≡ confirm) × (on PACING y ≡ pacing)
+    → let y = cond confirm DR2 (DR1 + EXCEPTION) + bit pacing PACING in (requestsConfirmation y ≡ confirm) × (on PACING y ≡ pacing)
 byte-1 true true = (refl, refl)
 byte-1 true false = (refl, refl)
 byte-1 false true = (refl, refl)

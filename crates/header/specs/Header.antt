@@ -3,7 +3,7 @@
 use Prim.Native.Nat.{_+_}
 use mathlib.Core.Bool.{Bool, true, false, cond}
 use lib.Dec.{eqb}
-use Rattle.header.specs.Weights.{FIRST, LAST, EXCEPTION, CONFIRM, PACING, BB, CD, CEB, on, bit}
+use Rattle.header.specs.Weights.{RESPONSE, FLOW-CONTROL, FORMAT, SENSE, FIRST, LAST, DR1, DR2, EXCEPTION, PACING, BB, CD, CEB, on, bit}
 use Rattle.header.specs.Rules.{bytes, isData, requestsConfirmation, keepsH1, keepsH2, keepsH3, keepsH4, keepsH5, keepsH6, headerGood}
 use Rattle.header.specs.declared.HeaderBytes.{HeaderBytes}
 use Rattle.header.specs.declared.Rule.{Rule}
@@ -60,16 +60,16 @@ endsBracket EndBracket = true
 abbrev pub dataBytes : DataHeader → HeaderBytes
 dataBytes d =
     bytes (bit (isFirst (d .begins)) FIRST + bit (isLast (d .ends)) LAST)
-    (cond (confirms (d .ends)) CONFIRM EXCEPTION + bit (d .pacing) PACING)
+    (cond (confirms (d .ends)) DR2 (DR1 + EXCEPTION) + bit (d .pacing) PACING)
     (bit (beginsBracket (d .begins)) BB + bit (turns (followsOf (d .ends))) CD + bit (endsBracket (followsOf (d .ends))) CEB)
 
 unfoldable pub headerBytes : Header → HeaderBytes
 headerBytes (Data d) = dataBytes d
-headerBytes (Bid p) = bytes 0x4B (0x80 + bit p PACING) 0x80
-headerBytes PositiveBidResponse = bytes 0xCB 0x80 0x00
-headerBytes NegativeBidResponse = bytes 0xCF 0x90 0x00
-headerBytes Confirmation = bytes 0x83 0x20 0x00
-headerBytes PacingResponse = bytes 0x83 0x01 0x00
+headerBytes (Bid p) = bytes (FLOW-CONTROL + FORMAT + FIRST + LAST) (DR1 + bit p PACING) BB
+headerBytes PositiveBidResponse = bytes (RESPONSE + FLOW-CONTROL + FORMAT + FIRST + LAST) DR1 0
+headerBytes NegativeBidResponse = bytes (RESPONSE + FLOW-CONTROL + FORMAT + SENSE + FIRST + LAST) (DR1 + EXCEPTION) 0
+headerBytes Confirmation = bytes (RESPONSE + FIRST + LAST) DR2 0
+headerBytes PacingResponse = bytes (RESPONSE + FIRST + LAST) PACING 0
 
 -- ---- the fields of a header that is good
 

@@ -8,11 +8,16 @@ use crate::HeaderBytes;
 use crate::weights::BB;
 use crate::weights::CD;
 use crate::weights::CEB;
-use crate::weights::CONFIRM;
+use crate::weights::DR1;
+use crate::weights::DR2;
 use crate::weights::EXCEPTION;
 use crate::weights::FIRST;
+use crate::weights::FLOW_CONTROL;
+use crate::weights::FORMAT;
 use crate::weights::LAST;
 use crate::weights::PACING;
+use crate::weights::RESPONSE;
+use crate::weights::SENSE;
 ghost use mathlib.Core.Path.{_≡_};
 ghost use mathlib.Core.Bool.{cond};
 ghost use Prim.Native.Nat.{_≤_};
@@ -102,10 +107,13 @@ fn bit_of(b: bool, weight: u8) -> u8
     if b { weight } else { 0 }
 }
 
+// Byte 1 of data for which no confirmation is requested, and of the negative bid response.
+const EXCEPTION_RESPONSE: u8 = DR1 + EXCEPTION;
+
 fn response_bits(confirm: bool) -> u8
     ensures { λ r. ⌜ (r ≡ cond confirm 0x20 0x90) × (r ≤ 0x90) ⌝ }
 {
-    if confirm { CONFIRM } else { EXCEPTION }
+    if confirm { DR2 } else { EXCEPTION_RESPONSE }
 }
 
 fn build_data(d: DataHeader) -> HeaderBytes
@@ -123,6 +131,15 @@ fn build_data(d: DataHeader) -> HeaderBytes
     }
 }
 
+// Byte 0 of a bid, of its two responses, and of a response to data: the confirmation and the pacing response.
+const BID: u8 = FLOW_CONTROL + FORMAT + FIRST + LAST;
+
+const POSITIVE_BID_RESPONSE: u8 = RESPONSE + FLOW_CONTROL + FORMAT + FIRST + LAST;
+
+const NEGATIVE_BID_RESPONSE: u8 = RESPONSE + FLOW_CONTROL + FORMAT + SENSE + FIRST + LAST;
+
+const DATA_RESPONSE: u8 = RESPONSE + FIRST + LAST;
+
 // The three bytes of a header.
 pub fn build_header(h: Header) -> HeaderBytes
     ensures { λ r. ⌜ r ≡ headerBytes h ⌝ }
@@ -130,29 +147,29 @@ pub fn build_header(h: Header) -> HeaderBytes
     match h {
         Header::Data(d) => build_data(d),
         Header::Bid(pacing) => HeaderBytes {
-            b0: 0x4B,
-            b1: 0x80 + bit_of(pacing, PACING),
-            b2: 0x80,
+            b0: BID,
+            b1: DR1 + bit_of(pacing, PACING),
+            b2: BB,
         },
         Header::PositiveBidResponse => HeaderBytes {
-            b0: 0xCB,
-            b1: 0x80,
-            b2: 0x00,
+            b0: POSITIVE_BID_RESPONSE,
+            b1: DR1,
+            b2: 0,
         },
         Header::NegativeBidResponse => HeaderBytes {
-            b0: 0xCF,
-            b1: 0x90,
-            b2: 0x00,
+            b0: NEGATIVE_BID_RESPONSE,
+            b1: EXCEPTION_RESPONSE,
+            b2: 0,
         },
         Header::Confirmation => HeaderBytes {
-            b0: 0x83,
-            b1: 0x20,
-            b2: 0x00,
+            b0: DATA_RESPONSE,
+            b1: DR2,
+            b2: 0,
         },
         Header::PacingResponse => HeaderBytes {
-            b0: 0x83,
-            b1: 0x01,
-            b2: 0x00,
+            b0: DATA_RESPONSE,
+            b1: PACING,
+            b2: 0,
         },
     }
 }

@@ -13,7 +13,7 @@ use base.Fml.{fsep, fat}
 use prog.Wp.{Heap}
 use ghost.Atoms.{Atoms, sem}
 use types.Kit.{Given, ‵, _$_, _∵_, !, qed, use1, fsplit, fjoin, done, fpick, fpack}
-use denote.RattleType.{Denots}
+use denote.RattleType.{RattleType, Denots}
 use denote.Memory.{mem, cellAt, partOf}
 use denote.Laws.{Is, shows}
 use denote.Struct.Steps.{spelt}
@@ -92,6 +92,16 @@ reads = record {
   end-in = λ d. d .end;
   one = RP.the-type .to-one;
 }
+
+-- the end's record as a caller by value holds it
+abbrev pub R : RattleType
+R = T.the-row
+
+abbrev pub val : T.the-type .D → Val
+val = LL.val T.the-type T′.the-laws
+
+abbrev pub vals : T.the-type .D → List Val
+vals = LL.vals T.the-type T′.the-laws
 
 -- a parameter that was passed on to a callee for good: what is had of it at exit is what the callee's contract says of its last value
 abbrev pub passed-on : {n : ℕ} (s : Slot n) → Stay s yes

@@ -14,38 +14,39 @@ use Rattle.unit.specs.Unit.{headerIn}
 use Rattle.end.specs.ReceiveUnit.{receiveUnit}
 use Rattle.end.specs.RuleNamed.{NamesBroken}
 use Rattle.end.specs.Receive.{receive}
+use Rattle.host.proofs.Shapes.{In, Out}
 use Rattle.host.proofs.WrapUnit as unit
 use Rattle.host.proofs.WrapSendUnit as sendUnit
 use Rattle.host.proofs.WrapFlagSendUnit as flagSendUnit
 use Rattle.host.proofs.WrapBytesTwo as bytesTwo
 use Rattle.host.proofs.WrapTwo as two
 
-abbrev pub Allocate : End → unit.In → Done → unit.Out → Type 0
-Allocate h x r z = madeBy r z ≡ allocate h x
+abbrev pub Allocate : End → In unit.ks → Done → Out unit.ks → Type 0
+Allocate h x r z = madeBy r (z .0) ≡ allocate h (x .0)
 
-abbrev pub Confirmed : End → unit.In → Done → unit.Out → Type 0
-Confirmed h x r z = madeBy r z ≡ confirmed h x
+abbrev pub Confirmed : End → In unit.ks → Done → Out unit.ks → Type 0
+Confirmed h x r z = madeBy r (z .0) ≡ confirmed h (x .0)
 
-abbrev pub SendPacingResponse : End → unit.In → Done → unit.Out → Type 0
-SendPacingResponse h x r z = madeBy r z ≡ pace h x
+abbrev pub SendPacingResponse : End → In unit.ks → Done → Out unit.ks → Type 0
+SendPacingResponse h x r z = madeBy r (z .0) ≡ pace h (x .0)
 
-abbrev pub Flush : End → sendUnit.In → Done → sendUnit.Out → Type 0
-Flush h x r z = madeBy r z ≡ flush h (x .0) (x .1)
+abbrev pub Flush : End → In sendUnit.ks → Done → Out sendUnit.ks → Type 0
+Flush h x r z = madeBy r (z .0) ≡ flush h (x .0) (x .1 .0)
 
-abbrev pub Confirm : End → sendUnit.In → Done → sendUnit.Out → Type 0
-Confirm h x r z = madeBy r z ≡ confirm h (x .0) (x .1)
+abbrev pub Confirm : End → In sendUnit.ks → Done → Out sendUnit.ks → Type 0
+Confirm h x r z = madeBy r (z .0) ≡ confirm h (x .0) (x .1 .0)
 
-abbrev pub PrepareToReceive : End → flagSendUnit.In → Done → flagSendUnit.Out → Type 0
-PrepareToReceive h x r z = madeBy r z ≡ prepareToReceive (x .0) h (x .1) (x .2)
+abbrev pub PrepareToReceive : End → In flagSendUnit.ks → Done → Out flagSendUnit.ks → Type 0
+PrepareToReceive h x r z = madeBy r (z .0) ≡ prepareToReceive (x .0) h (x .1 .0) (x .1 .1 .0)
 
-abbrev pub Deallocate : End → flagSendUnit.In → Done → flagSendUnit.Out → Type 0
-Deallocate h x r z = madeBy r z ≡ deallocate (x .0) h (x .1) (x .2)
+abbrev pub Deallocate : End → In flagSendUnit.ks → Done → Out flagSendUnit.ks → Type 0
+Deallocate h x r z = madeBy r (z .0) ≡ deallocate (x .0) h (x .1 .0) (x .1 .1 .0)
 
-abbrev pub SendData : End → bytesTwo.In → Done → bytesTwo.Out → Type 0
-SendData h x r z = sentBy r (z .0) (z .1) ≡ sendData h (x .0) (x .1) (x .2)
+abbrev pub SendData : End → In bytesTwo.ks → Done → Out bytesTwo.ks → Type 0
+SendData h x r z = sentBy r (z .0) (z .1 .0) ≡ sendData h (x .0) (x .1 .0) (x .1 .1 .0)
 
-abbrev pub ReceiveUnit : End → bytesTwo.In → Done → bytesTwo.Out → Type 0
-ReceiveUnit h x r z = (takenBy r (z .0) (z .1) ≡ receiveUnit (r .answer .rule) h (x .0) (x .1) (x .2)) × (r .answer .refusal ≡ 21 → NamesBroken (r .answer .rule) (headerIn (x .0)))
+abbrev pub ReceiveUnit : End → In bytesTwo.ks → Done → Out bytesTwo.ks → Type 0
+ReceiveUnit h x r z = (takenBy r (z .0) (z .1 .0) ≡ receiveUnit (r .answer .rule) h (x .0) (x .1 .0) (x .1 .1 .0)) × (r .answer .refusal ≡ 21 → NamesBroken (r .answer .rule) (headerIn (x .0)))
 
-abbrev pub Receive : End → two.In → ReadDone → two.Out → Type 0
-Receive h x r z = copiedBy r (z .0) (z .1) ≡ receive h (x .0) (x .1)
+abbrev pub Receive : End → In two.ks → ReadDone → Out two.ks → Type 0
+Receive h x r z = copiedBy r (z .0) (z .1 .0) ≡ receive h (x .0) (x .1 .0)

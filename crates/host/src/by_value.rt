@@ -1,5 +1,5 @@
-// The same calls for a program that holds the record by value: each lends it to the call in place and hands the new one back. Their
-// promises are word for word those of the end's methods.
+// The calls that programs make on a record that they hold by value: each lends it to the call in place and hands the new one back.
+// Their promises are word for word those of the end's methods.
 use crate::in_place;
 use end::Done;
 use end::End;
@@ -8,12 +8,10 @@ ghost use mathlib.Core.Path.{_≡_};
 ghost use Rattle.unit.specs.Unit.{headerIn};
 ghost use Rattle.end.specs.Allocate.{allocate};
 ghost use Rattle.end.specs.SendData.{sendData};
-ghost use Rattle.end.specs.Close.{flush, confirm, prepareToReceive, deallocate};
-ghost use Rattle.end.specs.Confirmed.{confirmed};
+ghost use Rattle.end.specs.Close.{deallocate};
 ghost use Rattle.end.specs.ReceiveUnit.{receiveUnit};
 ghost use Rattle.end.specs.RuleNamed.{NamesBroken};
 ghost use Rattle.end.specs.Receive.{receive};
-ghost use Rattle.end.specs.Pace.{pace};
 ghost use Rattle.end.specs.Results.{madeBy, sentBy, takenBy, copiedBy};
 
 pub fn allocate(end: End, unit: &mut [u8]) -> Done
@@ -32,43 +30,11 @@ pub fn send_data(end: End, bytes: &[u8], send: &mut [u8], unit: &mut [u8]) -> Do
     Done { answer, end: kept }
 }
 
-pub fn flush(end: End, send: &[u8], unit: &mut [u8]) -> Done
-    ensures { λ r. ⌜ madeBy r (now (unit .exit)) ≡ flush end (now (send .entry)) (now (unit .entry)) ⌝ }
-{
-    let mut kept = end;
-    let answer = in_place::flush(&mut kept, send, unit);
-    Done { answer, end: kept }
-}
-
-pub fn confirm(end: End, send: &[u8], unit: &mut [u8]) -> Done
-    ensures { λ r. ⌜ madeBy r (now (unit .exit)) ≡ confirm end (now (send .entry)) (now (unit .entry)) ⌝ }
-{
-    let mut kept = end;
-    let answer = in_place::confirm(&mut kept, send, unit);
-    Done { answer, end: kept }
-}
-
-pub fn prepare_to_receive(end: End, confirm: bool, send: &[u8], unit: &mut [u8]) -> Done
-    ensures { λ r. ⌜ madeBy r (now (unit .exit)) ≡ prepareToReceive confirm end (now (send .entry)) (now (unit .entry)) ⌝ }
-{
-    let mut kept = end;
-    let answer = in_place::prepare_to_receive(&mut kept, confirm, send, unit);
-    Done { answer, end: kept }
-}
-
 pub fn deallocate(end: End, confirm: bool, send: &[u8], unit: &mut [u8]) -> Done
     ensures { λ r. ⌜ madeBy r (now (unit .exit)) ≡ deallocate confirm end (now (send .entry)) (now (unit .entry)) ⌝ }
 {
     let mut kept = end;
     let answer = in_place::deallocate(&mut kept, confirm, send, unit);
-    Done { answer, end: kept }
-}
-
-pub fn confirmed(end: End, unit: &mut [u8]) -> Done
-    ensures { λ r. ⌜ madeBy r (now (unit .exit)) ≡ confirmed end (now (unit .entry)) ⌝ }
-{
-    let mut kept = end;
-    let answer = in_place::confirmed(&mut kept, unit);
     Done { answer, end: kept }
 }
 
@@ -86,12 +52,4 @@ pub fn receive(end: End, inbox: &mut [u8], buffer: &mut [u8]) -> ReadDone
     let mut kept = end;
     let answer = in_place::receive(&mut kept, inbox, buffer);
     ReadDone { answer, end: kept }
-}
-
-pub fn send_pacing_response(end: End, unit: &mut [u8]) -> Done
-    ensures { λ r. ⌜ madeBy r (now (unit .exit)) ≡ pace end (now (unit .entry)) ⌝ }
-{
-    let mut kept = end;
-    let answer = in_place::send_pacing_response(&mut kept, unit);
-    Done { answer, end: kept }
 }

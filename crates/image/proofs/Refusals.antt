@@ -9,7 +9,8 @@ use Rattle.answers.specs.Answers.{BAD-RECORD}
 use Rattle.image_parts.specs.Parts.{placeGood}
 use Rattle.image.specs.Image.{IMAGE, codesGood, flagsGood, placesGood, recordIn, imageGood, imageRead}
 use Rattle.image.specs.declared.ImageRead.the-variants.{Record, Refused}
-use Rattle.image_parts.proofs.Listed.{both, one-no}
+use Rattle.image_parts.proofs.Listed.{one-no}
+use Rattle.bools.proofs.Tests.{both}
 
 first-no : (a b d : Bool) → a && b ≡ false → a && (b && d) ≡ false
 first-no true b d h = rw h

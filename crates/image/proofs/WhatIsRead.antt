@@ -11,7 +11,7 @@ use borrow.Author.Tests.{eqb-true}
 use Rattle.answers.specs.Answers.{BAD-BUFFER, BAD-RECORD}
 use Rattle.end.specs.declared.End.{End}
 use Rattle.image_parts.specs.Parts.{byteAt, numberAt}
-use Rattle.image.specs.Image.{IMAGE, imageOf, imageWritten, recordIn, imageGood, imageRead}
+use Rattle.image.specs.Image.{IMAGE, recordIn, imageGood, imageRead}
 use Rattle.image.specs.declared.ImageRead.{ImageRead}
 use Rattle.image.specs.declared.ImageRead.the-variants.{Record, Refused}
 
@@ -36,11 +36,6 @@ module _ (image : List ℕ) (e : End) where
   record-known =
       reading image (λ (r : ImageRead). r ≡ Record e → (length image ≡ IMAGE) × (imageGood image ≡ true) × (recordIn image ≡ e))
       (λ l g h. (l, g, cc)) (never BAD-RECORD e) (never BAD-BUFFER e)
-
-  -- such an image is written whole
-  pub written-whole : (next : End) → imageRead image ≡ Record e → imageWritten next image ≡ imageOf next
-  unfolding imageWritten
-  written-whole next h = rw (record-known h .0)
 
   -- its numbers are of 16 bits
   pub sizes-small : ((i : ℕ) → byteAt image i < 256) → imageRead image ≡ Record e

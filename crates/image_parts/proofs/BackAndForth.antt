@@ -23,7 +23,7 @@ use Rattle.control.specs.declared.WhatReceived.the-variants as mark
 use Rattle.sides.specs.Opening.{roleOf}
 use Rattle.image_parts.specs.Codes.{stateOf, followsNumber, followsOf, markOf}
 use Rattle.image_parts.specs.Parts.{flagByte, numberBytes, placeKind, placeValue, placeBytes, placeOf, placeFits, firstByte}
-use Rattle.image_parts.proofs.Listed.{both}
+use Rattle.bools.proofs.Tests.{both}
 
 past : {A : Type 0} (n k : ℕ) → leb n k ≡ true → k < n → A
 past n k h g = absurd (let l : n ≤ k = leb-true n k h in omega arith)

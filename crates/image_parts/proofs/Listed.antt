@@ -7,6 +7,7 @@ use Prim.Native.Nat.{ℕ, zero, suc}
 use native.Mathlib.Omega.{arith}
 use lib.ListN.{length, getD}
 use Rattle.answers.specs.Questions.{allOf}
+use Rattle.bools.proofs.Tests.{both}
 
 -- n elements from `at` on; at numbers that are written out it computes to a list that is written out
 abbrev pub listed : List ℕ → ℕ → ℕ → List ℕ
@@ -20,10 +21,6 @@ past-head x xs at (suc n) = ap (λ (l : List ℕ). getD xs at 0 ∷ l) (past-hea
 pub listed-is : (xs : List ℕ) → listed xs 0 (length xs) ≡ xs
 listed-is [] = refl
 listed-is (x ∷ xs) = ap (λ (l : List ℕ). x ∷ l) (past-head x xs 0 (length xs) ∙ listed-is xs)
-
-pub both : (a b : Bool) → a && b ≡ true → (a ≡ true) × (b ≡ true)
-both true b e = (refl, e)
-both false b e = absurd (let z : _≡_ {A = ℕ} 0 1 = cc in omega arith)
 
 pub each : (bs : List Bool) → allOf bs ≡ true → (k : ℕ) → getD bs k true ≡ true
 each [] h k = refl

@@ -1,148 +1,30 @@
 -- After every list of calls that give bytes, both records are within the section 'The end's record': question 5 is answered yes at each end.
 -- Assumes nothing.
-use Prim.Native.Nat.{ℕ, _+_, _-_, _<_}
+use Prim.Native.Nat.{ℕ, _+_, _<_}
 use mathlib.Core.Path.{_≡_, refl}
-use mathlib.Core.Bool.{Bool, true, false, cond}
+use mathlib.Core.Bool.{Bool, true, false}
 use mathlib.Core.List.{List, [], _∷_}
 use native.Mathlib.Omega.{arith}
 use lib.Dec.{eqb}
-use lib.ListN.{length, take, drop}
-use Rattle.header.specs.Header.{confirms}
-use Rattle.unit.specs.Ru.{bidRu, fixedRu}
-use Rattle.unit.specs.Unit.{RU-START, unitOf, numberIn}
-use Rattle.header.specs.declared.Follows.{Follows}
-use Rattle.header.specs.declared.ChainEnd.the-variants.{Continues, Last}
-use Rattle.header.specs.declared.Header.{Header}
-use Rattle.header.specs.declared.Header.the-variants.{Data, Bid, PositiveBidResponse, NegativeBidResponse, Confirmation, PacingResponse}
-use Rattle.pacing.specs.Pacing.{paced}
-use Rattle.transitions.specs.Transitions.{bidAnswer}
+use lib.ListN.{length}
 use Rattle.end.specs.Record.{recordGood}
-use Rattle.sides.specs.Shared.{nextNumber}
-use Rattle.end.specs.Requests.{dataHeader}
 use Rattle.sides.specs.Opening.{openingRefusal}
 use Rattle.session.specs.Opening.{opened}
-use Rattle.end.specs.Allocate.{bidMade}
-use Rattle.end.specs.SendData.{heldBytes, gone, bytesKept, bytesSpilled}
-use Rattle.end.specs.Close.{lastMade}
-use Rattle.end.specs.ReceiveUnit.{headerTaken, ruTaken, dataJoined, bidAnswered, creditRaised}
-use Rattle.end.specs.Receive.{inboxBytes, bytesRead, inboxMoved}
 use Rattle.sides.specs.declared.Session.{Session}
 use Rattle.end.specs.declared.Done.{Done}
 use Rattle.joined.specs.Lanes.{Lines}
-use Rattle.joined.specs.Joined.{Call, act, At, first, second, Acted, Took, takeOldest, apply, step, run}
+use Rattle.joined.specs.Joined.{Call, act, At, first, second, takeOldest, apply, step, run}
 use Rattle.joined.specs.Joined as J
-use Rattle.joined.specs.Ends.{Lane, normal, sameLane, Station, Verb, Reply, Buffers, OpeningAccepted, openedWith, openedBoth, acts, takes}
-use Rattle.joined.specs.Histories.{Log, count, refusedWith}
-use Rattle.joined.specs.SingleCalls.{AllBytes, BytesOf}
-use Rattle.joined.specs.Claim.{Pair, after, LentBytes, BytesIn, BytesAt, BytesOfAll, BothGood, AlwaysGood}
-use Rattle.joined.proofs.Cases.{cases}
-use Rattle.joined.proofs.Acts.{allocate-cases, bidNumber, send-cases, spilledRu, close-cases, confirmed-cases, pace-cases, read-cases, readCount, take-cases, tookKind}
-use Rattle.joined.proofs.ByteLists.{none-bytes, take-bytes, drop-bytes, append-bytes, front-bytes-all, written-bytes-all, next-small, number-small, unit-bytes, fixed-bytes, AllUnits, append-units}
-use Rattle.joined.proofs.Refusals.{never-5, take-never-5}
-use Rattle.joined.proofs.KeptCalls.{good-acts, good-takes, good-opened}
-
--- ---- the cells and units are bytes, and the number owed is one of two bytes
-
-record Cells (s : Station) : Type 0 where
-  send : AllBytes (s .send)
-  inbox : AllBytes (s .inbox)
-  owed : s .end .owed < 65536
-
-module _ (s : Station) (c : Cells s) where
-  abbrev After : Acted Lane Station Reply (List ℕ) → Type 0
-  After m = Cells (m .end) × AllUnits (m .sent normal)
-
-  one-unit : (n : ℕ) (h : Header) (ru : List ℕ) → n < 65536 → AllBytes ru → AllUnits (unitOf n h ru ∷ [])
-  one-unit n h ru l f = (unit-bytes n h ru l f, tt)
-
-  held-bytes : AllBytes (heldBytes (s .end) (s .send))
-  held-bytes = take-bytes (s .end .sending .held) (s .send) (c .send)
-
-  closes : (f : Follows) (b : Bool) → After (acts s (Verb.close f b))
-  unfolding lastMade
-  closes f b =
-      close-cases After s f b (λ q n. (c, tt)) (λ a n. (record { send = c .send; inbox = c .inbox; owed = c .owed }, tt))
-      (λ a n k. (
-        record { send = c .send; inbox = c .inbox; owed = c .owed },
-        one-unit (nextNumber (s .end .sending .number)) (dataHeader (s .end) (Last f b)) (heldBytes (s .end) (s .send))
-            (next-small (s .end .sending .number)) held-bytes,
-      ))
-
-  gives : (bytes : List ℕ) → AllBytes bytes → After (acts s (Verb.sendData bytes))
-  unfolding bytesKept bytesSpilled
-  gives bytes b =
-      let e = s .end in
-      send-cases After s bytes (λ q n. (c, tt))
-      (λ a k. (record { send = written-bytes-all (e .sending .held) bytes (s .send) b (c .send); inbox = c .inbox; owed = c .owed }, tt))
-      (λ a k h. (
-        record {
-          send = front-bytes-all (drop (gone e) bytes) (s .send) (drop-bytes (gone e) bytes b) (c .send);
-          inbox = c .inbox;
-          owed = c .owed;
-        },
-        one-unit (nextNumber (e .sending .number)) (dataHeader e Continues) (spilledRu s bytes) (next-small (e .sending .number))
-            (append-bytes (heldBytes e (s .send)) (take (gone e) bytes) held-bytes (take-bytes (gone e) bytes b)),
-      ))
-
-  moved-bytes : (k : ℕ) → AllBytes (inboxMoved (s .end) k (s .inbox))
-  unfolding inboxMoved
-  moved-bytes k =
-      let held = inboxBytes (s .end) (s .inbox) in
-      cases AllBytes (eqb k 0) (λ y. c .inbox)
-      (λ y. front-bytes-all (drop k held) (s .inbox) (drop-bytes k held (take-bytes (s .end .receiving .held) (s .inbox) (c .inbox))) (c .inbox))
-
-  cells-acts : (v : Verb) → BytesOf v → After (acts s v)
-  unfolding acts bidMade bytesRead
-  cells-acts Verb.allocate b =
-      allocate-cases After s (λ q n. (c, tt)) (λ g a w. (record { send = c .send; inbox = c .inbox; owed = c .owed }, tt))
-      (λ g a w k. (
-        record { send = c .send; inbox = c .inbox; owed = c .owed },
-        one-unit (bidNumber (s .end)) (Bid (paced (s .end .sending .window))) bidRu (next-small (s .end .sending .number))
-            (fixed-bytes (Bid (paced (s .end .sending .window)))),
-      ))
-  cells-acts Verb.confirmed b =
-      confirmed-cases After s (λ q n. (c, tt))
-      (λ g a. (record { send = c .send; inbox = c .inbox; owed = c .owed }, one-unit (s .end .owed) Confirmation [] (c .owed) none-bytes))
-  cells-acts Verb.pace b =
-      pace-cases After s (λ q n. (c, tt))
-      (λ g a. (record { send = c .send; inbox = c .inbox; owed = c .owed }, one-unit 0 PacingResponse [] (omega arith) none-bytes))
-  cells-acts (Verb.sendData bytes) b = gives bytes b
-  cells-acts (Verb.close f x) b = closes f x
-  cells-acts (Verb.receive buffer) b =
-      read-cases After s buffer (λ q w n. (c, tt))
-      (λ a h. (record { send = c .send; inbox = moved-bytes (readCount s buffer); owed = c .owed }, tt))
-      (λ a h m. (record { send = c .send; inbox = c .inbox; owed = c .owed }, tt))
-
-  abbrev Left : Took Lane Station Reply (List ℕ) → Type 0
-  Left t = Cells (t .end) × AllUnits (t .sent normal)
-
-  -- the number owed is that of the unit, or as it was
-  owed-small : (b : Bool) (n : ℕ) → n < 65536 → cond b n (s .end .owed) < 65536
-  owed-small true n l = l
-  owed-small false n l = c .owed
-
-  kind-cells : (h : Header) (n : ℕ) (ru : List ℕ) → n < 65536 → AllBytes ru → Left (tookKind s h n ru)
-  unfolding dataJoined bidAnswered creditRaised
-  kind-cells (Data d) n ru l f = (
-    record {
-      send = c .send;
-      inbox = written-bytes-all (s .end .receiving .held) ru (s .inbox) f (c .inbox);
-      owed = owed-small (confirms (d .ends)) n l;
-    },
-    tt,
-  )
-  kind-cells (Bid p) n ru l f =
-      let h = bidAnswer (s .end .control) in
-      (record { send = c .send; inbox = c .inbox; owed = c .owed }, one-unit n h (fixedRu h) l (fixed-bytes h))
-  kind-cells PositiveBidResponse n ru l f = (record { send = c .send; inbox = c .inbox; owed = c .owed }, tt)
-  kind-cells NegativeBidResponse n ru l f = (record { send = c .send; inbox = c .inbox; owed = c .owed }, tt)
-  kind-cells Confirmation n ru l f = (record { send = c .send; inbox = c .inbox; owed = c .owed }, tt)
-  kind-cells PacingResponse n ru l f = (record { send = c .send; inbox = c .inbox; owed = c .owed }, tt)
-
-  cells-takes : (naming : List ℕ → ℕ) (u : List ℕ) → AllBytes u → Left (takes naming normal s u)
-  cells-takes naming u f =
-      take-cases Left naming s u (λ q w n. (c, tt))
-      (λ a k. kind-cells (headerTaken u) (numberIn u) (ruTaken u) (number-small u f) (drop-bytes RU-START u f))
+use Rattle.joined.specs.Ends.{Lane, normal, sameLane, Buffers, OpeningAccepted, openedWith, openedBoth, acts, takes}
+use Rattle.joined.specs.Histories.{Log, refusedWith}
+use Rattle.bools.proofs.Cases.{cases}
+use Rattle.calls.proofs.ByteLists.{AllUnits, append-units}
+use Rattle.calls.proofs.RecordStaysGood.{good-acts, good-opened, good-takes}
+use Rattle.calls.proofs.Refusals.{never-5, take-never-5}
+use Rattle.calls.specs.Calls.{Station, Verb}
+use Rattle.calls.specs.Units.{count}
+use Rattle.joined.specs.Claim.{Pair, LentBytes, BytesIn, BytesAt, BytesOfAll, AlwaysGood}
+use Rattle.calls.proofs.CellsStayBytes.{Cells, cells-acts, cells-takes}
 
 -- ---- lists of calls
 
@@ -166,7 +48,7 @@ module _ (naming : List ℕ → ℕ) where
   one-take : (e : Station) (es : Log) (w : Lines Lane (List ℕ)) (us : List (List ℕ)) → Sound e → AllUnits (w normal) → AllUnits us → refusedWith 5 es ≡ 0
       → (let r = takeOldest sameLane acts (takes naming) e es w normal us in
       Rests (r .side .end) (r .side .waiting normal) (r .sent normal) (r .side .log))
-  unfolding refusedWith
+  unfolding refusedWith acts takes
   one-take e es w [] s f g z = record { end = s; line = f; made = tt; never = z }
   one-take e es w (u ∷ us) s f g z =
       let q = cells-takes e (s .cells) naming u (g .0) in
@@ -179,7 +61,7 @@ module _ (naming : List ℕ → ℕ) where
 
   one-call : (e : Station) (es : Log) (w : Lines Lane (List ℕ)) (c : Call Lane Verb) → BytesIn c → Sound e → AllUnits (w normal) → refusedWith 5 es ≡ 0
       → (let r = apply sameLane acts (takes naming) e es w c in Rests (r .side .end) (r .side .waiting normal) (r .sent normal) (r .side .log))
-  unfolding refusedWith
+  unfolding refusedWith acts takes
   one-call e es w (act v) b s f z =
       let q = cells-acts e (s .cells) v b in
       record {

@@ -1,9 +1,14 @@
 -- An automaton over the units of a line: it goes on from unit to unit, or is stuck at one.
 -- Assumes nothing.
-use mathlib.Core.Path.{_≡_, refl, sym, ap, _∙_, subst}
+use mathlib.Core.Path.{_≡_, refl, sym, subst}
+use mathlib.Core.Bool.{Bool, true, false, cond, false≢true}
 use mathlib.Core.List.{List, [], _∷_, _++_}
 use native.Mathlib.Omega.{arith}
 use Prim.Native.Nat.{ℕ}
+
+-- no is not yes
+pub never : {X : Type 0} → false ≡ true → X
+never e = absurd (false≢true e)
 
 pub data Ran (S : Type 0) : Type 0 where
   ok : S → Ran S
@@ -14,6 +19,15 @@ stuck≢ok e = let z : _≡_ {A = ℕ} 0 1 = cc in omega arith
 
 pub ok-is : {S : Type 0} {s t : S} → _≡_ {A = Ran S} (ok s) (ok t) → s ≡ t
 ok-is e = cc
+
+-- a step that is taken only if a test holds
+pub went : {S : Type 0} (b : Bool) (x t : S) → cond b (ok x) stuck ≡ ok t → (b ≡ true) × (x ≡ t)
+went true x t e = (refl, ok-is e)
+went false x t e = absurd (stuck≢ok e)
+
+pub goes : {S : Type 0} (b : Bool) (x : S) → b ≡ true → cond b (ok x) stuck ≡ ok x
+goes true x e = refl
+goes false x e = never e
 
 abbrev pub goOn : {S U : Type 0} → (S → U → Ran S) → Ran S → List U → Ran S
 goOn step r [] = r

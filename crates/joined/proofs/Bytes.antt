@@ -1,13 +1,9 @@
 -- Bytes are conserved in order: those accepted are those read, then those in the inbox, on the line and in the send buffer.
 -- Assumes nothing.
 use Prim.Native.Nat.{ℕ, _+_, _-_, _≤_}
-use mathlib.Core.Path.{_≡_, refl, sym, ap, _∙_, subst}
-use mathlib.Core.Bool.{Bool, true, false, cond}
+use mathlib.Core.Path.{_≡_, sym, ap, _∙_}
 use mathlib.Core.List.{List, [], _∷_, _++_, append-nil, append-assoc}
-use native.Mathlib.Omega.{arith}
-use borrow.Author.Tests.{ne-eqb}
-use lib.Dec.{eqb}
-use lib.ListN.{length, take, drop, length-take, length-drop, take-append-drop}
+use lib.ListN.{length, take, drop, length-drop, take-append-drop}
 use lib.Seq.{take-take, length-take-le}
 use Rattle.cells.specs.Cells.{front, written}
 use Rattle.cells.proofs.Fronts.{front-bytes, written-bytes}
@@ -16,8 +12,9 @@ use Rattle.header.specs.declared.DataHeader.{DataHeader}
 use Rattle.header.specs.declared.Header.{Header}
 use Rattle.header.specs.declared.Header.the-variants.{Data}
 use Rattle.end.specs.ReceiveUnit.{headerTaken, ruTaken}
-use Rattle.joined.specs.Histories.{bytesOnLine, dataRu}
-use Rattle.joined.proofs.Units.{dataOf, data-ru, line-more}
+use Rattle.joined.specs.Histories.{bytesOnLine}
+use Rattle.joined.proofs.Units.{line-more}
+use Rattle.calls.proofs.Units.{data-ru, dataOf}
 
 pub record Carried (accepted held : List ℕ) (line : List (List ℕ)) (read inbox : List ℕ) : Type 0 where
   pub bytes : accepted ≡ read ++ (inbox ++ (bytesOnLine line ++ held))

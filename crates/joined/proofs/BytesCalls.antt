@@ -2,18 +2,17 @@
 -- Assumes nothing.
 use Prim.Native.Nat.{ℕ, _+_, _-_, _≤_, min}
 use mathlib.Core.Path.{_≡_, refl, sym, ap, _∙_, subst}
-use mathlib.Core.Bool.{Bool, true, false, not, cond, _&&_, _||_}
+use mathlib.Core.Bool.{Bool, true, false, cond}
 use mathlib.Core.List.{List, [], _∷_, _++_, append-nil, append-assoc}
 use native.Mathlib.Nat.{min-le-left, min-le-right, le-trans}
 use native.Mathlib.Omega.{arith}
-use borrow.Author.Tests.{eqb-true, leb-true}
-use lib.Dec.{eqb, leb}
+use borrow.Author.Tests.{eqb-true}
+use lib.Dec.{eqb}
 use lib.ListN.{length, take, drop, length-drop, take-append-drop}
 use Rattle.cells.specs.Cells.{front, written}
 use Rattle.unit.specs.Ru.{fixedRu, bidRu}
 use Rattle.unit.specs.Unit.{unitOf, numberIn}
 use Rattle.header.specs.declared.Follows.{Follows}
-use Rattle.header.specs.declared.ChainEnd.{ChainEnd}
 use Rattle.header.specs.declared.ChainEnd.the-variants.{Continues, Last}
 use Rattle.header.specs.declared.DataHeader.{DataHeader}
 use Rattle.header.specs.declared.Header.{Header}
@@ -31,16 +30,18 @@ use Rattle.end.specs.SendData.{heldBytes, gone, bytesKept, bytesSpilled}
 use Rattle.end.specs.Close.{lastMade}
 use Rattle.end.specs.ReceiveUnit.{headerTaken, ruTaken, dataJoined, bidAnswered, creditRaised}
 use Rattle.reading.specs.Reading.{restBytes}
-use Rattle.end.specs.Receive.{recordRest, copyCount, bytesRead, inboxMoved, someHeld}
+use Rattle.end.specs.Receive.{recordRest, copyCount, bytesRead, inboxMoved}
 use Rattle.end.specs.Receive as R
 use Rattle.joined.specs.Joined.{Acted, Took, acted, took}
-use Rattle.joined.specs.Ends.{Lane, normal, Station, Verb, Reply, onNormal, acts, takes}
+use Rattle.joined.specs.Ends.{Lane, normal, onNormal, acts, takes}
 use Rattle.joined.specs.Histories.{Log, bytesAccepted, bytesInSendBuffer, bytesInInbox}
 use Rattle.joined.specs.Histories as H
-use Rattle.joined.proofs.Good.{held-most, inbox-most}
-use Rattle.joined.proofs.Acts.{allocate-cases, bidNumber, send-cases, SendAsked, spilledRu, spilledUnit, close-cases, CloseAsked, confirmed-cases, pace-cases, read-cases, ReadAsked, readCount, take-cases, TakeAsked, tookKind}
+use Rattle.calls.proofs.CallCases.{ReadAsked, SendAsked, TakeAsked, allocate-cases, bidNumber, close-cases, confirmed-cases, pace-cases, read-cases, readCount, send-cases, spilledRu, spilledUnit}
+use Rattle.calls.proofs.Units.{dataOf}
+use Rattle.calls.specs.Calls.{Reply, Station, Verb}
+use Rattle.end.proofs.Within.{facts, held-in-inbox}
+use Rattle.joined.proofs.Laned.{Laned, take-cases, tookKind}
 use Rattle.joined.proofs.Local.{refused-accepts}
-use Rattle.joined.proofs.Units.{dataOf}
 use Rattle.joined.proofs.Bytes.{Carried, carried-kept, carried-sent, carried-other, carried-read, carried-taken, held-more, held-rest, copied-is, inbox-parts, inbox-left}
 
 -- ---- as the sending end
@@ -89,18 +90,18 @@ module _ (s : Station) (xs : Log) (line : List (List ℕ)) (read inbox : List �
   pub bytes-acts : (v : Verb) → After v (acts s v)
   unfolding acts bytesAccepted bytesKept bytesSpilled bytesRead bidMade lastMade requestMade
   bytes-acts Verb.allocate =
-      allocate-cases (After Verb.allocate) s (λ q n. same (refused-accepts Verb.allocate q [] (onNormal []) xs n) c) (λ g a w. quiet c)
+      allocate-cases (Laned (After Verb.allocate)) s (λ q n. same (refused-accepts Verb.allocate q [] (onNormal []) xs n) c) (λ g a w. quiet c)
       (λ g a w k. nothing-more (carried-other (bidNumber (s .end)) (Bid (paced (s .end .sending .window))) bidRu refl c))
   bytes-acts Verb.confirmed =
-      confirmed-cases (After Verb.confirmed) s (λ q n. same (refused-accepts Verb.confirmed q [] (onNormal []) xs n) c)
+      confirmed-cases (Laned (After Verb.confirmed)) s (λ q n. same (refused-accepts Verb.confirmed q [] (onNormal []) xs n) c)
       (λ g a. nothing-more (carried-other (s .end .owed) Confirmation [] refl c))
   bytes-acts Verb.pace =
-      pace-cases (After Verb.pace) s (λ q n. same (refused-accepts Verb.pace q [] (onNormal []) xs n) c)
+      pace-cases (Laned (After Verb.pace)) s (λ q n. same (refused-accepts Verb.pace q [] (onNormal []) xs n) c)
       (λ g a. nothing-more (carried-other 0 PacingResponse [] refl c))
   bytes-acts (Verb.sendData bytes) =
-      send-cases (After (Verb.sendData bytes)) s bytes (λ q n. same (refused-accepts (Verb.sendData bytes) q [] (onNormal []) xs n) c)
+      send-cases (Laned (After (Verb.sendData bytes))) s bytes (λ q n. same (refused-accepts (Verb.sendData bytes) q [] (onNormal []) xs n) c)
       (λ a k.
-      let h = held-most (s .end) (a .good) in
+      let h = facts (s .end) (a .good) .sending .held in
       let b = a .buffer in
       let more = held-more (s .end .sending .held) bytes (s .send) (omega arith) in
       subst
@@ -110,10 +111,10 @@ module _ (s : Station) (xs : Log) (line : List (List ℕ)) (read inbox : List �
       (subst (λ (x : List ℕ). Carried (bytesAccepted xs ++ bytes) x line read inbox) (sym more) (carried-kept bytes c)))
       (λ a k h. spill bytes a)
   bytes-acts (Verb.close f b) =
-      close-cases (After (Verb.close f b)) s f b (λ q n. same (refused-accepts (Verb.close f b) q [] (onNormal []) xs n) c) (λ a n. quiet c)
+      close-cases (Laned (After (Verb.close f b))) s f b (λ q n. same (refused-accepts (Verb.close f b) q [] (onNormal []) xs n) c) (λ a n. quiet c)
       (λ a n k. nothing-more (last f b))
   bytes-acts (Verb.receive buffer) =
-      read-cases (After (Verb.receive buffer)) s buffer
+      read-cases (Laned (After (Verb.receive buffer))) s buffer
       (λ q w n. same (refused-accepts (Verb.receive buffer) q buffer (onNormal []) xs n) c) (λ a h. quiet c) (λ a h m. quiet c)
 
   abbrev Left : List ℕ → Took Lane Station Reply (List ℕ) → Type 0
@@ -171,7 +172,7 @@ pub read-parts : (s : Station) (buffer : List ℕ) → bytesInInbox s ≡ take (
 read-parts s buffer = inbox-parts (readCount s buffer) (s .end .receiving .held) (s .inbox) (count-held s buffer)
 
 pub inbox-holds : (s : Station) (buffer : List ℕ) → ReadAsked s buffer → s .end .receiving .held ≤ length (s .inbox)
-inbox-holds s buffer a = subst (λ (n : ℕ). s .end .receiving .held ≤ n) (sym (a .inbox)) (inbox-most (s .end) (a .good))
+inbox-holds s buffer a = subst (λ (n : ℕ). s .end .receiving .held ≤ n) (sym (a .inbox)) (held-in-inbox (s .end) (a .good))
 
 pub read-copied : (s : Station) (buffer : List ℕ) → ReadAsked s buffer
     → take (readCount s buffer) (front (take (readCount s buffer) (s .inbox)) buffer) ≡ take (readCount s buffer) (s .inbox)
@@ -198,13 +199,13 @@ module _ (s : Station) (xs : Log) (acc held : List ℕ) (back : List (List ℕ))
 
     pub bytes-in-acts : (v : Verb) → AfterIn v (acts s v)
     unfolding acts H.bytesRead bytesKept bytesSpilled bytesRead bidMade lastMade R.markRead
-    bytes-in-acts Verb.allocate = allocate-cases (AfterIn Verb.allocate) s (λ q n. quiet-in) (λ g a w. quiet-in) (λ g a w k. quiet-in)
-    bytes-in-acts Verb.confirmed = confirmed-cases (AfterIn Verb.confirmed) s (λ q n. quiet-in) (λ g a. quiet-in)
-    bytes-in-acts Verb.pace = pace-cases (AfterIn Verb.pace) s (λ q n. quiet-in) (λ g a. quiet-in)
-    bytes-in-acts (Verb.sendData bytes) = send-cases (AfterIn (Verb.sendData bytes)) s bytes (λ q n. quiet-in) (λ a k. quiet-in) (λ a k h. quiet-in)
-    bytes-in-acts (Verb.close f b) = close-cases (AfterIn (Verb.close f b)) s f b (λ q n. quiet-in) (λ a n. quiet-in) (λ a n k. quiet-in)
+    bytes-in-acts Verb.allocate = allocate-cases (Laned (AfterIn Verb.allocate)) s (λ q n. quiet-in) (λ g a w. quiet-in) (λ g a w k. quiet-in)
+    bytes-in-acts Verb.confirmed = confirmed-cases (Laned (AfterIn Verb.confirmed)) s (λ q n. quiet-in) (λ g a. quiet-in)
+    bytes-in-acts Verb.pace = pace-cases (Laned (AfterIn Verb.pace)) s (λ q n. quiet-in) (λ g a. quiet-in)
+    bytes-in-acts (Verb.sendData bytes) = send-cases (Laned (AfterIn (Verb.sendData bytes))) s bytes (λ q n. quiet-in) (λ a k. quiet-in) (λ a k h. quiet-in)
+    bytes-in-acts (Verb.close f b) = close-cases (Laned (AfterIn (Verb.close f b))) s f b (λ q n. quiet-in) (λ a n. quiet-in) (λ a n k. quiet-in)
     bytes-in-acts (Verb.receive buffer) =
-        read-cases (AfterIn (Verb.receive buffer)) s buffer (λ q w n. quiet-in) (λ a h. read-in buffer a) (λ a h m. quiet-in)
+        read-cases (Laned (AfterIn (Verb.receive buffer))) s buffer (λ q w n. quiet-in) (λ a h. read-in buffer a) (λ a h m. quiet-in)
 
   module _ (u : List ℕ) (c : Carried acc held (u ∷ back) (H.bytesRead xs) (bytesInInbox s)) where
     abbrev LeftIn : Took Lane Station Reply (List ℕ) → Type 0
@@ -222,7 +223,7 @@ module _ (s : Station) (xs : Log) (acc held : List ℕ) (back : List (List ℕ))
     unfolding H.bytesRead dataJoined bidAnswered creditRaised requestTaken
     kind-in (Data d) n e a =
         let room : s .end .receiving .held ≤ length (s .inbox) =
-        subst (λ (m : ℕ). s .end .receiving .held ≤ m) (sym (a .inbox)) (inbox-most (s .end) (a .good)) in
+        subst (λ (m : ℕ). s .end .receiving .held ≤ m) (sym (a .inbox)) (held-in-inbox (s .end) (a .good)) in
         subst (λ (bs : List ℕ). Carried acc held back (H.bytesRead xs) bs) (sym (held-more (s .end .receiving .held) (ruTaken u) (s .inbox) room))
         (joined-in (Data d) e)
     kind-in (Bid p) n e a = no-data (Bid p) e refl

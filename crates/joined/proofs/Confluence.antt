@@ -2,13 +2,14 @@
 -- if neither takes with nothing waiting.
 -- Assumes nothing.
 use mathlib.Core.Path.{_≡_, refl, sym, ap, _∙_, fun-ext, subst}
-use mathlib.Core.List.{List, [], _∷_, _++_, nil≢cons, cons≢nil, head-eq-of-cons-eq, tail-eq-of-cons-eq}
+use mathlib.Core.List.{List, [], _∷_, _++_, nil≢cons, head-eq-of-cons-eq, tail-eq-of-cons-eq}
 use mathlib.Core.Bool.{Bool, true, false, cond}
 use mathlib.Core.HLevel.{Discrete}
 use Rattle.joined.specs.Lanes.{Lines, join, chosen, put}
-use Rattle.joined.specs.Joined.{Call, act, take, At, first, second, Acted, Took, Side, Both, Local, Event, took, firsts, seconds, Some, Fed, deliver, takeOldest, apply, here, step, run, Ready, AllFed}
+use Rattle.joined.specs.Joined.{Call, act, take, At, first, second, Acted, Took, Both, Local, Event, took, firsts, seconds, Some, Fed, deliver, takeOldest, apply, here, step, run, AllFed}
 
-cond-append : {A : Type 0} (b : Bool) (x y z : List A) → cond b (x ++ z) (y ++ z) ≡ cond b x y ++ z
+cond-append : {A : Type 0}
+    (b : Bool) (x y z : List A) → cond b (x ++ z) (y ++ z) ≡ cond b x y ++ z
 cond-append true x y z = refl
 cond-append false x y z = refl
 

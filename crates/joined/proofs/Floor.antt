@@ -1,14 +1,13 @@
 -- The floor: whose turn it is, what is owed and what is waited for, as an automaton over the units that wait for an end.
 -- Assumes nothing.
 use Prim.Native.Nat.{ℕ}
-use mathlib.Core.Path.{_≡_, refl, sym, ap, _∙_, subst}
-use mathlib.Core.Bool.{Bool, true, false, not, cond, _&&_, _||_, false≢true}
-use mathlib.Core.List.{List, [], _∷_, _++_}
+use mathlib.Core.Path.{_≡_, refl, sym, ap, subst}
+use mathlib.Core.Bool.{Bool, true, false, not, cond, _&&_, _||_}
+use mathlib.Core.List.{List}
 use native.Mathlib.Omega.{arith}
 use borrow.Author.Tests.{eq-eqb}
 use lib.Dec.{eqb}
-use Rattle.header.specs.Header.{beginsBracket, confirms, fieldsOf}
-use Rattle.unit.specs.Unit.{unitOf, numberIn}
+use Rattle.header.specs.Header.{beginsBracket, confirms}
 use Rattle.header.specs.declared.Follows.{Follows}
 use Rattle.header.specs.declared.Follows.the-variants.{Stay, ChangeDirection, EndBracket}
 use Rattle.header.specs.declared.ChainBegin.the-variants.{Continued, First, FirstWithBracket}
@@ -16,8 +15,6 @@ use Rattle.header.specs.declared.ChainEnd.{ChainEnd}
 use Rattle.header.specs.declared.ChainEnd.the-variants.{Continues, Last}
 use Rattle.header.specs.declared.Header.{Header}
 use Rattle.header.specs.declared.Header.the-variants.{Data, Bid, PositiveBidResponse, NegativeBidResponse, Confirmation, PacingResponse}
-use Rattle.unit.proofs.Units.{unit-number, unit-header}
-use Rattle.header.proofs.RoundTrip.{built-fields}
 use Rattle.control.specs.Tests.{isFirstSpeaker, isBidder, isReset, isSend, isReceive, isConfirmOwed, isNothing, agree}
 use Rattle.transitions.specs.Transitions.{afterLast, afterOwed, markOf}
 use Rattle.control.specs.declared.Role.{Role}
@@ -26,19 +23,10 @@ use Rattle.control.specs.declared.State.{State}
 use Rattle.control.specs.declared.State.the-variants.{Reset, Send, Receive, ConfirmOwed, ConfirmAwaited}
 use Rattle.control.specs.declared.WhatReceived.{WhatReceived}
 use Rattle.control.specs.declared.WhatReceived.the-variants as mark
-use Rattle.end.specs.ReceiveUnit.{headerTaken}
 use Rattle.end.specs.declared.End.{End}
-use Rattle.joined.proofs.Automata.{Ran, ok, stuck, stuck≢ok, ok-is, Leads, leads-more, parted, leads-less, inert}
-use Rattle.joined.proofs.Rows.{left, right}
-
--- ---- a unit that a call makes is read as it was made
-
-pub taken-header : (n : ℕ) (h : Header) (ru : List ℕ) → headerTaken (unitOf n h ru) ≡ h
-taken-header n h ru = ap fieldsOf (unit-header n h ru) ∙ built-fields h
-
-abbrev pub other : Role → Role
-other FirstSpeaker = Bidder
-other Bidder = FirstSpeaker
+use Rattle.joined.proofs.Automata.{never, Ran, ok, stuck, ok-is, went, goes}
+use Rattle.bools.proofs.Tests.{left, right}
+use Rattle.joined.proofs.TwoLines.{other, other-other, Automaton, Led}
 
 -- ---- floors
 
@@ -125,9 +113,6 @@ floorOn r x NegativeBidResponse n = ok x
 floorOn r x Confirmation n = cond (waitsFor x n) (ok (confirmedFloor x)) stuck
 floorOn r x PacingResponse n = ok x
 
-unfoldable pub floorStep : Role → Floor → List ℕ → Ran Floor
-floorStep r x u = floorOn r x (headerTaken u) (numberIn u)
-
 -- ---- partners
 
 -- the bidder's floor, by the first speaker's
@@ -144,27 +129,10 @@ abbrev pub Partners : Role → Floor → Floor → Type 0
 Partners FirstSpeaker x y = y ≡ mirror x
 Partners Bidder x y = x ≡ mirror y
 
--- The floors x and y of two joined ends, the first of which has the role r: `line` waits for y's end, `back` for x's.
--- Once all of it is taken, the floors are partners.
-pub record Floors (r : Role) (x y : Floor) (line back : List (List ℕ)) : Type 0 where
-  pub here : Floor
-  pub there : Floor
-  pub mine : Leads (floorStep r) x back here
-  pub theirs : Leads (floorStep (other r)) y line there
-  pub partners : Partners r here there
-
--- ---- what is never
-
-never : {X : Type 0} → false ≡ true → X
-never e = absurd (false≢true e)
-
-pub went : {S : Type 0} (b : Bool) (x t : S) → cond b (ok x) stuck ≡ ok t → (b ≡ true) × (x ≡ t)
-went true x t e = (refl, ok-is e)
-went false x t e = absurd (stuck≢ok e)
-
-pub goes : {S : Type 0} (b : Bool) (x : S) → b ≡ true → cond b (ok x) stuck ≡ ok x
-goes true x e = refl
-goes false x e = never e
+-- seen from the other end
+pub partners-turned : (r : Role) (x y : Floor) → Partners r x y → Partners (other r) y x
+partners-turned FirstSpeaker x y p = p
+partners-turned Bidder x y p = p
 
 -- ---- floors that no unit leaves
 
@@ -200,7 +168,7 @@ quiet-confirmation r receive n q e = never e
 quiet-confirmation r (owes f m) n q e = never e
 quiet-confirmation r (waits f m) n q e = never q
 
-quiet-on :
+pub quiet-on :
     (r : Role) (x x′ : Floor) → quiet r x ≡ true → (h : Header) (n : ℕ) (t : Floor)
     → floorOn r x h n ≡ ok t → (t ≡ x) × (floorOn r x′ h n ≡ ok x′)
 quiet-on r x x′ q (Data d) n t e =
@@ -211,90 +179,23 @@ quiet-on r x x′ q NegativeBidResponse n t e = (sym (ok-is e), refl)
 quiet-on r x x′ q Confirmation n t e = quiet-confirmation r x n q (went (waitsFor x n) (confirmedFloor x) t e .0)
 quiet-on r x x′ q PacingResponse n t e = (sym (ok-is e), refl)
 
--- a quiet floor is the floor after the line, and no other floor is left by what waits there
-pub quiet-stays :
-    (r : Role) {us : List (List ℕ)} {t : Floor} (x x′ : Floor) → quiet r x ≡ true
-    → Leads (floorStep r) x us t → (t ≡ x) × Leads (floorStep r) x′ us x′
-unfolding floorStep
-quiet-stays r x x′ q l = inert x x′ (λ u t e. quiet-on r x x′ q (headerTaken u) (numberIn u) t e) l
+-- ---- the floors of two joined ends
 
--- ---- the step by a header that is known
+abbrev pub floors : Automaton Role Floor
+floors =
+    record {
+      partner = other;
+      partner-partner = other-other;
+      on = floorOn;
+      settled = quiet;
+      stays = quiet-on;
+      Fit = Partners;
+      turned = partners-turned;
+    }
 
-pub floor-made : (r : Role) (x : Floor) (n : ℕ) (h : Header) (ru : List ℕ) → floorStep r x (unitOf n h ru) ≡ floorOn r x h n
-unfolding floorStep
-floor-made r x n h ru =
-    ap (λ (k : Header). floorOn r x k (numberIn (unitOf n h ru))) (taken-header n h ru) ∙ ap (λ (k : ℕ). floorOn r x h k) (unit-number n h ru)
-
-pub floor-taken : (r : Role) (x : Floor) (u : List ℕ) (h : Header) → headerTaken u ≡ h → floorStep r x u ≡ floorOn r x h (numberIn u)
-unfolding floorStep
-floor-taken r x u h e = ap (λ (k : Header). floorOn r x k (numberIn u)) e
-
--- ---- what keeps the floors
-
-pub floors-flip : (r : Role) {x y : Floor} {line back : List (List ℕ)} → Floors r x y line back → Floors (other r) y x back line
-floors-flip FirstSpeaker i = record { here = i .there; there = i .here; mine = i .theirs; theirs = i .mine; partners = i .partners }
-floors-flip Bidder i = record { here = i .there; there = i .here; mine = i .theirs; theirs = i .mine; partners = i .partners }
-
-module _ {r : Role} {x y : Floor} {line back : List (List ℕ)} where
-  -- a unit that the floor does not mind is made
-  pub floors-past :
-      (n : ℕ) (h : Header) (ru : List ℕ) → ((v : Floor) → floorOn (other r) v h n ≡ ok v)
-      → Floors r x y line back → Floors r x y (line ++ (unitOf n h ru ∷ [])) back
-  floors-past n h ru g i =
-      record {
-        here = i .here;
-        there = i .there;
-        mine = i .mine;
-        theirs = leads-more (i .theirs) (floor-made (other r) (i .there) n h ru ∙ g (i .there));
-        partners = i .partners;
-      }
-
-  -- the first unit is taken, and the floor goes with it
-  pub floors-took :
-      {u : List ℕ} {h : Header} (v : Floor) → headerTaken u ≡ h → floorOn r x h (numberIn u) ≡ ok v
-      → Floors r x y line (u ∷ back) → Floors r v y line back
-  floors-took {u} {h} v e g i =
-      record {
-        here = i .here;
-        there = i .there;
-        mine = leads-less v (i .mine) (floor-taken r x u h e ∙ g);
-        theirs = i .theirs;
-        partners = i .partners;
-      }
-
-  -- the floor that the first unit leads to
-  pub floors-head :
-      {u : List ℕ} {h : Header} → headerTaken u ≡ h → Floors r x y line (u ∷ back) → (v : Floor) × (floorOn r x h (numberIn u) ≡ ok v)
-  floors-head {u} {h} e i = let p = parted (i .mine) in (p .via, sym (floor-taken r x u h e) ∙ p .head)
-
-  -- an end on a quiet floor knows its partner's: it moves on, and makes a unit that moves the partner on
-  pub floors-moved :
-      (n : ℕ) (h : Header) (ru : List ℕ) (x′ : Floor) → quiet r x ≡ true
-      → ((v : Floor) → Partners r x v → (w : Floor) × ((floorOn (other r) v h n ≡ ok w) × Partners r x′ w))
-      → Floors r x y line back → Floors r x′ y (line ++ (unitOf n h ru ∷ [])) back
-  floors-moved n h ru x′ q g i =
-      let s = quiet-stays r x x′ q (i .mine) in
-      let w = g (i .there) (subst (λ (v : Floor). Partners r v (i .there)) (s .0) (i .partners)) in
-      record {
-        here = x′;
-        there = w .0;
-        mine = s .1;
-        theirs = leads-more (i .theirs) (floor-made (other r) (i .there) n h ru ∙ w .1 .0);
-        partners = w .1 .1;
-      }
-
-  -- or makes none
-  pub floors-still :
-      (x′ : Floor) → quiet r x ≡ true → ((v : Floor) → Partners r x v → Partners r x′ v) → Floors r x y line back → Floors r x′ y line back
-  floors-still x′ q g i =
-      let s = quiet-stays r x x′ q (i .mine) in
-      record {
-        here = x′;
-        there = i .there;
-        mine = s .1;
-        theirs = i .theirs;
-        partners = g (i .there) (subst (λ (v : Floor). Partners r v (i .there)) (s .0) (i .partners));
-      }
+-- once all units that wait are taken, the floors are partners
+abbrev pub Floors : Role → Floor → Floor → List (List ℕ) → List (List ℕ) → Type 0
+Floors = Led floors
 
 -- ---- the floor of a state
 

@@ -5,7 +5,7 @@ use mathlib.Core.List.{List, [], _∷_, append-nil}
 use mathlib.Core.Bool.{cond}
 use mathlib.Core.HLevel.{Discrete}
 use Rattle.joined.specs.Lanes.{Lines, none, join, put}
-use Rattle.joined.specs.Joined.{Call, act, take, At, first, second, Acted, Took, Event, acted, took, Side, Both, Local, takeOldest, apply, here, step, run}
+use Rattle.joined.specs.Joined.{Call, act, take, At, first, second, Acted, Took, Event, acted, took, Side, Both, Local, takeOldest, apply, step, run}
 
 -- A fact of one way: the sender and its log, the lines, the lines back, the receiver and its log.
 -- It names the parts and no side: a goal then shows no record that is written out, inside which `simp` cannot rewrite.

@@ -2,12 +2,12 @@
 -- Assumes nothing.
 use Prim.Native.Nat.{ℕ, _+_, _*_, _≤_, _<_}
 use mathlib.Core.Path.{_≡_, refl, sym, ap, _∙_, subst}
-use mathlib.Core.Bool.{Bool, true, false, not, cond, _&&_, _||_}
+use mathlib.Core.Bool.{Bool, true, false, cond, _&&_}
 use mathlib.Core.List.{List, [], _∷_, _++_, append-nil}
 use native.Mathlib.Nat.{zero-add}
 use native.Mathlib.Omega.{arith}
 use borrow.Author.Tests.{ne-eqb}
-use lib.Dec.{eqb, leb}
+use lib.Dec.{eqb}
 use lib.ListN.{take}
 use Rattle.logical_record.specs.Positions.{start, isWhole, isBetween}
 use Rattle.logical_record.specs.Walk.{thenWalk, walk}
@@ -23,8 +23,10 @@ use Rattle.control.specs.declared.WhatReceived.the-variants as mark
 use Rattle.answers.specs.Answers.{accepted, readRefused, refusedNaming}
 use Rattle.joined.specs.Lanes.{Lines}
 use Rattle.joined.specs.Joined.{acted, took}
-use Rattle.joined.specs.Ends.{Lane, normal, Station, Verb, Reply, plain, refusalIn, onNormal}
-use Rattle.joined.specs.Histories.{Log, given, bytesAccepted, bytesRead, bytesInInbox, count, requestsAmong, requestsMade, isPacingResponse, pacingResponsesTaken, isBreach, breaches, isBadRead, badReads, CompleteIsRight, NoneCrosses}
+use Rattle.joined.specs.Ends.{Lane, normal, onNormal}
+use Rattle.joined.specs.Histories.{Log, given, bytesAccepted, bytesRead, bytesInInbox, requestsMade, pacingResponsesTaken, isBreach, breaches, isBadRead, badReads, CompleteIsRight, NoneCrosses}
+use Rattle.calls.specs.Calls.{Reply, Station, Verb, plain}
+use Rattle.calls.specs.Units.{count, isPacingResponse, requestsAmong}
 
 -- The values of an end that its log speaks of.
 pub record Values : Type 0 where

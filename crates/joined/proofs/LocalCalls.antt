@@ -1,19 +1,18 @@
 -- Every call keeps what holds at its end by itself.
 -- Assumes nothing.
-use Prim.Native.Nat.{ℕ, _+_, _-_, _*_, _≤_, _<_, min}
+use Prim.Native.Nat.{ℕ, _+_, _*_, _≤_, _<_, min}
 use mathlib.Core.Path.{_≡_, refl, sym, ap, _∙_, subst}
-use mathlib.Core.Bool.{Bool, true, false, not, cond, _&&_, _||_}
-use mathlib.Core.List.{List, [], _∷_, _++_, append-nil, append-assoc}
+use mathlib.Core.Bool.{Bool, true, false, not, cond, _||_}
+use mathlib.Core.List.{List, [], _∷_}
 use native.Mathlib.Nat.{le-min, le-trans, min-le-right}
 use native.Mathlib.Omega.{arith}
-use borrow.Author.Tests.{eqb-true, leb-true}
+use borrow.Author.Tests.{leb-true}
 use lib.Dec.{eqb, leb}
 use lib.ListN.{length, take, drop}
 use lib.Seq.{length-take-le, take-take}
-use Rattle.cells.specs.Cells.{front, written}
-use Rattle.logical_record.specs.Positions.{start, isWhole, isBetween}
+use Rattle.cells.specs.Cells.{front}
+use Rattle.logical_record.specs.Positions.{isWhole}
 use Rattle.logical_record.specs.Walk.{thenWalk, walk}
-use Rattle.logical_record.specs.Reading.{rest}
 use Rattle.logical_record.proofs.Walks.{walk-append, walk-prefix, Through}
 use Rattle.logical_record.specs.Records.{ended}
 use Rattle.logical_record.proofs.Ends.{Inside}
@@ -31,15 +30,13 @@ use Rattle.header.specs.declared.ChainEnd.{ChainEnd}
 use Rattle.header.specs.declared.ChainEnd.the-variants.{Continues, Last}
 use Rattle.header.specs.declared.Header.{Header}
 use Rattle.header.specs.declared.Header.the-variants.{Data, Bid, PositiveBidResponse, NegativeBidResponse, Confirmation, PacingResponse}
-use Rattle.pacing.specs.Pacing.{hasCredit, paced, credit, advanced, answered}
-use Rattle.control.specs.Tests.{isFirstSpeaker, isReset, isSend, isReceive, isConfirmOwed, isConfirmAwaited, isNothing}
-use Rattle.control.specs.Questions.{mayAllocate, maySend, mayConfirm, stateFits, confirmationFits}
+use Rattle.pacing.specs.Pacing.{paced, credit, advanced, answered}
+use Rattle.control.specs.Tests.{isFirstSpeaker, isReset, isSend, isReceive, isNothing}
+use Rattle.control.specs.Questions.{confirmationFits}
 use Rattle.control.specs.Parts.{setState, setDue, setBid}
-use Rattle.transitions.specs.Transitions.{allocated, spilled, closed, afterLast, confirmationMade, markAnswered, dataTaken, bidTaken, bidAnswer, grantTaken, refusalTaken, confirmationTaken}
-use Rattle.control.specs.Within.{markInReceive}
+use Rattle.transitions.specs.Transitions.{allocated, spilled, closed, dataTaken, bidTaken, bidAnswer, grantTaken, refusalTaken, confirmationTaken}
 use Rattle.control.specs.declared.Control.{Control}
-use Rattle.control.specs.declared.State.{State}
-use Rattle.control.specs.declared.State.the-variants.{Reset, Send, Receive, ConfirmOwed, ConfirmAwaited}
+use Rattle.control.specs.declared.State.the-variants.{Send, Receive}
 use Rattle.control.specs.declared.WhatReceived.the-variants as mark
 use Rattle.answers.specs.Questions.{firstNo}
 use Rattle.end.specs.Record.{recordGood, inboxLent}
@@ -51,64 +48,37 @@ use Rattle.end.specs.Requests.{dataHeader}
 use Rattle.end.specs.Allocate.{bidMade}
 use Rattle.logical_record.specs.Walk.{placeOr}
 use Rattle.end.specs.SendData.{heldBytes, bytesKept, bytesSpilled}
-use Rattle.end.specs.Close.{nothingGoes, lastMade}
+use Rattle.end.specs.Close.{lastMade}
 use Rattle.end.specs.ReceiveUnit.{kindQuestions, headerTaken, ruTaken, dataJoined, bidAnswered, creditRaised, takeRefusal}
 use Rattle.sides.specs.Receiving.{recordsFit}
-use Rattle.end.specs.Receive.{inboxBytes, recordRest, someHeld, readRefusal, copyCount, bytesRead, markRead}
+use Rattle.end.specs.Receive.{recordRest, someHeld, readRefusal, copyCount, bytesRead, markRead}
 use Rattle.reading.specs.Reading.{restGood, restBytes}
 use Rattle.end.specs.declared.End.{End}
 use Rattle.joined.specs.Joined.{Acted, Took, acted, took}
-use Rattle.joined.specs.Ends.{Lane, normal, Station, Verb, Reply, onNormal, acts, takes}
-use Rattle.joined.specs.Histories.{Log, isBreach, bytesInInbox, requestsAmong, count, isPacingResponse}
+use Rattle.joined.specs.Ends.{Lane, normal, onNormal, acts, takes}
+use Rattle.joined.specs.Histories.{Log, isBreach, bytesInInbox}
 use Rattle.joined.specs.Histories as H
-use Rattle.joined.proofs.Rows.{left, right, all-yes}
-use Rattle.joined.proofs.Acts.{allocate-cases, bidNumber, send-cases, SendAsked, spilledRu, close-cases, CloseAsked, confirmed-cases, pace-cases, read-cases, ReadAsked, readCount, take-cases, TakeAsked, tookKind}
-use Rattle.joined.proofs.Good.{never, window-out, inbox-most, position-in, marked-in-receive, reset-not-send, receive-not-send}
-use Rattle.joined.proofs.Units.{asksFor, requests-unit, pacing-taken}
-use Rattle.joined.proofs.Paces.{isPacing, paces-answered}
-use Rattle.joined.proofs.Counts.{response-raises}
-use Rattle.joined.proofs.CreditCalls.{request-made, other-made, none-made, data-asks, answer-asks}
+use Rattle.answers.proofs.Rows.{yes}
+use Rattle.bools.proofs.Tests.{left, never, or-right, not-true}
+use Rattle.calls.proofs.CallCases.{ReadAsked, TakeAsked, allocate-cases, bidNumber, close-cases, confirmed-cases, pace-cases, read-cases, readCount, send-cases, spilledRu}
+use Rattle.calls.proofs.Credit.{answer-asks, data-asks, none-made, other-made, request-made}
+use Rattle.calls.proofs.Units.{isPacing, pacing-taken}
+use Rattle.calls.specs.Calls.{Reply, Station, Verb}
+use Rattle.calls.specs.Units.{count, isPacingResponse, requestsAmong}
+use Rattle.control.proofs.States.{receive-not-send, reset-not-send, owed-not-send, awaited-not-send, fits-not-send}
+use Rattle.end.proofs.Within.{facts, held-in-inbox}
+use Rattle.joined.proofs.Laned.{Laned, take-cases, tookKind}
+use Rattle.pacing.proofs.Windows.{response-raises}
 use Rattle.joined.proofs.Bytes.{held-more}
 use Rattle.joined.proofs.BytesCalls.{count-held, moved-left, read-parts, inbox-holds, read-copied}
-use Rattle.joined.proofs.Local.{Values, valuesOf, Local, local-act, local-refused, local-read, local-took, local-take-refused}
+use Rattle.joined.proofs.Local.{valuesOf, Local, local-act, local-refused, local-read, local-took, local-take-refused}
 
 -- ---- states
-
-owed-not-send : (s : State) → isConfirmOwed s ≡ true → isSend s ≡ false
-owed-not-send Reset e = refl
-owed-not-send Send e = absurd (never (sym e))
-owed-not-send Receive e = refl
-owed-not-send ConfirmOwed e = refl
-owed-not-send ConfirmAwaited e = refl
-
-awaited-not-send : (s : State) → isConfirmAwaited s ≡ true → isSend s ≡ false
-awaited-not-send Reset e = refl
-awaited-not-send Send e = absurd (never (sym e))
-awaited-not-send Receive e = refl
-awaited-not-send ConfirmOwed e = refl
-awaited-not-send ConfirmAwaited e = refl
-
--- 26: data comes only outside Send
-fits-not-send : (s : State) (b : Bool) → isReceive s || (isReset s && b) ≡ true → isSend s ≡ false
-fits-not-send Reset b e = refl
-fits-not-send Send b e = absurd (never (sym e))
-fits-not-send Receive b e = refl
-fits-not-send ConfirmOwed b e = refl
-fits-not-send ConfirmAwaited b e = refl
-
--- a mark stands only outside Send
-or-right : (a b : Bool) → a || b ≡ true → a ≡ false → b ≡ true
-or-right true b e f = absurd (never f)
-or-right false b e f = e
-
-not-true : (a : Bool) → not a ≡ true → a ≡ false
-not-true true e = absurd (never (sym e))
-not-true false e = refl
 
 marked-not-send : (e : End) → recordGood e ≡ true → not (isNothing (e .control .mark)) ≡ true → isSend (e .control .state) ≡ false
 marked-not-send e g n =
     receive-not-send (e .control .state)
-    (or-right (isNothing (e .control .mark)) (isReceive (e .control .state)) (marked-in-receive e g) (not-true (isNothing (e .control .mark)) n))
+    (or-right (isNothing (e .control .mark)) (isReceive (e .control .state)) (facts e g .control .mark) (not-true (isNothing (e .control .mark)) n))
 
 -- ---- calls that the end answers by itself
 
@@ -136,10 +106,10 @@ module _ (s : Station) (xs : Log) (l : Local (valuesOf s) xs) where
   closed-whole EndBracket false p w n = w
 
   closes : (f : Follows) (c : Bool) → After (Verb.close f c) (acts s (Verb.close f c))
-  unfolding lastMade requestMade advanced
+  unfolding acts lastMade requestMade advanced
   closes f c =
       let v = Verb.close f c in
-      close-cases (After v) s f c (refuses v (λ q. refl))
+      close-cases (Laned (After v)) s f c (refuses v (λ q. refl))
       (λ a n. local-act v 0 mark.Nothing [] (onNormal []) (valuesOf s) l here (l .whole) refl refl refl refl
       (none-made (credit (s .end .sending .window))) refl)
       (λ a n k.
@@ -195,7 +165,7 @@ module _ (s : Station) (xs : Log) (l : Local (valuesOf s) xs) where
       let held : 1 ≤ s .end .receiving .held = leb-true 1 (s .end .receiving .held) h in
       let long : length (bytesInInbox s) ≡ s .end .receiving .held = length-take-le (s .end .receiving .held) (s .inbox) (inbox-holds s buffer a) in
       let some : 0 < restBytes (recordRest (s .end) (s .inbox)) =
-      rest-some (s .end .receiving .read) (bytesInInbox s) (restBytes (recordRest (s .end) (s .inbox))) (position-in (s .end) (a .good))
+      rest-some (s .end .receiving .read) (bytesInInbox s) (restBytes (recordRest (s .end) (s .inbox))) (facts (s .end) (a .good) .receiving .read)
       (omega (arith, long, held)) (bytes-of (recordRest (s .end) (s .inbox)) (a .rest)) in
       le-min (a .least) (le-min held some)
 
@@ -226,9 +196,9 @@ module _ (s : Station) (xs : Log) (l : Local (valuesOf s) xs) where
       ap (λ (bs : List ℕ). ended (walk (s .end .receiving .read) bs)) same ∙ ap ended (i .reached) ∙ i .inside
 
   reads : (buffer : List ℕ) → After (Verb.receive buffer) (acts s (Verb.receive buffer))
-  unfolding bytesRead markRead
+  unfolding acts bytesRead markRead
   reads buffer =
-      read-cases (After (Verb.receive buffer)) s buffer (λ q w n. local-refused (Verb.receive buffer) q buffer n (never-refused buffer q w) l)
+      read-cases (Laned (After (Verb.receive buffer))) s buffer (λ q w n. local-refused (Verb.receive buffer) q buffer n (never-refused buffer q w) l)
       (λ a h.
       let k = readCount s buffer in
       let t : Through (s .end .receiving .read) (take k (s .inbox)) (drop k (bytesInInbox s)) (s .end .receiving .taken) =
@@ -246,7 +216,7 @@ module _ (s : Station) (xs : Log) (l : Local (valuesOf s) xs) where
   pub local-acts : (v : Verb) → After v (acts s v)
   unfolding acts bytesKept bytesSpilled bidMade requestMade advanced spilled answered
   local-acts Verb.allocate =
-      allocate-cases (After Verb.allocate) s (refuses Verb.allocate (λ q. refl))
+      allocate-cases (Laned (After Verb.allocate)) s (refuses Verb.allocate (λ q. refl))
       (λ g a w.
       local-act Verb.allocate 0 mark.Nothing [] (onNormal []) _ l here (λ n. absurd (never (sym (speaking w) ∙ n))) refl refl refl refl
       (none-made (credit (s .end .sending .window))) refl)
@@ -255,19 +225,19 @@ module _ (s : Station) (xs : Log) (l : Local (valuesOf s) xs) where
       (λ n. l .whole (reset-not-send (s .end .control .state) (left (isReset (s .end .control .state)) (not (s .end .control .bid)) a))) refl refl refl refl
       (request-made s (bidNumber (s .end)) (Bid (paced (s .end .sending .window))) bidRu refl g k) refl)
   local-acts Verb.confirmed =
-      confirmed-cases (After Verb.confirmed) s (refuses Verb.confirmed (λ q. refl))
+      confirmed-cases (Laned (After Verb.confirmed)) s (refuses Verb.confirmed (λ q. refl))
       (λ g a.
       local-act Verb.confirmed 5 mark.Nothing [] (onNormal (unitOf (s .end .owed) Confirmation [] ∷ [])) _ l here
       (λ n. l .whole (owed-not-send (s .end .control .state) a)) refl refl refl refl
       (other-made (s .end .owed) (credit (s .end .sending .window)) Confirmation [] refl) refl)
   local-acts Verb.pace =
-      pace-cases (After Verb.pace) s (refuses Verb.pace (λ q. refl))
+      pace-cases (Laned (After Verb.pace)) s (refuses Verb.pace (λ q. refl))
       (λ g a.
       local-act Verb.pace 5 mark.Nothing [] (onNormal (unitOf 0 PacingResponse [] ∷ [])) _ l here (l .whole) refl refl refl refl
       (other-made 0 (credit (s .end .sending .window)) PacingResponse [] refl) refl)
   local-acts (Verb.sendData bytes) =
       let g = s .end .sending .given in
-      send-cases (After (Verb.sendData bytes)) s bytes (refuses (Verb.sendData bytes) (λ q. refl))
+      send-cases (Laned (After (Verb.sendData bytes))) s bytes (refuses (Verb.sendData bytes) (λ q. refl))
       (λ a k.
       local-act (Verb.sendData bytes) 0 mark.Nothing [] (onNormal []) _ l (at-place g (a .place) (walk g bytes) (a .walked))
       (λ n. absurd (never (sym (a .sending) ∙ n))) refl refl refl refl (none-made (credit (s .end .sending .window))) refl)
@@ -308,11 +278,11 @@ module _ (s : Station) (xs : Log) (u : List ℕ) (l : Local (valuesOf s) xs) whe
       → Left (tookKind s h n (ruTaken u))
   unfolding dataJoined bidAnswered creditRaised requestTaken dataTaken grantTaken refusalTaken confirmationTaken answered
   kind-local (Data d) n e a k =
-      let t = all-yes (kindQuestions (s .end) (Data d) n (ruTaken u)) tt k in
+      let t = yes (kindQuestions (s .end) (Data d) n (ruTaken u)) tt k in
       let ru = ruTaken u in
       let p = s .end .receiving .taken in
       let room : s .end .receiving .held ≤ length (s .inbox) =
-      subst (λ (m : ℕ). s .end .receiving .held ≤ m) (sym (a .inbox)) (inbox-most (s .end) (a .good)) in
+      subst (λ (m : ℕ). s .end .receiving .held ≤ m) (sym (a .inbox)) (held-in-inbox (s .end) (a .good)) in
       local-took normal u 0 (onNormal []) false _ l (not-paced (Data d) e a) refl
       (λ m. l .whole (fits-not-send (s .end .control .state) _ (t 5))) refl
       (ap (walk (s .end .receiving .read)) (held-more (s .end .receiving .held) ru (s .inbox) room)
@@ -332,13 +302,13 @@ module _ (s : Station) (xs : Log) (u : List ℕ) (l : Local (valuesOf s) xs) whe
       local-took normal u 0 (onNormal []) false _ l (not-paced NegativeBidResponse e a) refl (l .whole) refl (l .inbox) refl
       (no-rise (credit (s .end .sending .window)) (s .end .sending .window .size))
   kind-local Confirmation n e a k =
-      let t = all-yes (kindQuestions (s .end) Confirmation n (ruTaken u)) tt k in
+      let t = yes (kindQuestions (s .end) Confirmation n (ruTaken u)) tt k in
       local-took normal u 0 (onNormal []) false _ l (not-paced Confirmation e a) refl
       (λ m. l .whole (awaited-not-send (s .end .control .state) (left (confirmationFits (s .end .control)) (eqb n (s .end .sending .number)) (t 1))))
       refl (l .inbox) refl
       (no-rise (credit (s .end .sending .window)) (s .end .sending .window .size))
   kind-local PacingResponse n e a k =
-      let t = all-yes (kindQuestions (s .end) PacingResponse n (ruTaken u)) tt k in
+      let t = yes (kindQuestions (s .end) PacingResponse n (ruTaken u)) tt k in
       let w = s .end .sending .window in
       local-took normal u 0 (onNormal []) true _ l (not-paced PacingResponse e a) refl (l .whole) refl (l .inbox) refl
       (none-made (credit (answered w)) ∙ response-raises w (t 1) ∙ (let y : credit w + w .size ≡ credit w + w .size * 1 = omega arith in y))

@@ -1,9 +1,9 @@
 -- The oldest unit of a line is never refused as a breach of protocol: every question from 20 on is answered yes.
 -- Assumes nothing.
-use Prim.Native.Nat.{ℕ, _+_}
-use mathlib.Core.Path.{_≡_, refl, sym, ap, _∙_, subst}
-use mathlib.Core.Bool.{Bool, true, false, not, cond, _&&_, _||_}
-use mathlib.Core.List.{List, [], _∷_, _++_}
+use Prim.Native.Nat.{ℕ}
+use mathlib.Core.Path.{_≡_, refl, ap, _∙_}
+use mathlib.Core.Bool.{Bool, true, false, not, _&&_}
+use mathlib.Core.List.{List, [], _∷_}
 use lib.Dec.{eqb, leb}
 use lib.ListN.{length}
 use Rattle.logical_record.specs.Walk.{walk}
@@ -21,16 +21,17 @@ use Rattle.answers.specs.Questions.{firstNo}
 use Rattle.end.specs.Record.{recordGood, inboxLent, unitLent}
 use Rattle.sides.specs.Shared.{nextNumber}
 use Rattle.sides.specs.Receiving.{pacingFits, isNext, recordsFit}
-use Rattle.end.specs.ReceiveUnit.{kindQuestions, headQuestions, headerTaken, ruTaken, takeRefusal}
+use Rattle.end.specs.ReceiveUnit.{kindQuestions, headerTaken, ruTaken, takeRefusal}
 use Rattle.end.specs.declared.End.{End}
-use Rattle.joined.specs.Ends.{Station}
+use Rattle.bools.proofs.Tests.{left, right}
+use Rattle.calls.specs.Calls.{Station}
+use Rattle.end.proofs.Within.{facts}
+use Rattle.pacing.proofs.Windows.{credit-there}
 use Rattle.joined.specs.Histories.{isBreach}
-use Rattle.joined.proofs.Rows.{left, right}
-use Rattle.joined.proofs.Good.{window-in}
 use Rattle.joined.proofs.Order.{Order, order-fits-data, order-fits-bid, order-fits-grant, order-fits-refusal, order-fits-confirmation}
-use Rattle.joined.proofs.Paces.{Paces, bitOf, paces-taken, paces-answered, credit-there}
+use Rattle.joined.proofs.Paces.{Paces, bitOf, paces-taken, paces-answered}
 use Rattle.joined.proofs.PacesCalls.{owedOf, unansweredOf, agrees}
-use Rattle.joined.proofs.Stream.{Outside, Inside, insideOf, booksIn, fits, Stream, Heads, stream-take}
+use Rattle.joined.proofs.Stream.{Outside, insideOf, booksIn, fits, Stream, Heads, stream-take}
 
 -- a row of questions that are all answered yes
 row7 : (a b c d e f g : Bool) (i j k l m n o : ℕ)
@@ -65,7 +66,7 @@ module _ (r : Role) (s : Station) (f : End) (o : Outside) (unanswered owed : Boo
   pacing-yes b e g a =
       let w = s .end .receiving .window in
       both-hold (hasCredit w) (agree b (paced w))
-      (credit-there w (window-in (s .end) g) (λ p. paces-taken paces .0 (e ∙ agrees b (paced w) a ∙ p))) a
+      (credit-there w (facts (s .end) g .receiving .window) (λ p. paces-taken paces .0 (e ∙ agrees b (paced w) a ∙ p))) a
 
   kind-yes : (h : Header) → headerTaken u ≡ h → recordGood (s .end) ≡ true → isNothing (s .end .control .mark) ≡ true
       → fits (s .end .receiving .max) (booksIn (insideOf s)) h (numberIn u) (ruTaken u) ≡ true

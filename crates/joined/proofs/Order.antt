@@ -2,7 +2,7 @@
 -- Assumes nothing.
 use Prim.Native.Nat.{ℕ}
 use mathlib.Core.Path.{_≡_, refl, sym, ap, _∙_, subst}
-use mathlib.Core.Bool.{Bool, true, false, not, cond, _&&_, _||_, false≢true}
+use mathlib.Core.Bool.{Bool, true, false, not, cond, _&&_, _||_}
 use mathlib.Core.List.{List, [], _∷_, _++_}
 use borrow.Author.Tests.{eq-eqb}
 use lib.Dec.{eqb}
@@ -16,7 +16,6 @@ use Rattle.header.specs.declared.DataHeader.{DataHeader}
 use Rattle.header.specs.declared.Header.{Header}
 use Rattle.header.specs.declared.Header.the-variants.{Data, Bid, PositiveBidResponse, NegativeBidResponse, Confirmation, PacingResponse}
 use Rattle.control.specs.Tests.{isFirstSpeaker, isBidder, isReset, isSend, isReceive, isConfirmAwaited, isNothing}
-use Rattle.control.specs.Within.{markInReceive, dueInSend, bidAtBidder, chainInSend, controlGood}
 use Rattle.control.specs.Questions.{mayAllocate, maySend, mayConfirm, bracketFits, bidFits, stateFits, grantFits, refusalFits, confirmationFits}
 use Rattle.control.specs.Parts.{setState, setBid, setDue, setMark}
 use Rattle.transitions.specs.Transitions.{allocated, beginOf, spilled, closed, afterLast, afterOwed, confirmationMade, afterMark, markAnswered, markOf, dataTaken, bidTaken, bidAnswer, grantTaken, refusalTaken, confirmationTaken}
@@ -28,8 +27,6 @@ use Rattle.control.specs.declared.State.the-variants.{Reset, Send, Receive, Con
 use Rattle.control.specs.declared.WhatReceived.{WhatReceived}
 use Rattle.control.specs.declared.WhatReceived.the-variants as mark
 use Rattle.end.specs.Record.{recordGood}
-use Rattle.sides.specs.Sending.{sendingGood}
-use Rattle.sides.specs.Receiving.{receivingGood}
 use Rattle.sides.specs.Shared.{nextNumber}
 use Rattle.sides.specs.Sending.{requestMade}
 use Rattle.sides.specs.Receiving.{requestTaken}
@@ -43,11 +40,13 @@ use Rattle.end.specs.Receive.{bytesRead}
 use Rattle.end.specs.ReceiveUnit.{headerTaken, dataJoined, bidAnswered, creditRaised}
 use Rattle.end.specs.declared.End.{End}
 use Rattle.sides.specs.declared.Receiving.{Receiving}
-use Rattle.joined.proofs.Automata.{ok, leads-nowhere}
-use Rattle.joined.proofs.Cases.{on}
-use Rattle.joined.proofs.Rows.{left, right}
-use Rattle.joined.proofs.Floor.{other, Floor, reset, sendBB, send, receive, afterMarkFloor, floorAt, floorOf, isResetFloor, waitsFor, dataMoves, grantMoves, afterWait, confirmedFloor, floorOn, Partners, Floors, went, goes, quiet-stays, floors-flip, floors-past, floors-took, floors-head, floors-moved, floors-still, reset-state, send-state, receive-state, owed-state, nothing-mark, sentFloor, quiet-sending, sent-moves, sent-partners, afterOwe, confirmed-moves, confirmed-floor, last-floor, waits-state, mark-floor, reset-floor, data-fits, not-both-send}
-use Rattle.joined.proofs.Bids.{Pending, none, some, bidAt, bidOf, bidMoves, answerMoves, bidOn, Bids, bids-flip, bids-past, bids-took, bids-head, bids-moved, bid-speaker, answer-flag, bid-off}
+use Rattle.end.proofs.Within.{facts}
+use Rattle.joined.proofs.Automata.{never, ok, goes}
+use Rattle.bools.proofs.Cases.{on}
+use Rattle.bools.proofs.Tests.{left, right, or-left}
+use Rattle.joined.proofs.TwoLines.{other, other-other, led-nowhere, led-flip, led-as, led-past, led-took, led-goes, led-moved, led-still, led-settled}
+use Rattle.joined.proofs.Floor.{Floor, reset, sendBB, send, receive, afterMarkFloor, floorAt, floorOf, isResetFloor, waitsFor, dataMoves, grantMoves, afterWait, confirmedFloor, floorOn, Floors, reset-state, send-state, receive-state, owed-state, nothing-mark, sentFloor, quiet-sending, sent-moves, sent-partners, afterOwe, confirmed-moves, confirmed-floor, last-floor, waits-state, mark-floor, reset-floor, data-fits, not-both-send}
+use Rattle.joined.proofs.Bids.{Pending, none, some, bidAt, bidOf, bidMoves, answerMoves, bidOn, Bids, bids-moved, bid-speaker, answer-flag, bid-off}
 
 -- Two joined ends: e has the role r and f the other one, `line` waits for f and `back` for e.
 pub record Order (r : Role) (e f : End) (line back : List (List ℕ)) : Type 0 where
@@ -58,69 +57,40 @@ pub record Order (r : Role) (e f : End) (line back : List (List ℕ)) : Type 0 w
 
 -- ---- seen from the other end, and at the start
 
-other-other : (r : Role) → other (other r) ≡ r
-other-other FirstSpeaker = refl
-other-other Bidder = refl
-
 pub order-flip : {r : Role} {e f : End} {line back : List (List ℕ)} → Order r e f line back → Order (other r) f e back line
 order-flip {r} i =
-    record { role = i .partner; partner = i .role ∙ sym (other-other r); floors = floors-flip r (i .floors); bids = bids-flip r (i .bids) }
+    record { role = i .partner; partner = i .role ∙ sym (other-other r); floors = led-flip (i .floors); bids = led-flip (i .bids) }
 
 pub order-fresh :
     (w m w′ m′ inbox v k v′ k′ inbox′ : ℕ)
     → Order FirstSpeaker (freshEnd FirstSpeaker w m w′ m′ inbox) (freshEnd Bidder v k v′ k′ inbox′) [] []
 order-fresh w m w′ m′ inbox v k v′ k′ inbox′ =
-    record {
-      role = refl;
-      partner = refl;
-      floors = record { here = reset; there = reset; mine = leads-nowhere; theirs = leads-nowhere; partners = refl };
-      bids = record { here = none; there = none; mine = leads-nowhere; theirs = leads-nowhere; same = refl };
-    }
+    record { role = refl; partner = refl; floors = led-nowhere refl; bids = led-nowhere refl }
 
 -- ---- what a good record says of the finite part
 
-or-left : (a b : Bool) → a || b ≡ true → b ≡ false → a ≡ true
-or-left true b e n = refl
-or-left false b e n = absurd (false≢true (sym n ∙ e))
-
 or-right : (a b : Bool) → a || b ≡ true → not a ≡ true → b ≡ true
-or-right true b e n = absurd (false≢true n)
+or-right true b e n = never n
 or-right false b e n = e
 
 -- BB-due is off outside Send, and at a bidder
 due-sends : (due speaks sends unchained : Bool) → not due || (speaks && (sends && unchained)) ≡ true → sends ≡ false → due ≡ false
 due-sends false a b c e n = refl
-due-sends true true b c e n = absurd (false≢true (sym n ∙ left b c e))
-due-sends true false b c e n = absurd (false≢true e)
+due-sends true true b c e n = never (sym n ∙ left b c e)
+due-sends true false b c e n = never e
 
 due-speaks : (due speaks rest : Bool) → not due || (speaks && rest) ≡ true → speaks ≡ false → due ≡ false
 due-speaks false a b e n = refl
-due-speaks true a b e n = absurd (false≢true (sym n ∙ left a b e))
-
-control-good : (e : End) → recordGood e ≡ true → controlGood (e .control) ≡ true
-unfolding recordGood
-control-good e g = left (controlGood (e .control)) (sendingGood (e .control) (e .sending) && receivingGood (e .receiving)) g
-
-mark-good : (e : End) → recordGood e ≡ true → markInReceive (e .control) ≡ true
-unfolding controlGood
-mark-good e g =
-    let c = e .control in left (markInReceive c) (dueInSend c && (bidAtBidder c && chainInSend c)) (control-good e g)
-
-due-good : (e : End) → recordGood e ≡ true → dueInSend (e .control) ≡ true
-unfolding controlGood
-due-good e g =
-    let c = e .control in
-    left (dueInSend c) (bidAtBidder c && chainInSend c)
-    (right (markInReceive c) (dueInSend c && (bidAtBidder c && chainInSend c)) (control-good e g))
+due-speaks true a b e n = never (sym n ∙ left a b e)
 
 -- in a state that is known: no mark outside Receive, and BB-due off outside Send
 no-mark : (e : End) (s : State) → recordGood e ≡ true → e .control .state ≡ s → isReceive s ≡ false → isNothing (e .control .mark) ≡ true
-no-mark e s g p n = or-left (isNothing (e .control .mark)) (isReceive (e .control .state)) (mark-good e g) (ap isReceive p ∙ n)
+no-mark e s g p n = or-left (isNothing (e .control .mark)) (isReceive (e .control .state)) (facts e g .control .mark) (ap isReceive p ∙ n)
 
 no-due : (e : End) (s : State) → recordGood e ≡ true → e .control .state ≡ s → isSend s ≡ false → e .control .due ≡ false
 no-due e s g p n =
     let c = e .control in
-    due-sends (c .due) (isFirstSpeaker (c .role)) (isSend (c .state)) (not (c .outchain)) (due-good e g) (ap isSend p ∙ n)
+    due-sends (c .due) (isFirstSpeaker (c .role)) (isSend (c .state)) (not (c .outchain)) (facts e g .control .due) (ap isSend p ∙ n)
 
 -- the floor of an end whose state is known
 floor-in : (e : End) (s : State) → e .control .state ≡ s
@@ -128,16 +98,16 @@ floor-in : (e : End) (s : State) → e .control .state ≡ s
 floor-in e s p = ap (λ (k : State). floorAt k (e .control .due) (e .control .follows) (e .control .mark) (e .owed) (e .sending .number)) p
 
 bidder : (r : Role) → isFirstSpeaker r ≡ false → r ≡ Bidder
-bidder FirstSpeaker e = absurd (false≢true (sym e))
+bidder FirstSpeaker e = never (sym e)
 bidder Bidder e = refl
 
 bidder-is : (r : Role) → isBidder r ≡ true → r ≡ Bidder
-bidder-is FirstSpeaker e = absurd (false≢true e)
+bidder-is FirstSpeaker e = never e
 bidder-is Bidder e = refl
 
 -- where a test's outcome is no, the fact of the second branch
 off : {X : Type 0} (P : X → Type 0) (b : Bool) (x : X) {y : X} → b ≡ false → P y → P (cond b x y)
-off P true x e h = absurd (false≢true (sym e))
+off P true x e h = never (sym e)
 off P false x e h = h
 
 -- ---- quiet calls
@@ -151,8 +121,8 @@ module _ {r : Role} {e f : End} {line back : List (List ℕ)} where
       record {
         role = s ∙ i .role;
         partner = i .partner;
-        floors = subst (λ (x : Floor). Floors r x (floorOf f) line back) (sym p) (i .floors);
-        bids = subst (λ (x : Pending). Bids r x (bidOf f) line back) (sym q) (i .bids);
+        floors = led-as (sym p) (i .floors);
+        bids = led-as (sym q) (i .bids);
       }
 
   -- only the receiving side changes, as by a pacing answer made
@@ -180,7 +150,7 @@ mark-read :
     → let k = setMark mark.Nothing (afterMark m c) in
     (floorAt (k .state) (k .due) (k .follows) (k .mark) owed sent ≡ afterMarkFloor m owed)
     × ((k .role ≡ c .role) × (k .bid ≡ c .bid))
-mark-read c mark.Nothing owed sent n d = absurd (false≢true n)
+mark-read c mark.Nothing owed sent n d = never n
 mark-read c mark.Turn owed sent n d = (ap (λ (b : Bool). cond b sendBB send) d, (refl, refl))
 mark-read c mark.End owed sent n d = (refl, (refl, refl))
 mark-read c mark.Confirm owed sent n d = (refl, (refl, refl))
@@ -194,7 +164,7 @@ module _ {r : Role} {e f : End} {line back : List (List ℕ)} where
   unfolding markAnswered
   order-mark g n i =
       let c = e .control in
-      let s : c .state ≡ Receive = receive-state (c .state) (or-right (isNothing (c .mark)) (isReceive (c .state)) (mark-good e g) n) in
+      let s : c .state ≡ Receive = receive-state (c .state) (or-right (isNothing (c .mark)) (isReceive (c .state)) (facts e g .control .mark) n) in
       let k = mark-read c (c .mark) (e .owed) (e .sending .number) n (no-due e Receive g s refl) in
       order-same (withControl (markAnswered c) e) (k .0 ∙ sym (floor-in e Receive s))
       (ap (λ (x : Role). bidAt x (markAnswered c .bid) (e .bidding)) (k .1 .0) ∙ ap (λ (x : Bool). bidAt (c .role) x (e .bidding)) (k .1 .1))
@@ -206,8 +176,8 @@ module _ {r : Role} {e f : End} {line back : List (List ℕ)} where
       record {
         role = i .role;
         partner = i .partner;
-        floors = floors-past n PacingResponse ru (λ v. refl) (i .floors);
-        bids = bids-past n PacingResponse ru (λ v. refl) (i .bids);
+        floors = led-past n PacingResponse ru (λ v. refl) (i .floors);
+        bids = led-past n PacingResponse ru (λ v. refl) (i .bids);
       }
 
 -- ---- allocate
@@ -215,18 +185,18 @@ module _ {r : Role} {e f : End} {line back : List (List ℕ)} where
 -- a first speaker's partner is in Reset, and stays there until the bracket begins
 spoke-floors :
     (r : Role) {y : Floor} {line back : List (List ℕ)} → isFirstSpeaker r ≡ true → Floors r reset y line back → Floors r sendBB y line back
-spoke-floors FirstSpeaker s i = floors-still sendBB refl (λ v p. p) i
-spoke-floors Bidder s i = absurd (false≢true s)
+spoke-floors FirstSpeaker s i = led-still sendBB refl (λ v p. p) i
+spoke-floors Bidder s i = never s
 
 -- a bidder that has no bid makes one
 bid-bids :
     (r : Role) {q : Pending} {line back : List (List ℕ)} (n : ℕ) (b : Bool) (ru : List ℕ) → isFirstSpeaker r ≡ false
     → Bids r none q line back → Bids r (some n) q (line ++ (unitOf n (Bid b) ru ∷ [])) back
-bid-bids FirstSpeaker n b ru s i = absurd (false≢true (sym s))
+bid-bids FirstSpeaker n b ru s i = never (sym s)
 bid-bids Bidder n b ru s i = bids-moved n (Bid b) ru (some n) refl refl i
 
 not-on : (b : Bool) → not b ≡ true → b ≡ false
-not-on true e = absurd (false≢true e)
+not-on true e = never e
 not-on false e = refl
 
 module _ {r : Role} {e f : End} {line back : List (List ℕ)} where
@@ -243,7 +213,7 @@ module _ {r : Role} {e f : End} {line back : List (List ℕ)} where
         partner = i .partner;
         floors =
             spoke-floors r (subst (λ (x : Role). isFirstSpeaker x ≡ true) (i .role) s)
-            (subst (λ (x : Floor). Floors r x (floorOf f) line back) (floor-in e Reset p) (i .floors));
+            (led-as (floor-in e Reset p) (i .floors));
         bids = i .bids;
       } in
       on (λ (k : Control). Order r (withControl k e) f line back) (isFirstSpeaker (c .role)) (setBid true c) s h
@@ -263,14 +233,12 @@ module _ {r : Role} {e f : End} {line back : List (List ℕ)} where
         role = i .role;
         partner = i .partner;
         floors =
-            subst (λ (x : Floor). Floors r x (floorOf f) (line ++ (unitOf n (Bid b) bidRu ∷ [])) back)
-            (floor-in e Reset p ∙ sym (floor-in (made (setBid true c)) Reset p))
-            (floors-past n (Bid b) bidRu (λ v. refl) (i .floors));
+            led-as (floor-in e Reset p ∙ sym (floor-in (made (setBid true c)) Reset p))
+            (led-past n (Bid b) bidRu (λ v. refl) (i .floors));
         bids =
             subst (λ (x : Role). Bids r (bidAt x true n) (bidOf f) (line ++ (unitOf n (Bid b) bidRu ∷ [])) back) (sym (bidder (c .role) s))
             (bid-bids r n b bidRu (subst (λ (x : Role). isFirstSpeaker x ≡ false) (i .role) s)
-            (subst (λ (x : Pending). Bids r x (bidOf f) line back)
-            (ap (λ (x : Bool). bidAt (c .role) x (e .bidding)) flag ∙ bid-off (c .role) (e .bidding)) (i .bids)));
+            (led-as (ap (λ (x : Bool). bidAt (c .role) x (e .bidding)) flag ∙ bid-off (c .role) (e .bidding)) (i .bids)));
       } in
       off (λ (k : Control). Order r (made k) f (line ++ (unitOf n (Bid b) bidRu ∷ [])) back) (isFirstSpeaker (c .role))
       (setDue true (setState Send c)) s h
@@ -288,16 +256,13 @@ module _ {r : Role} {e f : End} {line back : List (List ℕ)} where
   order-sent e′ ends n ru g s p q t i =
       let c = e .control in
       let due : not (c .due) || (isFirstSpeaker r && (isSend (c .state) && not (c .outchain))) ≡ true =
-      subst (λ (x : Role). not (c .due) || (isFirstSpeaker x && (isSend (c .state) && not (c .outchain))) ≡ true) (i .role) (due-good e g) in
-      let here : Floors r (cond (c .due) sendBB send) (floorOf f) line back =
-      subst (λ (x : Floor). Floors r x (floorOf f) line back) (floor-in e Send (send-state (c .state) s)) (i .floors) in
-      let line′ : List (List ℕ) = line ++ (unitOf n (dataHeader e ends) ru ∷ []) in
+      subst (λ (x : Role). not (c .due) || (isFirstSpeaker x && (isSend (c .state) && not (c .outchain))) ≡ true) (i .role) (facts e g .control .due) in
       record {
         role = t ∙ i .role;
         partner = i .partner;
         floors =
-            subst (λ (x : Floor). Floors r x (floorOf f) line′ back) (sym p)
-            (floors-moved n (dataHeader e ends) ru (sentFloor ends n) (quiet-sending r (c .due))
+            led-as (sym p)
+            (led-moved n (dataHeader e ends) ru (sentFloor ends n) (quiet-sending r (c .due))
             (λ v w. (
               afterMarkFloor (markOf ends) n,
               (
@@ -306,8 +271,8 @@ module _ {r : Role} {e f : End} {line back : List (List ℕ)} where
                 sent-partners r ends n,
               ),
             ))
-            here);
-        bids = subst (λ (x : Pending). Bids r x (bidOf f) line′ back) (sym q) (bids-past n (dataHeader e ends) ru (λ v. refl) (i .bids));
+            (led-as (floor-in e Send (send-state (c .state) s)) (i .floors)));
+        bids = led-as (sym q) (led-past n (dataHeader e ends) ru (λ v. refl) (i .bids));
       }
 
   pub order-spilled :
@@ -354,50 +319,58 @@ module _ {r : Role} {e f : End} {line back : List (List ℕ)} where
       let c = e .control in
       let p = owed-state (c .state) s in
       let m = no-mark e ConfirmOwed g p refl in
-      let line′ : List (List ℕ) = line ++ (unitOf (e .owed) Confirmation [] ∷ []) in
       record {
         role = i .role;
         partner = i .partner;
         floors =
-            subst (λ (x : Floor). Floors r x (floorOf f) line′ back)
+            led-as
             (sym
             (ap (λ (b : Bool). floorAt (afterOwed (c .follows)) b (c .follows) (c .mark) (e .owed) (e .sending .number)) (no-due e ConfirmOwed g p refl)
             ∙ confirmed-floor (c .follows) (c .mark) (e .owed) (e .sending .number) m))
-            (floors-moved (e .owed) Confirmation [] (afterOwe (c .follows)) refl (confirmed-moves r (c .follows) (e .owed))
-            (subst (λ (x : Floor). Floors r x (floorOf f) line back) (floor-in e ConfirmOwed p) (i .floors)));
-        bids = bids-past (e .owed) Confirmation [] (λ v. refl) (i .bids);
+            (led-moved (e .owed) Confirmation [] (afterOwe (c .follows)) refl (confirmed-moves r (c .follows) (e .owed))
+            (led-as (floor-in e ConfirmOwed p) (i .floors)));
+        bids = led-past (e .owed) Confirmation [] (λ v. refl) (i .bids);
       }
 
--- ---- what the first unit tells of the end that it waits for: it breaks none of these rules
+-- ---- what the first unit tells of the end that it waits for, and what is left of floor and bid once it is taken
 
 module _ {r : Role} {e f : End} {u : List ℕ} {line back : List (List ℕ)} where
   data-moves :
       (d : DataHeader) → headerTaken u ≡ Data d → Order r e f line (u ∷ back)
-      → dataMoves r (floorOf e) (beginsBracket (d .begins)) ≡ true
+      → (dataMoves r (floorOf e) (beginsBracket (d .begins)) ≡ true)
+      × Floors r (afterMarkFloor (markOf (d .ends)) (numberIn u)) (floorOf f) line back
   data-moves d h i =
-      let p = floors-head h (i .floors) in
-      went (dataMoves r (floorOf e) (beginsBracket (d .begins))) (afterMarkFloor (markOf (d .ends)) (numberIn u)) (p .0) (p .1) .0
+      led-goes (dataMoves r (floorOf e) (beginsBracket (d .begins))) (afterMarkFloor (markOf (d .ends)) (numberIn u)) h refl (i .floors)
 
-  bid-moves : (b : Bool) → headerTaken u ≡ Bid b → Order r e f line (u ∷ back) → bidMoves r (bidOf e) ≡ true
-  bid-moves b h i = let p = bids-head h (i .bids) in went (bidMoves r (bidOf e)) (some (numberIn u)) (p .0) (p .1) .0
+  bid-moves :
+      (b : Bool) → headerTaken u ≡ Bid b → Order r e f line (u ∷ back)
+      → (bidMoves r (bidOf e) ≡ true) × Bids r (some (numberIn u)) (bidOf f) line back
+  bid-moves b h i = led-goes (bidMoves r (bidOf e)) (some (numberIn u)) h refl (i .bids)
 
-  grant-moves : headerTaken u ≡ PositiveBidResponse → Order r e f line (u ∷ back) → grantMoves r (floorOf e) ≡ true
-  grant-moves h i = let p = floors-head h (i .floors) in went (grantMoves r (floorOf e)) send (p .0) (p .1) .0
+  grant-moves :
+      headerTaken u ≡ PositiveBidResponse → Order r e f line (u ∷ back)
+      → (grantMoves r (floorOf e) ≡ true) × Floors r send (floorOf f) line back
+  grant-moves h i = led-goes (grantMoves r (floorOf e)) send h refl (i .floors)
 
-  grant-answers : headerTaken u ≡ PositiveBidResponse → Order r e f line (u ∷ back) → answerMoves r (bidOf e) (numberIn u) ≡ true
-  grant-answers h i = let p = bids-head h (i .bids) in went (answerMoves r (bidOf e) (numberIn u)) none (p .0) (p .1) .0
+  grant-answers :
+      headerTaken u ≡ PositiveBidResponse → Order r e f line (u ∷ back)
+      → (answerMoves r (bidOf e) (numberIn u) ≡ true) × Bids r none (bidOf f) line back
+  grant-answers h i = led-goes (answerMoves r (bidOf e) (numberIn u)) none h refl (i .bids)
 
-  refusal-answers : headerTaken u ≡ NegativeBidResponse → Order r e f line (u ∷ back) → answerMoves r (bidOf e) (numberIn u) ≡ true
-  refusal-answers h i = let p = bids-head h (i .bids) in went (answerMoves r (bidOf e) (numberIn u)) none (p .0) (p .1) .0
+  refusal-answers :
+      headerTaken u ≡ NegativeBidResponse → Order r e f line (u ∷ back)
+      → (answerMoves r (bidOf e) (numberIn u) ≡ true) × Bids r none (bidOf f) line back
+  refusal-answers h i = led-goes (answerMoves r (bidOf e) (numberIn u)) none h refl (i .bids)
 
-  confirmation-moves : headerTaken u ≡ Confirmation → Order r e f line (u ∷ back) → waitsFor (floorOf e) (numberIn u) ≡ true
-  confirmation-moves h i =
-      let p = floors-head h (i .floors) in went (waitsFor (floorOf e) (numberIn u)) (confirmedFloor (floorOf e)) (p .0) (p .1) .0
+  confirmation-moves :
+      headerTaken u ≡ Confirmation → Order r e f line (u ∷ back)
+      → (waitsFor (floorOf e) (numberIn u) ≡ true) × Floors r (confirmedFloor (floorOf e)) (floorOf f) line back
+  confirmation-moves h i = led-goes (waitsFor (floorOf e) (numberIn u)) (confirmedFloor (floorOf e)) h refl (i .floors)
 
   waiting : headerTaken u ≡ Confirmation → Order r e f line (u ∷ back) → (e .control .state ≡ ConfirmAwaited) × (eqb (numberIn u) (e .sending .number) ≡ true)
   waiting h i =
       let c = e .control in
-      waits-state (c .state) (c .due) (c .follows) (c .mark) (e .owed) (e .sending .number) (numberIn u) (confirmation-moves h i)
+      waits-state (c .state) (c .due) (c .follows) (c .mark) (e .owed) (e .sending .number) (numberIn u) (confirmation-moves h i .0)
 
   -- the flag is on and the number is the bid's
   flagged :
@@ -416,11 +389,11 @@ module _ {r : Role} {e f : End} {u : List ℕ} {line back : List (List ℕ)} whe
       let c = e .control in
       let bb = beginsBracket (d .begins) in
       data-fits (c .role) (c .state) (c .due) (c .follows) (c .mark) (e .owed) (e .sending .number) bb m
-      (subst (λ (x : Role). dataMoves x (floorOf e) bb ≡ true) (sym (i .role)) (data-moves d h i))
+      (subst (λ (x : Role). dataMoves x (floorOf e) bb ≡ true) (sym (i .role)) (data-moves d h i .0))
 
   -- 25, of a bid
   pub order-fits-bid : (b : Bool) → headerTaken u ≡ Bid b → Order r e f line (u ∷ back) → bidFits (e .control) ≡ true
-  order-fits-bid b h i = subst (λ (x : Role). isFirstSpeaker x ≡ true) (sym (i .role)) (bid-speaker r (bidOf e) (bid-moves b h i))
+  order-fits-bid b h i = subst (λ (x : Role). isFirstSpeaker x ≡ true) (sym (i .role)) (bid-speaker r (bidOf e) (bid-moves b h i .0))
 
   -- 28
   pub order-fits-grant :
@@ -430,8 +403,8 @@ module _ {r : Role} {e f : End} {u : List ℕ} {line back : List (List ℕ)} whe
       let c = e .control in
       let z =
       reset-floor (c .state) (c .due) (c .follows) (c .mark) (e .owed) (e .sending .number) m
-      (right (isBidder r) (isResetFloor (floorOf e)) (grant-moves h i)) in
-      let b = flagged i (grant-answers h i) in
+      (right (isBidder r) (isResetFloor (floorOf e)) (grant-moves h i .0)) in
+      let b = flagged i (grant-answers h i .0) in
       subst (λ (x : State). (isReset x && c .bid) && eqb (numberIn u) (e .bidding) ≡ true) (sym z)
       (subst (λ (x : Bool). x && eqb (numberIn u) (e .bidding) ≡ true) (sym (b .0)) (b .1))
 
@@ -439,7 +412,7 @@ module _ {r : Role} {e f : End} {u : List ℕ} {line back : List (List ℕ)} whe
       headerTaken u ≡ NegativeBidResponse → Order r e f line (u ∷ back)
       → refusalFits (e .control) && eqb (numberIn u) (e .bidding) ≡ true
   order-fits-refusal h i =
-      let b = flagged i (refusal-answers h i) in
+      let b = flagged i (refusal-answers h i .0) in
       subst (λ (x : Bool). x && eqb (numberIn u) (e .bidding) ≡ true) (sym (b .0)) (b .1)
 
   pub order-fits-confirmation :
@@ -453,15 +426,13 @@ module _ {r : Role} {e f : End} {u : List ℕ} {line back : List (List ℕ)} whe
 
 -- a bid that a first speaker takes, it answers; then there is none again
 answered-bids :
-    (r : Role) (p : Pending) {q : Pending} {u : List ℕ} {line back : List (List ℕ)} (b : Bool) (h : Header) (ru : List ℕ)
-    → bidMoves r p ≡ true
-    → headerTaken u ≡ Bid b
-    → bidOn Bidder (some (numberIn u)) h (numberIn u) ≡ ok none
-    → Bids r p q line (u ∷ back)
-    → Bids r p q (line ++ (unitOf (numberIn u) h ru ∷ [])) back
-answered-bids FirstSpeaker none {u = u} b h ru m t g i = bids-moved (numberIn u) h ru none refl g (bids-took (some (numberIn u)) t refl i)
-answered-bids FirstSpeaker (some k) b h ru m t g i = absurd (false≢true m)
-answered-bids Bidder p b h ru m t g i = absurd (false≢true m)
+    (r : Role) (p : Pending) {q : Pending} {line back : List (List ℕ)} (n : ℕ) (h : Header) (ru : List ℕ)
+    → bidOn Bidder (some n) h n ≡ ok none
+    → (bidMoves r p ≡ true) × Bids r (some n) q line back
+    → Bids r p q (line ++ (unitOf n h ru ∷ [])) back
+answered-bids FirstSpeaker none n h ru g i = bids-moved n h ru none refl g (i .1)
+answered-bids FirstSpeaker (some k) n h ru g i = never (i .0)
+answered-bids Bidder p n h ru g i = never (i .0)
 
 -- in Reset it grants, and the partner, in Reset too, will send
 granted-floors :
@@ -470,9 +441,9 @@ granted-floors :
     → Floors r reset y line back
     → Floors r receive y (line ++ (unitOf n PositiveBidResponse ru ∷ [])) back
 granted-floors FirstSpeaker n ru s i =
-    floors-moved n PositiveBidResponse ru receive refl
+    led-moved n PositiveBidResponse ru receive refl
     (λ v p. (send, (subst (λ (x : Floor). floorOn Bidder x PositiveBidResponse n ≡ ok send) (sym p) refl, refl))) i
-granted-floors Bidder n ru s i = absurd (false≢true s)
+granted-floors Bidder n ru s i = never s
 
 module _ {r : Role} {e f : End} {u : List ℕ} {line back : List (List ℕ)} where
   pub order-took-data :
@@ -480,15 +451,11 @@ module _ {r : Role} {e f : End} {u : List ℕ} {line back : List (List ℕ)} whe
       → Order r (dataJoined e d (numberIn u) ru .end) f line back
   unfolding dataJoined dataTaken
   order-took-data d ru h i =
-      let n = numberIn u in
-      let v = afterMarkFloor (markOf (d .ends)) n in
       record {
         role = i .role;
         partner = i .partner;
-        floors =
-            subst (λ (x : Floor). Floors r x (floorOf f) line back) (sym (mark-floor (d .ends) n (e .owed)))
-            (floors-took v h (goes (dataMoves r (floorOf e) (beginsBracket (d .begins))) v (data-moves d h i)) (i .floors));
-        bids = bids-took (bidOf e) h refl (i .bids);
+        floors = led-as (sym (mark-floor (d .ends) (numberIn u) (e .owed))) (data-moves d h i .1);
+        bids = led-took (bidOf e) h refl (i .bids);
       }
 
   -- a bid, by whether the end is in Reset
@@ -501,28 +468,24 @@ module _ {r : Role} {e f : End} {u : List ℕ} {line back : List (List ℕ)} whe
   took-bid true b v s m h i =
       let c = e .control in
       let n = numberIn u in
-      let line′ : List (List ℕ) = line ++ (unitOf n PositiveBidResponse (fixedRu PositiveBidResponse) ∷ []) in
       record {
         role = i .role;
         partner = i .partner;
         floors =
-            subst (λ (x : WhatReceived). Floors r (afterMarkFloor x (e .owed)) (floorOf f) line′ back) (sym (nothing-mark (c .mark) m))
-            (granted-floors r n (fixedRu PositiveBidResponse) (bid-speaker r (bidOf e) (bid-moves b h i))
-            (subst (λ (x : Floor). Floors r x (floorOf f) line back) (floor-in e Reset (reset-state (c .state) s))
-            (floors-took (floorOf e) h refl (i .floors))));
+            led-as (ap (λ (x : WhatReceived). afterMarkFloor x (e .owed)) (sym (nothing-mark (c .mark) m)))
+            (granted-floors r n (fixedRu PositiveBidResponse) (bid-speaker r (bidOf e) (bid-moves b h i .0))
+            (led-as (floor-in e Reset (reset-state (c .state) s)) (led-took (floorOf e) h refl (i .floors))));
         bids =
-            answered-bids r (bidOf e) b PositiveBidResponse (fixedRu PositiveBidResponse) (bid-moves b h i) h
-            (goes (eqb n n) none (eq-eqb n n refl)) (i .bids);
+            answered-bids r (bidOf e) n PositiveBidResponse (fixedRu PositiveBidResponse) (goes (eqb n n) none (eq-eqb n n refl)) (bid-moves b h i);
       }
   took-bid false b v s m h i =
       let n = numberIn u in
       record {
         role = i .role;
         partner = i .partner;
-        floors = floors-past n NegativeBidResponse (fixedRu NegativeBidResponse) (λ w. refl) (floors-took (floorOf e) h refl (i .floors));
+        floors = led-past n NegativeBidResponse (fixedRu NegativeBidResponse) (λ w. refl) (led-took (floorOf e) h refl (i .floors));
         bids =
-            answered-bids r (bidOf e) b NegativeBidResponse (fixedRu NegativeBidResponse) (bid-moves b h i) h
-            (goes (eqb n n) none (eq-eqb n n refl)) (i .bids);
+            answered-bids r (bidOf e) n NegativeBidResponse (fixedRu NegativeBidResponse) (goes (eqb n n) none (eq-eqb n n refl)) (bid-moves b h i);
       }
 
   pub order-took-bid :
@@ -539,19 +502,16 @@ module _ {r : Role} {e f : End} {u : List ℕ} {line back : List (List ℕ)} whe
   unfolding grantTaken
   order-took-grant g h i =
       let c = e .control in
-      let moves = grant-moves h i in
-      let who : c .role ≡ Bidder = i .role ∙ bidder-is r (left (isBidder r) (isResetFloor (floorOf e)) moves) in
+      let p = grant-moves h i in
+      let who : c .role ≡ Bidder = i .role ∙ bidder-is r (left (isBidder r) (isResetFloor (floorOf e)) (p .0)) in
       let due : c .due ≡ false =
-      due-speaks (c .due) (isFirstSpeaker (c .role)) (isSend (c .state) && not (c .outchain)) (due-good e g) (ap isFirstSpeaker who) in
+      due-speaks (c .due) (isFirstSpeaker (c .role)) (isSend (c .state) && not (c .outchain)) (facts e g .control .due) (ap isFirstSpeaker who) in
       record {
         role = i .role;
         partner = i .partner;
         floors =
-            subst (λ (x : Bool). Floors r (cond x sendBB send) (floorOf f) line back) (sym due)
-            (floors-took send h (goes (grantMoves r (floorOf e)) send moves) (i .floors));
-        bids =
-            subst (λ (x : Pending). Bids r x (bidOf f) line back) (sym (bid-off (c .role) (e .bidding)))
-            (bids-took none h (goes (answerMoves r (bidOf e) (numberIn u)) none (grant-answers h i)) (i .bids));
+            led-as (ap (λ (x : Bool). cond x sendBB send) (sym due)) (p .1);
+        bids = led-as (sym (bid-off (c .role) (e .bidding))) (grant-answers h i .1);
       }
 
   pub order-took-refusal :
@@ -562,10 +522,8 @@ module _ {r : Role} {e f : End} {u : List ℕ} {line back : List (List ℕ)} whe
       record {
         role = i .role;
         partner = i .partner;
-        floors = floors-took (floorOf e) h refl (i .floors);
-        bids =
-            subst (λ (x : Pending). Bids r x (bidOf f) line back) (sym (bid-off (c .role) (e .bidding)))
-            (bids-took none h (goes (answerMoves r (bidOf e) (numberIn u)) none (refusal-answers h i)) (i .bids));
+        floors = led-took (floorOf e) h refl (i .floors);
+        bids = led-as (sym (bid-off (c .role) (e .bidding))) (refusal-answers h i .1);
       }
 
   pub order-took-confirmation :
@@ -582,10 +540,8 @@ module _ {r : Role} {e f : End} {u : List ℕ} {line back : List (List ℕ)} whe
         role = i .role;
         partner = i .partner;
         floors =
-            subst (λ (x : Floor). Floors r x (floorOf f) line back) (ap confirmedFloor (floor-in e ConfirmAwaited p) ∙ sym after)
-            (floors-took (confirmedFloor (floorOf e)) h
-            (goes (waitsFor (floorOf e) (numberIn u)) (confirmedFloor (floorOf e)) (confirmation-moves h i)) (i .floors));
-        bids = bids-took (bidOf e) h refl (i .bids);
+            led-as (ap confirmedFloor (floor-in e ConfirmAwaited p) ∙ sym after) (confirmation-moves h i .1);
+        bids = led-took (bidOf e) h refl (i .bids);
       }
 
   pub order-took-pacing : headerTaken u ≡ PacingResponse → Order r e f line (u ∷ back) → Order r (creditRaised e .end) f line back
@@ -594,8 +550,8 @@ module _ {r : Role} {e f : End} {u : List ℕ} {line back : List (List ℕ)} whe
       record {
         role = i .role;
         partner = i .partner;
-        floors = floors-took (floorOf e) h refl (i .floors);
-        bids = bids-took (bidOf e) h refl (i .bids);
+        floors = led-took (floorOf e) h refl (i .floors);
+        bids = led-took (bidOf e) h refl (i .bids);
       }
 
 -- ---- never both in Send
@@ -605,10 +561,6 @@ pub not-both :
 not-both {r} {e} {f} {line} {back} i p q =
     let x : Floor = cond (e .control .due) sendBB send in
     let y : Floor = cond (f .control .due) sendBB send in
-    let w : Floors r x y line back =
-    subst (λ (v : Floor). Floors r x v line back) (floor-in f Send q)
-    (subst (λ (v : Floor). Floors r v (floorOf f) line back) (floor-in e Send p) (i .floors)) in
-    let m = quiet-stays r x x (quiet-sending r (e .control .due)) (w .mine) in
-    let t = quiet-stays (other r) y y (quiet-sending (other r) (f .control .due)) (w .theirs) in
+    let w : Floors r x y line back = subst (λ (v : Floor). Floors r x v line back) (floor-in f Send q) (led-as (floor-in e Send p) (i .floors)) in
     not-both-send r (e .control .due) (f .control .due)
-    (subst (λ (v : Floor). Partners r x v) (t .0) (subst (λ (v : Floor). Partners r v (w .there)) (m .0) (w .partners)))
+    (led-settled (quiet-sending r (e .control .due)) (quiet-sending (other r) (f .control .due)) w)

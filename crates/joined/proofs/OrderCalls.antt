@@ -14,8 +14,10 @@ use Rattle.sides.specs.Receiving.{windowAnswered}
 use Rattle.end.specs.ReceiveUnit.{headerTaken, ruTaken}
 use Rattle.end.specs.declared.End.{End}
 use Rattle.joined.specs.Joined.{Acted, Took}
-use Rattle.joined.specs.Ends.{Lane, normal, Station, Verb, Reply, acts, takes}
-use Rattle.joined.proofs.Acts.{allocate-cases, send-cases, close-cases, confirmed-cases, pace-cases, read-cases, take-cases, TakeAsked, tookKind, spilledRu, readCount}
+use Rattle.joined.specs.Ends.{Lane, normal, acts, takes}
+use Rattle.calls.proofs.CallCases.{TakeAsked, allocate-cases, close-cases, confirmed-cases, pace-cases, read-cases, readCount, send-cases, spilledRu}
+use Rattle.calls.specs.Calls.{Reply, Station, Verb}
+use Rattle.joined.proofs.Laned.{Laned, take-cases, tookKind}
 use Rattle.joined.proofs.Order.{Order, order-receiving, order-kept, order-read, order-mark, order-paced, order-spoke, order-bid, order-spilled, order-last, order-confirmed, order-took-data, order-took-bid, order-took-grant, order-took-refusal, order-took-confirmation, order-took-pacing}
 
 module _ (r : Role) (s : Station) (f : End) (line back : List (List ℕ)) (i : Order r (s .end) f line back) where
@@ -29,19 +31,19 @@ module _ (r : Role) (s : Station) (f : End) (line back : List (List ℕ)) (i : O
   pub order-acts : (v : Verb) → After (acts s v)
   unfolding acts
   order-acts Verb.allocate =
-      allocate-cases After s (λ q n. quiet-line i) (λ g a w. quiet-line (order-spoke w a i))
+      allocate-cases (Laned After) s (λ q n. quiet-line i) (λ g a w. quiet-line (order-spoke w a i))
       (λ g a w k. order-bid (paced (s .end .sending .window)) w a i)
-  order-acts Verb.confirmed = confirmed-cases After s (λ q n. quiet-line i) (λ g a. order-confirmed g a i)
+  order-acts Verb.confirmed = confirmed-cases (Laned After) s (λ q n. quiet-line i) (λ g a. order-confirmed g a i)
   order-acts Verb.pace =
-      pace-cases After s (λ q n. quiet-line i) (λ g a. order-receiving (windowAnswered (s .end .receiving)) (order-paced 0 [] i))
+      pace-cases (Laned After) s (λ q n. quiet-line i) (λ g a. order-receiving (windowAnswered (s .end .receiving)) (order-paced 0 [] i))
   order-acts (Verb.sendData bytes) =
-      send-cases After s bytes (λ q n. quiet-line i) (λ a k. quiet-line (order-kept bytes i))
+      send-cases (Laned After) s bytes (λ q n. quiet-line i) (λ a k. quiet-line (order-kept bytes i))
       (λ a k h. order-spilled bytes (s .send) (spilledRu s bytes) (a .good) (a .sending) i)
   order-acts (Verb.close x c) =
-      close-cases After s x c (λ q n. quiet-line i) (λ a n. quiet-line i)
+      close-cases (Laned After) s x c (λ q n. quiet-line i) (λ a n. quiet-line i)
       (λ a n k. order-last x c (s .send) (heldBytes (s .end) (s .send)) (a .good) (a .sending) i)
   order-acts (Verb.receive buffer) =
-      read-cases After s buffer (λ q w n. quiet-line i) (λ a h. quiet-line (order-read (readCount s buffer) (s .inbox) i))
+      read-cases (Laned After) s buffer (λ q w n. quiet-line i) (λ a h. quiet-line (order-read (readCount s buffer) (s .inbox) i))
       (λ a h m. quiet-line (order-mark (a .good) m i))
 
 module _ (r : Role) (s : Station) (f : End) (u : List ℕ) (line back : List (List ℕ)) (i : Order r (s .end) f line (u ∷ back)) where

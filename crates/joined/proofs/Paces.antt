@@ -1,23 +1,16 @@
 -- Pacing between two joined ends: what the receiving end owes, led on by the line, is what the sending end has unanswered, led on by the line back.
 -- Assumes nothing.
-use Prim.Native.Nat.{ℕ, _+_, _-_, _≤_, _<_}
+use Prim.Native.Nat.{ℕ}
 use mathlib.Core.Path.{_≡_, refl, sym, ap, _∙_, subst}
-use mathlib.Core.Bool.{Bool, true, false, not, cond, _&&_, _||_}
+use mathlib.Core.Bool.{Bool, true, false, cond, _||_}
 use mathlib.Core.List.{List, [], _∷_, _++_}
 use native.Mathlib.Omega.{arith}
-use borrow.Author.Tests.{eqb-true, eqb-false, leb-true, ltb-true, le-leb, eq-eqb, ne-eqb}
-use lib.Dec.{eqb, leb, ltb}
 use Rattle.unit.specs.Unit.{unitOf}
-use Rattle.unit.specs.Ru.{fixedRu}
 use Rattle.header.specs.declared.Header.{Header}
 use Rattle.header.specs.declared.Header.the-variants.{Data, Bid, PositiveBidResponse, NegativeBidResponse, Confirmation, PacingResponse}
-use Rattle.pacing.specs.Pacing.{leastWindow, greatestWindow, windowGood, whole, credit, hasCredit, paced}
-use Rattle.pacing.specs.Pacing as W
-use Rattle.pacing.specs.declared.Window.{Window}
 use Rattle.end.specs.ReceiveUnit.{headerTaken}
 use Rattle.joined.proofs.Automata.{Ran, ok, stuck, stuck≢ok, ok-is, Leads, leads-nowhere, leads-more, Parted, parted, inert}
-use Rattle.joined.proofs.Rows.{left, right}
-use Rattle.joined.proofs.Floor.{taken-header}
+use Rattle.calls.proofs.Units.{taken-header, isPacing}
 use Rattle.joined.proofs.Stream.{isResponse}
 
 -- a request with the pacing bit finds no answer owed, and leaves one owed
@@ -146,14 +139,6 @@ paces-response {unanswered} {owed} {line} {back} n h ru e p =
 
 -- ---- on the line back
 
-abbrev pub isPacing : Header → Bool
-isPacing (Data d) = false
-isPacing (Bid p) = false
-isPacing PositiveBidResponse = false
-isPacing NegativeBidResponse = false
-isPacing Confirmation = false
-isPacing PacingResponse = true
-
 passed : (flag : Bool) (h : Header) → isPacing h ≡ false → unansweredKind flag h ≡ ok flag
 passed flag (Data d) e = refl
 passed flag (Bid p) e = refl
@@ -219,36 +204,3 @@ pub paces-fresh : Paces false false [] []
 paces-fresh = record { flag = false; owes = leads-nowhere; awaits = leads-nowhere }
 
 -- ---- credit and the flag
-
--- at place 0 there is credit exactly where the flag is off; elsewhere there always is
-pub no-flag-at-start : (w : Window) → hasCredit w ≡ true → paced w ≡ true → w .pending ≡ false
-unfolding credit
-no-flag-at-start w h p = by (w .pending) refl
-  where
-    by : (b : Bool) → w .pending ≡ b → w .pending ≡ false
-    by true e =
-        absurd
-        (let k : 1 ≤ whole true (w .size) + cond true 0 (w .size - w .position) =
-        leb-true 1 _
-        (subst (λ (x : Bool). leb 1 (whole true (w .size) + cond x 0 (w .size - w .position)) ≡ true) p
-        (subst (λ (x : Bool). leb 1 (whole x (w .size) + cond (eqb (w .position) 0) 0 (w .size - w .position)) ≡ true) e h)) in
-        omega arith)
-    by false e = e
-
-pub credit-there : (w : Window) → windowGood w ≡ true → (paced w ≡ true → w .pending ≡ false) → hasCredit w ≡ true
-unfolding credit
-credit-there w g f = by (paced w) refl
-  where
-    big : 1 ≤ w .size
-    big = leb-true 1 (w .size) (left (leb 1 (w .size)) _ g)
-
-    small : w .position < w .size
-    small = ltb-true (w .position) (w .size) (right (leb (w .size) greatestWindow) (ltb (w .position) (w .size)) (right (leb 1 (w .size)) _ g))
-
-    by : (b : Bool) → paced w ≡ b → hasCredit w ≡ true
-    by true e =
-        subst (λ (x : Bool). leb 1 (whole (w .pending) (w .size) + cond x 0 (w .size - w .position)) ≡ true) (sym e)
-        (subst (λ (x : Bool). leb 1 (whole x (w .size) + 0) ≡ true) (sym (f e)) (le-leb 1 (w .size + 0) (omega (arith, big))))
-    by false e =
-        subst (λ (x : Bool). leb 1 (whole (w .pending) (w .size) + cond x 0 (w .size - w .position)) ≡ true) (sym e)
-        (le-leb 1 (whole (w .pending) (w .size) + (w .size - w .position)) (omega (arith, small)))

@@ -1,19 +1,16 @@
 -- Every call keeps pacing in step, as the sending end and as the receiving end.
 -- Assumes nothing.
-use Prim.Native.Nat.{ℕ, _+_}
+use Prim.Native.Nat.{ℕ}
 use mathlib.Core.Path.{_≡_, refl, sym, ap, _∙_, subst}
-use mathlib.Core.Bool.{Bool, true, false, not, cond, _&&_, _||_}
+use mathlib.Core.Bool.{Bool, true, false, cond, _||_}
 use mathlib.Core.List.{List, [], _∷_, _++_, append-nil}
-use lib.Dec.{eqb, leb}
-use lib.ListN.{length}
-use Rattle.unit.specs.Ru.{fixedRu, ruGood, bidRu}
+use Rattle.unit.specs.Ru.{fixedRu, bidRu}
 use Rattle.unit.specs.Unit.{unitOf, numberIn}
 use Rattle.header.specs.declared.ChainEnd.{ChainEnd}
 use Rattle.header.specs.declared.ChainEnd.the-variants.{Continues, Last}
 use Rattle.header.specs.declared.Header.{Header}
 use Rattle.header.specs.declared.Header.the-variants.{Data, Bid, PositiveBidResponse, NegativeBidResponse, Confirmation, PacingResponse}
-use Rattle.pacing.specs.Pacing.{hasCredit, paced, advanced, answered, credit}
-use Rattle.pacing.specs.declared.Window.{Window}
+use Rattle.pacing.specs.Pacing.{hasCredit, paced, advanced, answered}
 use Rattle.control.specs.Tests.{isReset, agree}
 use Rattle.transitions.specs.Transitions.{bidAnswer}
 use Rattle.control.specs.declared.Control.{Control}
@@ -25,17 +22,18 @@ use Rattle.end.specs.Requests.{dataHeader}
 use Rattle.end.specs.Allocate.{bidMade}
 use Rattle.end.specs.SendData.{heldBytes, bytesKept, bytesSpilled}
 use Rattle.end.specs.Close.{lastMade}
-use Rattle.sides.specs.Receiving.{pacingFits}
 use Rattle.end.specs.ReceiveUnit.{kindQuestions, headerTaken, ruTaken, dataJoined, bidAnswered, creditRaised}
 use Rattle.end.specs.Receive.{bytesRead}
-use Rattle.sides.specs.Receiving.{mayPace}
-use Rattle.end.specs.declared.End.{End}
 use Rattle.joined.specs.Joined.{Acted, Took}
-use Rattle.joined.specs.Ends.{Lane, normal, Station, Verb, Reply, acts, takes}
-use Rattle.joined.proofs.Rows.{left, right, all-yes}
-use Rattle.joined.proofs.Good.{never}
-use Rattle.joined.proofs.Acts.{allocate-cases, bidNumber, send-cases, spilledRu, close-cases, confirmed-cases, pace-cases, read-cases, take-cases, TakeAsked, tookKind}
-use Rattle.joined.proofs.Paces.{Paces, bitOf, paces-out, paces-response, isPacing, paces-back, paces-answer, paces-taken, paces-answered, paces-other, no-flag-at-start}
+use Rattle.joined.specs.Ends.{Lane, normal, acts, takes}
+use Rattle.answers.proofs.Rows.{yes}
+use Rattle.bools.proofs.Tests.{left, right}
+use Rattle.calls.proofs.CallCases.{allocate-cases, bidNumber, close-cases, confirmed-cases, pace-cases, read-cases, send-cases, spilledRu}
+use Rattle.calls.proofs.Units.{isPacing}
+use Rattle.calls.specs.Calls.{Reply, Station, Verb}
+use Rattle.joined.proofs.Laned.{Laned, take-cases, tookKind}
+use Rattle.pacing.proofs.Windows.{no-flag-at-start}
+use Rattle.joined.proofs.Paces.{Paces, bitOf, paces-out, paces-response, paces-back, paces-answer, paces-taken, paces-answered, paces-other}
 use Rattle.joined.proofs.Stream.{isResponse}
 
 -- whether a pacing request is unanswered, and whether an answer is owed
@@ -63,17 +61,17 @@ module _ (s : Station) (owed : Bool) (line back : List (List ℕ)) (p : Paces (u
   pub paces-acts : (v : Verb) → After (acts s v)
   unfolding acts bytesKept bytesSpilled bytesRead bidMade lastMade requestMade advanced
   paces-acts Verb.allocate =
-      allocate-cases After s (λ q n. quiet-line p) (λ g a w. quiet-line p)
+      allocate-cases (Laned After) s (λ q n. quiet-line p) (λ g a w. quiet-line p)
       (λ g a w k. paces-out (bidNumber (s .end)) (Bid (paced (s .end .sending .window))) bidRu (no-flag-at-start (s .end .sending .window) k) p)
-  paces-acts Verb.confirmed = confirmed-cases After s (λ q n. quiet-line p) (λ g a. paces-response (s .end .owed) Confirmation [] refl p)
-  paces-acts Verb.pace = pace-cases After s (λ q n. quiet-line p) (λ g a. paces-response 0 PacingResponse [] refl p)
+  paces-acts Verb.confirmed = confirmed-cases (Laned After) s (λ q n. quiet-line p) (λ g a. paces-response (s .end .owed) Confirmation [] refl p)
+  paces-acts Verb.pace = pace-cases (Laned After) s (λ q n. quiet-line p) (λ g a. paces-response 0 PacingResponse [] refl p)
   paces-acts (Verb.sendData bytes) =
-      send-cases After s bytes (λ q n. quiet-line p) (λ a k. quiet-line p)
+      send-cases (Laned After) s bytes (λ q n. quiet-line p) (λ a k. quiet-line p)
       (λ a k h. data-out (nextNumber (s .end .sending .number)) Continues (spilledRu s bytes) h)
   paces-acts (Verb.close f c) =
-      close-cases After s f c (λ q n. quiet-line p) (λ a n. quiet-line p)
+      close-cases (Laned After) s f c (λ q n. quiet-line p) (λ a n. quiet-line p)
       (λ a n k. data-out (nextNumber (s .end .sending .number)) (Last f c) (heldBytes (s .end) (s .send)) k)
-  paces-acts (Verb.receive buffer) = read-cases After s buffer (λ q w n. quiet-line p) (λ a h. quiet-line p) (λ a h m. quiet-line p)
+  paces-acts (Verb.receive buffer) = read-cases (Laned After) s buffer (λ q w n. quiet-line p) (λ a h. quiet-line p) (λ a h m. quiet-line p)
 
 answers : (c : Control) → isResponse (bidAnswer c) ≡ true
 answers c = by (isReset (c .state))
@@ -130,17 +128,17 @@ module _ (s : Station) (unanswered : Bool) (back line : List (List ℕ)) (p : Pa
   pub paces-in-acts : (v : Verb) → AfterIn (acts s v)
   unfolding acts bytesKept bytesSpilled bytesRead bidMade lastMade answered
   paces-in-acts Verb.allocate =
-      allocate-cases AfterIn s (λ q n. quiet-back p) (λ g a w. quiet-back p)
+      allocate-cases (Laned AfterIn) s (λ q n. quiet-back p) (λ g a w. quiet-back p)
       (λ g a w k. paces-back (bidNumber (s .end)) (Bid (paced (s .end .sending .window))) bidRu refl p)
-  paces-in-acts Verb.confirmed = confirmed-cases AfterIn s (λ q n. quiet-back p) (λ g a. paces-back (s .end .owed) Confirmation [] refl p)
-  paces-in-acts Verb.pace = pace-cases AfterIn s (λ q n. quiet-back p) (λ g a. paces-answer 0 [] (left (owedOf s) _ a) p)
+  paces-in-acts Verb.confirmed = confirmed-cases (Laned AfterIn) s (λ q n. quiet-back p) (λ g a. paces-back (s .end .owed) Confirmation [] refl p)
+  paces-in-acts Verb.pace = pace-cases (Laned AfterIn) s (λ q n. quiet-back p) (λ g a. paces-answer 0 [] (left (owedOf s) _ a) p)
   paces-in-acts (Verb.sendData bytes) =
-      send-cases AfterIn s bytes (λ q n. quiet-back p) (λ a k. quiet-back p)
+      send-cases (Laned AfterIn) s bytes (λ q n. quiet-back p) (λ a k. quiet-back p)
       (λ a k h. data-no-pacing (nextNumber (s .end .sending .number)) Continues (spilledRu s bytes))
   paces-in-acts (Verb.close f c) =
-      close-cases AfterIn s f c (λ q n. quiet-back p) (λ a n. quiet-back p)
+      close-cases (Laned AfterIn) s f c (λ q n. quiet-back p) (λ a n. quiet-back p)
       (λ a n k. data-no-pacing (nextNumber (s .end .sending .number)) (Last f c) (heldBytes (s .end) (s .send)))
-  paces-in-acts (Verb.receive buffer) = read-cases AfterIn s buffer (λ q w n. quiet-back p) (λ a h. quiet-back p) (λ a h m. quiet-back p)
+  paces-in-acts (Verb.receive buffer) = read-cases (Laned AfterIn) s buffer (λ q w n. quiet-back p) (λ a h. quiet-back p) (λ a h m. quiet-back p)
 
 -- the bit of a request that was taken is that of the window place
 pub agrees : (a b : Bool) → agree a b ≡ true → a ≡ b
@@ -169,11 +167,11 @@ module _ (s : Station) (unanswered : Bool) (back line : List (List ℕ)) (u : Li
   kind-in : (h : Header) (n : ℕ) (ru : List ℕ) → headerTaken u ≡ h → firstNo (kindQuestions (s .end) h n ru) ≡ 0 → LeftIn (tookKind s h n ru)
   unfolding dataJoined bidAnswered creditRaised requestTaken advanced
   kind-in (Data d) n ru e k =
-      let t = all-yes (kindQuestions (s .end) (Data d) n ru) tt k in
+      let t = yes (kindQuestions (s .end) (Data d) n ru) tt k in
       let w = s .end .receiving .window in
       still-in (flagged (Data d) (paced w) e (agrees (d .pacing) (paced w) (right (hasCredit w) (agree (d .pacing) (paced w)) (t 1))))
   kind-in (Bid b) n ru e k =
-      let t = all-yes (kindQuestions (s .end) (Bid b) n ru) tt k in
+      let t = yes (kindQuestions (s .end) (Bid b) n ru) tt k in
       let w = s .end .receiving .window in
       let h = bidAnswer (s .end .control) in
       paces-back n h (fixedRu h) (answers-no-pacing (s .end .control))

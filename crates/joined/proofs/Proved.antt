@@ -2,23 +2,18 @@
 -- Assumes nothing.
 use Prim.Native.Nat.{ℕ, _+_, _*_}
 use mathlib.Core.Path.{_≡_, refl, sym, ap, _∙_, subst}
-use mathlib.Core.Bool.{Bool, true, false, not, cond, _&&_, _||_}
-use mathlib.Core.List.{List, [], _∷_, _++_, append-assoc}
+use mathlib.Core.Bool.{Bool, true, false, cond}
+use mathlib.Core.List.{List, [], _∷_, _++_}
 use native.Mathlib.Omega.{arith}
-use borrow.Author.Tests.{eqb-true, eqb-false}
+use borrow.Author.Tests.{eqb-false}
 use lib.Dec.{eqb}
 use lib.ListN.{length}
-use Rattle.logical_record.specs.Positions.{start}
-use Rattle.logical_record.specs.Walk.{thenWalk, walk}
+use Rattle.logical_record.specs.Walk.{thenWalk}
 use Rattle.logical_record.specs.Records.{wholeRecords}
 use Rattle.logical_record.proofs.Splits.{whole-records-append}
-use Rattle.logical_record.specs.declared.Walked.the-variants as walked
 use Rattle.pacing.specs.Pacing.{credit}
-use Rattle.control.specs.Tests.{isSend}
 use Rattle.control.specs.declared.Role.{Role}
 use Rattle.control.specs.declared.Role.the-variants.{FirstSpeaker, Bidder}
-use Rattle.control.specs.declared.State.{State}
-use Rattle.control.specs.declared.State.the-variants.{Reset, Send, Receive, ConfirmOwed, ConfirmAwaited}
 use Rattle.sides.specs.Opening.{roleOf, openingRefusal}
 use Rattle.session.specs.Opening.{freshEnd, zeroEnd, opened}
 use Rattle.answers.specs.Answers.{accepted, refused}
@@ -26,14 +21,16 @@ use Rattle.sides.specs.declared.Session.{Session}
 use Rattle.end.specs.declared.End.{End}
 use Rattle.end.specs.declared.Done.{Done}
 use Rattle.joined.specs.Lanes.{Lines}
-use Rattle.joined.specs.Joined.{At, Side, Both, run}
-use Rattle.joined.specs.Ends.{Lane, normal, sameLane, Station, Verb, Reply, Buffers, OpeningAccepted, JoinedOpenings, openedWith, openedBoth, acts, takes}
+use Rattle.joined.specs.Joined.{At}
+use Rattle.joined.specs.Ends.{Lane, normal, sameLane, Buffers, OpeningAccepted, JoinedOpenings, openedWith, openedBoth, acts, takes}
 use Rattle.joined.specs.Histories.{Log, bytesAccepted, bytesRead, bytesOnLine, bytesInInbox, bytesInSendBuffer, requestsMade, pacingResponsesTaken, breaches, badReads, CompleteIsRight, NoneCrosses}
-use Rattle.joined.specs.Claim.{Pair, JoinedEnd, after, BytesConserved, Joint, SameOutcome, Claim, RecordsArrive, ReadsRight, Records, TheRecords}
+use Rattle.joined.specs.Claim.{Pair, JoinedEnd, after, BytesConserved, Joint, Claim, RecordsArrive, ReadsRight, TheRecords}
 use Rattle.joined.proofs.Confluence.{confluent}
 use Rattle.joined.proofs.Invariant.{Fact, Keeps, AfterAct, AfterTake, Ways, run-ways}
-use Rattle.joined.proofs.Good.{never}
-use Rattle.joined.proofs.Floor.{other}
+use Rattle.control.proofs.States.{send-is}
+use Rattle.calls.proofs.WindowSizes.{sizeOf, size-acts, size-takes}
+use Rattle.calls.specs.Calls.{Reply, Station, Verb}
+use Rattle.joined.proofs.TwoLines.{other}
 use Rattle.joined.proofs.Order.{Order, order-flip, order-fresh, not-both}
 use Rattle.joined.proofs.OrderCalls.{order-acts, order-takes}
 use Rattle.joined.proofs.Stream.{outsideOf, insideOf, Stream, stream-fresh}
@@ -42,10 +39,9 @@ use Rattle.joined.proofs.Paces.{Paces, paces-fresh}
 use Rattle.joined.proofs.PacesCalls.{unansweredOf, owedOf, paces-acts, paces-takes, paces-in-acts, paces-in-takes}
 use Rattle.joined.proofs.Bytes.{Carried}
 use Rattle.joined.proofs.BytesCalls.{bytes-acts, bytes-takes, bytes-in-acts, bytes-in-takes}
-use Rattle.joined.proofs.Local.{Values, valuesOf, Local}
+use Rattle.joined.proofs.Local.{valuesOf, Local}
 use Rattle.joined.proofs.LocalCalls.{local-acts, local-takes}
 use Rattle.joined.proofs.NoBreach.{no-breach}
-use Rattle.joined.proofs.Sizes.{sizeOf, size-acts, size-takes}
 
 -- What every call keeps. e has the role r; v is the window from e to f, and w that from f to e; `line` waits for f, `back` for e.
 record Inv (r : Role) (v w : ℕ) (e : Station) (xs : Log) (line back : List (List ℕ)) (f : Station) (ys : Log) : Type 0 where
@@ -90,6 +86,14 @@ both :
     → Inv r v w e xs line back f ys × Inv (other r) w v f ys back line e xs
 both i = (i, flipped i)
 
+size-acted : (e : Station) (c : Verb) → sizeOf (acts e c .end) ≡ sizeOf e
+unfolding acts
+size-acted e c = size-acts e c
+
+size-took : (e : Station) (naming : List ℕ → ℕ) (u : List ℕ) → sizeOf (takes naming normal e u .end) ≡ sizeOf e
+unfolding takes
+size-took e naming u = size-takes e naming u
+
 module _ (naming : List ℕ → ℕ) (r : Role) (v w : ℕ) where
   act-kept :
       (e : Station) (xs : Log) (line back : Lines Lane (List ℕ)) (f : Station) (ys : Log) (c : Verb)
@@ -109,7 +113,7 @@ module _ (naming : List ℕ → ℕ) (r : Role) (v w : ℕ) where
         bytes-in = bytes-in-acts e xs (bytesAccepted ys) (bytesInSendBuffer f) vs (i .bytes-in) c;
         local-e = local-acts e xs (i .local-e) c;
         local-f = i .local-f;
-        size-e = size-acts e c ∙ i .size-e;
+        size-e = size-acted e c ∙ i .size-e;
         size-f = i .size-f;
       })
 
@@ -133,7 +137,7 @@ module _ (naming : List ℕ → ℕ) (r : Role) (v w : ℕ) where
             local-takes e xs u (i .local-e) naming
             (no-breach r e (f .end) (outsideOf f) (unansweredOf f) (owedOf f) u us vs (i .order) (i .into) (i .pace-in) (i .pace-out));
         local-f = i .local-f;
-        size-e = size-takes e naming u ∙ i .size-e;
+        size-e = size-took e naming u ∙ i .size-e;
         size-f = i .size-f;
       })
 
@@ -245,13 +249,6 @@ every-list naming s t b c l j =
     (opened-kept naming s t b c j) .0
 
 -- ---- the claim
-
-send-is : (s : State) → isSend s ≡ true → s ≡ Send
-send-is Reset e = absurd (never (sym e))
-send-is Send e = refl
-send-is Receive e = absurd (never (sym e))
-send-is ConfirmOwed e = absurd (never (sym e))
-send-is ConfirmAwaited e = absurd (never (sym e))
 
 counted-as : (requests credits size w n : ℕ) → size ≡ w → requests + credits ≡ size * (1 + n) → requests + credits ≡ w * (1 + n)
 counted-as requests credits size w n e h = h ∙ ap (λ (k : ℕ). k * (1 + n)) e

@@ -1,14 +1,14 @@
 -- One way between two joined ends, as a stream of requests: numbers, positions in the window, chains and record places. What the receiving end has
 -- taken, led on by the units on the line, is what the sending end has made.
 -- Assumes nothing.
-use Prim.Native.Nat.{ℕ, _+_, _-_, _≤_}
+use Prim.Native.Nat.{ℕ}
 use mathlib.Core.Path.{_≡_, refl, sym, ap, _∙_, subst}
 use mathlib.Core.Bool.{Bool, true, false, not, cond, _&&_, _||_}
-use mathlib.Core.List.{List, [], _∷_, _++_, append-nil, append-assoc}
+use mathlib.Core.List.{List, [], _∷_, _++_}
 use native.Mathlib.Omega.{arith}
-use borrow.Author.Tests.{leb-true, le-leb, eq-eqb}
+use borrow.Author.Tests.{le-leb, eq-eqb}
 use lib.Dec.{eqb, leb}
-use lib.ListN.{length, take, drop}
+use lib.ListN.{length}
 use Rattle.logical_record.specs.Walk.{thenWalk, walk}
 use Rattle.logical_record.specs.Positions.{isWhole}
 use Rattle.logical_record.proofs.Walks.{walk-append, walk-prefix, Through, same-position}
@@ -16,7 +16,7 @@ use Rattle.logical_record.specs.declared.Position.{Position}
 use Rattle.logical_record.specs.declared.Walked.{Walked}
 use Rattle.logical_record.specs.declared.Walked.the-variants.{At, BadLength}
 use Rattle.header.specs.Rules.{headerGood}
-use Rattle.header.specs.Header.{headerBytes, fieldsOf, isFirst, isLast}
+use Rattle.header.specs.Header.{isFirst, isLast}
 use Rattle.cells.specs.Equal.{sameBytes}
 use Rattle.unit.specs.Ru.{marks, fixedRu, ruGood}
 use Rattle.unit.specs.Unit.{RU-START, unitOf, numberIn, headerIn}
@@ -24,7 +24,7 @@ use Rattle.header.specs.declared.ChainEnd.{ChainEnd}
 use Rattle.header.specs.declared.DataHeader.{DataHeader}
 use Rattle.header.specs.declared.Header.{Header}
 use Rattle.header.specs.declared.Header.the-variants.{Data, Bid, PositiveBidResponse, NegativeBidResponse, Confirmation, PacingResponse}
-use Rattle.header.proofs.RoundTrip.{built-good, built-fields}
+use Rattle.header.proofs.RoundTrip.{built-good}
 use Rattle.unit.proofs.Units.{unit-length, unit-number, unit-header, unit-ru}
 use Rattle.pacing.specs.Pacing.{nextPosition}
 use Rattle.control.specs.Tests.{agree}
@@ -32,11 +32,10 @@ use Rattle.sides.specs.Shared.{nextNumber}
 use Rattle.logical_record.specs.Walk.{placeOr}
 use Rattle.sides.specs.Receiving.{recordsFit}
 use Rattle.end.specs.ReceiveUnit.{headerTaken, ruTaken}
-use Rattle.joined.specs.Ends.{Station}
+use Rattle.calls.proofs.Units.{taken-header}
+use Rattle.calls.specs.Calls.{Station}
 use Rattle.joined.specs.Histories.{bytesInSendBuffer}
 use Rattle.joined.proofs.Automata.{Ran, ok, stuck, stuck≢ok, ok-is, Leads, leads-nowhere, leads-more, Parted, parted}
-use Rattle.joined.proofs.Floor.{taken-header}
-use Rattle.joined.proofs.Rows.{left, right}
 
 -- ---- what is kept in step
 

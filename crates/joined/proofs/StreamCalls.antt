@@ -5,7 +5,7 @@ use mathlib.Core.Path.{_≡_, refl, sym, ap, _∙_, subst}
 use mathlib.Core.Bool.{Bool, true, false, not, cond, _&&_, _||_}
 use mathlib.Core.List.{List, [], _∷_, _++_, append-nil, append-assoc}
 use native.Mathlib.Omega.{arith}
-use borrow.Author.Tests.{leb-false, le-leb, eqb-false, lt-leb}
+use borrow.Author.Tests.{leb-false, le-leb, eqb-false}
 use lib.Dec.{eqb, leb}
 use lib.ListN.{length, take, drop, length-append, length-drop, take-append-drop}
 use lib.Seq.{length-take-le}
@@ -14,28 +14,21 @@ use Rattle.logical_record.specs.Positions.{isWhole}
 use Rattle.logical_record.specs.Walk.{thenWalk, walk}
 use Rattle.logical_record.proofs.Walks.{same-position}
 use Rattle.logical_record.specs.declared.Position.{Position}
-use Rattle.logical_record.specs.declared.Walked.{Walked}
-use Rattle.logical_record.specs.declared.Walked.the-variants.{At, BadLength}
-use Rattle.header.specs.Header.{isFirst, isLast}
-use Rattle.unit.specs.Ru.{marks, bidRu, fixedRu, dataRuGood, ruGood}
+use Rattle.unit.specs.Ru.{marks, ruGood}
 use Rattle.unit.specs.Unit.{unitOf, numberIn}
 use Rattle.header.specs.declared.Follows.{Follows}
-use Rattle.header.specs.declared.ChainEnd.{ChainEnd}
 use Rattle.header.specs.declared.ChainEnd.the-variants.{Continues, Last}
 use Rattle.header.specs.declared.DataHeader.{DataHeader}
 use Rattle.header.specs.declared.Header.{Header}
 use Rattle.header.specs.declared.Header.the-variants.{Data, Bid, PositiveBidResponse, NegativeBidResponse, Confirmation, PacingResponse}
-use Rattle.pacing.specs.Pacing.{paced, advanced, answered, nextPosition}
-use Rattle.control.specs.Tests.{isReset, isSend}
-use Rattle.control.specs.Questions.{mayAllocate}
+use Rattle.pacing.specs.Pacing.{paced, advanced, answered}
+use Rattle.control.specs.Tests.{isReset}
 use Rattle.transitions.specs.Transitions.{beginOf, allocated, spilled, closed, confirmationMade, markAnswered, dataTaken, bidTaken, bidAnswer, grantTaken, refusalTaken, confirmationTaken}
 use Rattle.control.specs.declared.Control.{Control}
-use Rattle.end.specs.Record.{recordGood}
 use Rattle.sides.specs.Shared.{nextNumber}
 use Rattle.sides.specs.Sending.{requestMade}
 use Rattle.sides.specs.Receiving.{requestTaken}
 use Rattle.end.specs.Requests.{dataHeader}
-use Rattle.end.specs.Outcome.{withControl}
 use Rattle.end.specs.Allocate.{bidMade}
 use Rattle.logical_record.specs.Walk.{placeOr}
 use Rattle.sides.specs.Sending.{keeps}
@@ -44,14 +37,17 @@ use Rattle.end.specs.Close.{nothingGoes, lastMade}
 use Rattle.end.specs.ReceiveUnit.{headerTaken, ruTaken, dataJoined, bidAnswered, creditRaised}
 use Rattle.end.specs.Receive.{bytesRead}
 use Rattle.joined.specs.Joined.{Acted, Took}
-use Rattle.joined.specs.Ends.{Lane, normal, Station, Verb, Reply, acts, takes}
-use Rattle.joined.specs.Histories.{bytesInSendBuffer}
-use Rattle.joined.proofs.Rows.{left, right}
-use Rattle.joined.proofs.Acts.{allocate-cases, send-cases, SendAsked, spilledRu, spilledUnit, close-cases, CloseAsked, confirmed-cases, pace-cases, read-cases, take-cases, TakeAsked, tookKind}
-use Rattle.joined.proofs.Good.{never, least-max, held-most, closed-chain, reset-not-send}
+use Rattle.joined.specs.Ends.{Lane, normal, acts, takes}
+use Rattle.bools.proofs.Tests.{left}
+use Rattle.calls.proofs.CallCases.{CloseAsked, SendAsked, allocate-cases, close-cases, confirmed-cases, pace-cases, read-cases, send-cases, spilledRu, spilledUnit}
+use Rattle.calls.specs.Calls.{Reply, Station, Verb}
+use Rattle.control.proofs.States.{reset-not-send}
+use Rattle.end.proofs.Within.{facts}
+use Rattle.joined.proofs.Laned.{Laned, take-cases, tookKind}
 use Rattle.joined.proofs.Chains.{allocated-out, allocated-in, closed-in, answered-out, answered-in, bid-out, bid-in, begins-first}
 use Rattle.joined.proofs.Bytes.{held-more, held-rest}
-use Rattle.joined.proofs.Stream.{Outside, Inside, outsideOf, insideOf, Stream, stream-keep, stream-data, stream-bid, stream-response, isResponse, zeroIfPacing, requestOut, taken, Heads, stream-take}
+use Rattle.joined.proofs.Stream.{Outside, Inside, outsideOf, insideOf, Stream, stream-keep, stream-data, stream-bid, stream-response, isResponse, zeroIfPacing, taken, stream-take}
+use Rattle.control.proofs.Within.{closed-outside-send}
 
 -- ---- one field at a time
 
@@ -81,7 +77,7 @@ spilled-length : (s : Station) (bytes : List ℕ) → SendAsked s bytes → keep
     → length (spilledRu s bytes) ≡ s .end .sending .max
 spilled-length s bytes a k =
     let e = s .end in
-    let h = held-most e (a .good) in
+    let h = facts e (a .good) .sending .held in
     let b = a .buffer in
     let more : e .sending .max < e .sending .held + length bytes = leb-false (e .sending .held + length bytes) (e .sending .max) k in
     length-append (heldBytes e (s .send)) (take (gone e) bytes)
@@ -133,7 +129,7 @@ module _ (s : Station) (i : Inside) (line : List (List ℕ)) (st : Stream (outsi
       ∙ sym (append-assoc (heldBytes e (s .send)) (take (gone e) bytes) rest) in
       let sent =
       stream-data d (spilledRu s bytes) rest kept parts
-      (full-good (e .sending .max) d (spilledRu s bytes) (spilled-length s bytes a k) (least-max e (a .good))) refl (begins-first (e .control)) (λ x w. refl) in
+      (full-good (e .sending .max) d (spilledRu s bytes) (spilled-length s bytes a k) (facts e (a .good) .sending .max .least)) refl (begins-first (e .control)) (λ x w. refl) in
       same-held (take (length bytes - gone e) (front rest (s .send))) (placeOr (e .sending .given) (walk (e .sending .given) bytes))
       (held-rest (length bytes - gone e) rest (s .send) (sym (length-drop (gone e) bytes))) (ap (placeOr (e .sending .given)) (a .walked)) sent
 
@@ -144,7 +140,7 @@ module _ (s : Station) (i : Inside) (line : List (List ℕ)) (st : Stream (outsi
   last f c a n =
       let e = s .end in
       let b = a .buffer in
-      let h = held-most e (a .good) in
+      let h = facts e (a .good) .sending .held in
       let ru = heldBytes e (s .send) in
       let d : DataHeader = record { begins = beginOf (e .control); ends = Last f c; pacing = paced (e .sending .window) } in
       stream-data d ru [] st (sym (append-nil ru))
@@ -154,18 +150,18 @@ module _ (s : Station) (i : Inside) (line : List (List ℕ)) (st : Stream (outsi
   pub stream-acts : (v : Verb) → After (acts s v)
   unfolding acts bytesKept bytesRead bidMade requestMade advanced confirmationMade
   stream-acts Verb.allocate =
-      allocate-cases After s (λ q n. quiet-line st)
+      allocate-cases (Laned After) s (λ q n. quiet-line st)
       (λ g a w. quiet-line (same-chain (allocated (s .end .control) .outchain) (allocated-out (s .end .control)) st))
       (λ g a w k.
       let shut : s .end .control .outchain ≡ false =
-      closed-chain (s .end) g (reset-not-send (s .end .control .state) (left (isReset (s .end .control .state)) (not (s .end .control .bid)) a)) in
+      closed-outside-send ((s .end) .control) (facts (s .end) g .control) (reset-not-send (s .end .control .state) (left (isReset (s .end .control .state)) (not (s .end .control .bid)) a)) in
       same-chain (allocated (s .end .control) .outchain) (allocated-out (s .end .control)) (stream-bid (paced (s .end .sending .window)) st refl shut))
-  stream-acts Verb.confirmed = confirmed-cases After s (λ q n. quiet-line st) (λ g a. stream-response (s .end .owed) Confirmation st refl refl)
-  stream-acts Verb.pace = pace-cases After s (λ q n. quiet-line st) (λ g a. stream-response 0 PacingResponse st refl refl)
+  stream-acts Verb.confirmed = confirmed-cases (Laned After) s (λ q n. quiet-line st) (λ g a. stream-response (s .end .owed) Confirmation st refl refl)
+  stream-acts Verb.pace = pace-cases (Laned After) s (λ q n. quiet-line st) (λ g a. stream-response 0 PacingResponse st refl refl)
   stream-acts (Verb.sendData bytes) =
-      send-cases After s bytes (λ q n. quiet-line st)
+      send-cases (Laned After) s bytes (λ q n. quiet-line st)
       (λ a k.
-      let h = held-most (s .end) (a .good) in
+      let h = facts (s .end) (a .good) .sending .held in
       let b = a .buffer in
       quiet-line
       (same-held (take (s .end .sending .held + length bytes) (written (s .end .sending .held) bytes (s .send)))
@@ -173,9 +169,9 @@ module _ (s : Station) (i : Inside) (line : List (List ℕ)) (st : Stream (outsi
       (held-more (s .end .sending .held) bytes (s .send) (omega arith)) (ap (placeOr (s .end .sending .given)) (a .walked))
       (stream-keep bytes (a .place) st (a .walked))))
       (λ a k h. spill bytes a k)
-  stream-acts (Verb.close f c) = close-cases After s f c (λ q n. quiet-line st) (λ a n. quiet-line st) (λ a n k. last f c a n)
+  stream-acts (Verb.close f c) = close-cases (Laned After) s f c (λ q n. quiet-line st) (λ a n. quiet-line st) (λ a n k. last f c a n)
   stream-acts (Verb.receive buffer) =
-      read-cases After s buffer (λ q w n. quiet-line st) (λ a h. quiet-line st)
+      read-cases (Laned After) s buffer (λ q w n. quiet-line st) (λ a h. quiet-line st)
       (λ a h m. quiet-line (same-chain (markAnswered (s .end .control) .outchain) (answered-out (s .end .control)) st))
 
   -- a take at this end: only a bid has it make a unit, which is a response
@@ -222,15 +218,15 @@ module _ (s : Station) (o : Outside) (back : List (List ℕ)) where
   pub stream-in-acts : Stream o (insideOf s) back → (v : Verb) → AfterIn (acts s v)
   unfolding acts bytesKept bytesSpilled bytesRead bidMade lastMade requestMade spilled confirmationMade answered
   stream-in-acts st Verb.allocate =
-      allocate-cases AfterIn s (λ q n. st) (λ g a w. same-link (allocated (s .end .control) .inchain) (allocated-in (s .end .control)) st)
+      allocate-cases (Laned AfterIn) s (λ q n. st) (λ g a w. same-link (allocated (s .end .control) .inchain) (allocated-in (s .end .control)) st)
       (λ g a w k. same-link (allocated (s .end .control) .inchain) (allocated-in (s .end .control)) st)
-  stream-in-acts st Verb.confirmed = confirmed-cases AfterIn s (λ q n. st) (λ g a. st)
-  stream-in-acts st Verb.pace = pace-cases AfterIn s (λ q n. st) (λ g a. st)
-  stream-in-acts st (Verb.sendData bytes) = send-cases AfterIn s bytes (λ q n. st) (λ a k. st) (λ a k h. st)
+  stream-in-acts st Verb.confirmed = confirmed-cases (Laned AfterIn) s (λ q n. st) (λ g a. st)
+  stream-in-acts st Verb.pace = pace-cases (Laned AfterIn) s (λ q n. st) (λ g a. st)
+  stream-in-acts st (Verb.sendData bytes) = send-cases (Laned AfterIn) s bytes (λ q n. st) (λ a k. st) (λ a k h. st)
   stream-in-acts st (Verb.close f c) =
-      close-cases AfterIn s f c (λ q n. st) (λ a n. st) (λ a n k. same-link _ (closed-in f c (s .end .control)) st)
+      close-cases (Laned AfterIn) s f c (λ q n. st) (λ a n. st) (λ a n k. same-link _ (closed-in f c (s .end .control)) st)
   stream-in-acts st (Verb.receive buffer) =
-      read-cases AfterIn s buffer (λ q w n. st) (λ a h. st) (λ a h m. same-link _ (answered-in (s .end .control)) st)
+      read-cases (Laned AfterIn) s buffer (λ q w n. st) (λ a h. st) (λ a h m. same-link _ (answered-in (s .end .control)) st)
 
   -- a take: the end is where the unit leads
   kind-in : (h : Header) (n : ℕ) (ru : List ℕ) → Stream o (taken (insideOf s) h ru) back → Stream o (insideOf (tookKind s h n ru .end)) back

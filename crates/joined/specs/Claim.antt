@@ -2,7 +2,7 @@
 -- Assumes nothing.
 use Prim.Native.Nat.{ℕ, _+_, _*_}
 use mathlib.Core.Path.{_≡_}
-use mathlib.Core.Bool.{Bool, true, false}
+use mathlib.Core.Bool.{true, false}
 use mathlib.Core.List.{List, [], _∷_, _++_}
 use Rattle.logical_record.specs.Positions.{start, isWhole}
 use Rattle.logical_record.specs.Walk.{walk}
@@ -13,9 +13,10 @@ use Rattle.answers.specs.Answers.{BAD-RECORD}
 use Rattle.end.specs.Record.{recordGood, creditOf}
 use Rattle.sides.specs.declared.Session.{Session}
 use Rattle.joined.specs.Joined.{Call, act, take, At, first, second, Side, Both, firsts, seconds, run, AllFed}
-use Rattle.joined.specs.Ends.{Lane, normal, sameLane, Station, Verb, Reply, Buffers, OpeningAccepted, JoinedOpenings, openedBoth, acts, takes}
+use Rattle.joined.specs.Ends.{Lane, normal, sameLane, Buffers, OpeningAccepted, JoinedOpenings, openedBoth, acts, takes}
 use Rattle.joined.specs.Histories.{bytesAccepted, bytesRead, bytesOnLine, bytesInInbox, bytesInSendBuffer, requestsMade, pacingResponsesTaken, breaches, refusedWith, badReads, CompleteIsRight, NoneCrosses}
-use Rattle.joined.specs.SingleCalls.{AllBytes, BytesOf}
+use Rattle.calls.specs.Calls.{Reply, Station, Verb}
+use Rattle.calls.specs.Laws.{AllBytes, BytesOf}
 
 abbrev pub Pair : Type 0
 Pair = Both Lane Station Verb Reply (List ℕ)

@@ -1,20 +1,20 @@
 -- What has happened at an end, as functions of its log; and the bytes that are on a line or held.
 -- Assumes nothing.
 use Prim.Native.Nat.{ℕ, _+_, _<_}
-use mathlib.Core.Bool.{Bool, true, false, not, cond, _&&_}
+use mathlib.Core.Bool.{Bool, false, not, cond, _&&_}
 use mathlib.Core.List.{List, [], _∷_, _++_}
 use lib.Dec.{eqb, leb}
-use lib.ListN.{length, take, drop}
+use lib.ListN.{take}
 use mathlib.Core.Path.{_≡_}
 use Rattle.logical_record.specs.Positions.{start}
 use Rattle.logical_record.specs.Walk.{walk}
 use Rattle.logical_record.specs.Records.{ended}
-use Rattle.header.specs.Weights.{on}
-use Rattle.header.specs.Rules.{isData, bytes, sameHeader}
-use Rattle.unit.specs.Unit.{RU-START, headerIn}
+use Rattle.header.specs.Rules.{bytes}
 use Rattle.answers.specs.Answers.{BAD-LL}
+use Rattle.calls.specs.Units.{count, dataRu, requestsAmong, isPacingResponse}
 use Rattle.joined.specs.Joined.{Event, acted, took}
-use Rattle.joined.specs.Ends.{Lane, normal, Station, Verb, allocate, confirmed, pace, sendData, close, receive, Reply, refusalIn}
+use Rattle.joined.specs.Ends.{Lane, normal}
+use Rattle.calls.specs.Calls.{Reply, Station, Verb, allocate, close, confirmed, pace, receive, refusalIn, sendData}
 
 abbrev pub Log : Type 0
 Log = List (Event Lane Verb Reply (List ℕ))
@@ -42,10 +42,6 @@ bytesRead [] = []
 bytesRead (acted v r us ∷ es) = bytesRead es ++ take (r .answer .copied) (r .buffer)
 bytesRead (took l u r us ∷ es) = bytesRead es
 
--- on the line the data RUs, oldest first
-abbrev pub dataRu : List ℕ → List ℕ
-dataRu u = cond (isData (headerIn u)) (drop RU-START u) []
-
 unfoldable pub bytesOnLine : List (List ℕ) → List ℕ
 bytesOnLine [] = []
 bytesOnLine (u ∷ us) = dataRu u ++ bytesOnLine us
@@ -59,26 +55,11 @@ bytesInSendBuffer s = take (s .end .sending .held) (s .send)
 
 -- ---- counts
 
-abbrev pub count : Bool → ℕ
-count b = cond b 1 0
-
--- a unit without weight 80 in header byte 0
-abbrev pub isRequest : List ℕ → Bool
-isRequest u = not (on 0x80 (headerIn u .b0))
-
-unfoldable pub requestsAmong : List (List ℕ) → ℕ
-requestsAmong [] = 0
-requestsAmong (u ∷ us) = count (isRequest u) + requestsAmong us
-
 -- among the units made on the normal lane
 unfoldable pub requestsMade : Log → ℕ
 requestsMade [] = 0
 requestsMade (acted v r us ∷ es) = requestsAmong (us normal) + requestsMade es
 requestsMade (took l u r us ∷ es) = requestsAmong (us normal) + requestsMade es
-
--- the accepted takes of pacing answers, on any lane
-abbrev pub isPacingResponse : List ℕ → Bool
-isPacingResponse u = sameHeader (headerIn u) (bytes 0x83 0x01 0x00)
 
 unfoldable pub pacingResponsesTaken : Log → ℕ
 pacingResponsesTaken [] = 0

@@ -2,5 +2,4 @@ pub mod Lanes
 pub mod Joined
 pub mod Ends
 pub mod Histories
-pub mod SingleCalls
 pub mod Claim

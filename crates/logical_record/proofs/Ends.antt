@@ -3,10 +3,10 @@
 use mathlib.Core.Path.{_≡_, refl, ap, _∙_}
 use mathlib.Core.Bool.{true, false}
 use mathlib.Core.List.{List, [], _∷_}
-use Prim.Native.Nat.{ℕ, zero, suc, _-_, _≤_, _<_}
+use Prim.Native.Nat.{ℕ, _-_, _≤_}
 use native.Mathlib.Omega.{arith}
-use lib.ListN.{length, take}
-use lib.Seq.{drop-length, length-take-le}
+use lib.ListN.{length}
+use lib.Seq.{drop-length}
 use lib.Dec.{eqb}
 use borrow.Author.Tests.{eqb-true, eq-eqb}
 use Rattle.logical_record.specs.Length.{lengthOf, lengthGood}
@@ -16,7 +16,7 @@ use Rattle.logical_record.specs.Records.{isRecord}
 use Rattle.logical_record.specs.declared.Position.{Position}
 use Rattle.logical_record.specs.declared.Position.the-variants.{Between, AfterFirst, Remaining}
 use Rattle.logical_record.specs.declared.Walked.the-variants.{At}
-use Rattle.logical_record.proofs.Facts.{both, remaining-not-between}
+use Rattle.bools.proofs.Tests.{both}
 use Rattle.logical_record.proofs.Walks.{walk-skip}
 
 -- the walk ends well
@@ -83,18 +83,3 @@ record-ends (high ∷ low ∷ bs) h =
     let t = record-parts high low bs h in
     walk-front high low bs (t .0) (omega arith)
     ∙ ap (λ (m : ℕ). At (remaining m)) (let e : lengthOf high low - 2 - length bs ≡ 0 = omega arith in e)
-
-pub record-inside : (r : List ℕ) (k : ℕ) → isRecord r ≡ true → 0 < k → k < length r → Inside start (take k r)
-unfolding thenWalk
-record-inside [] k h some l = absurd (let z : _≡_ {A = ℕ} 0 1 = cc in omega arith)
-record-inside (high ∷ []) k h some l = absurd (let z : _≡_ {A = ℕ} 0 1 = cc in omega arith)
-record-inside (high ∷ low ∷ bs) zero h some l = absurd (omega arith)
-record-inside (high ∷ low ∷ bs) (suc zero) h some l = record { position = AfterFirst high; reached = refl; inside = refl }
-record-inside (high ∷ low ∷ bs) (suc (suc k)) h some l =
-    let t = record-parts high low bs h in
-    let e = length-take-le k bs (omega arith) in
-    record {
-      position = remaining (lengthOf high low - 2 - length (take k bs));
-      reached = walk-front high low (take k bs) (t .0) (omega arith);
-      inside = remaining-not-between (lengthOf high low - 2 - length (take k bs)) (omega arith);
-    }

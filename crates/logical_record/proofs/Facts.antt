@@ -9,18 +9,12 @@ use borrow.Author.Tests.{le-leb, leb-true, eqb-true, eqb-false, eq-eqb, ne-eqb}
 use Rattle.logical_record.specs.Length.{lengthGood}
 use Rattle.logical_record.specs.Positions.{remaining, isPosition, isBetween}
 use Rattle.logical_record.specs.declared.Position.the-variants.{Remaining}
-
-pub both : (a b : Bool) → a && b ≡ true → (a ≡ true) × (b ≡ true)
-both true b e = (refl, e)
-both false b e = absurd (let z : _≡_ {A = ℕ} 0 1 = cc in omega arith)
+use Rattle.bools.proofs.Tests.{both}
 
 pub length-bounds : (n : ℕ) → lengthGood n ≡ true → (2 ≤ n) × (n ≤ 32767)
 length-bounds n h =
     let t = both (leb 2 n) (leb n 32767) h in
     (leb-true 2 n (t .0), leb-true n 32767 (t .1))
-
-pub length-is-good : (n : ℕ) → 2 ≤ n → n ≤ 32767 → lengthGood n ≡ true
-length-is-good n l g = rw (le-leb 2 n l, le-leb n 32767 g)
 
 pub remaining-some : (n : ℕ) → 0 < n → remaining n ≡ Remaining n
 remaining-some n h = rw (ne-eqb n 0 (λ e. omega arith))
@@ -33,9 +27,6 @@ remaining-position′ false n e h =
 
 pub remaining-position : (n : ℕ) → n ≤ 32765 → isPosition (remaining n) ≡ true
 remaining-position n h = remaining-position′ (eqb n 0) n refl h
-
-pub remaining-not-between : (n : ℕ) → 0 < n → isBetween (remaining n) ≡ false
-remaining-not-between n h = rw (remaining-some n h)
 
 between-remaining′ : (t : Bool) (n : ℕ) → eqb n 0 ≡ t → isBetween (remaining n) ≡ t
 between-remaining′ true n e = rw e

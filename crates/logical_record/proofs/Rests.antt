@@ -19,9 +19,10 @@ use Rattle.logical_record.specs.declared.Walked.the-variants.{At}
 use Rattle.logical_record.specs.declared.Walked.the-variants as walked
 use Rattle.logical_record.specs.declared.Rest.{Rest}
 use Rattle.logical_record.specs.declared.Rest.the-variants.{Bytes, BadLength}
-use Rattle.logical_record.proofs.Facts.{both, length-bounds, remaining-some, between-remaining, eqb-none}
+use Rattle.logical_record.proofs.Facts.{length-bounds, remaining-some, between-remaining, eqb-none}
 use Rattle.logical_record.proofs.Walks.{walk-bad, at-not-bad}
 use Rattle.logical_record.proofs.Ends.{Reached, Inside, between-is-start, walk-data, walk-after-first, walk-front}
+use Rattle.bools.proofs.Tests.{both}
 
 -- what a rest that is a number of bytes says
 rest-good′ : (t : Bool) (length m n : ℕ) → lengthGood length ≡ t → cond t (Bytes m) BadLength ≡ Bytes n → (lengthGood length ≡ true) × (m ≡ n)

@@ -3,10 +3,9 @@
 use mathlib.Core.Path.{_≡_, refl, sym, ap, _∙_}
 use mathlib.Core.Bool.{Bool, true, false, cond}
 use mathlib.Core.List.{List, [], _∷_, _++_}
-use Prim.Native.Nat.{ℕ, zero, suc, _+_, _-_, _≤_, _<_}
+use Prim.Native.Nat.{ℕ, zero, suc, _-_, _≤_, _<_}
 use native.Mathlib.Omega.{arith}
-use lib.ListN.{length, getD, take, drop, take-append-drop}
-use lib.Seq.{drop-length}
+use lib.ListN.{length, getD, drop}
 use lib.Dec.{leb}
 use borrow.Author.Tests.{le-leb, leb-true}
 use Rattle.logical_record.specs.Length.{lengthOf, lengthGood}
@@ -16,7 +15,8 @@ use Rattle.logical_record.specs.declared.Position.{Position}
 use Rattle.logical_record.specs.declared.Position.the-variants.{Between, AfterFirst, Remaining}
 use Rattle.logical_record.specs.declared.Walked.{Walked}
 use Rattle.logical_record.specs.declared.Walked.the-variants.{At, BadLength}
-use Rattle.logical_record.proofs.Facts.{both, length-bounds, remaining-some, remaining-position}
+use Rattle.logical_record.proofs.Facts.{length-bounds, remaining-some, remaining-position}
+use Rattle.bools.proofs.Tests.{both}
 
 -- ---- two lists, one after the other
 
@@ -56,9 +56,6 @@ through BadLength p a b q e f = absurd (at-not-bad q (sym f ∙ walk-bad b))
 pub walk-prefix : (p q : Position) (a b : List ℕ) → walk p (a ++ b) ≡ At q → Through p a b q
 walk-prefix p q a b h = through (walk p a) p a b q refl (sym (walk-append p a b) ∙ h)
 
-pub walk-take : (p q : Position) (k : ℕ) (bs : List ℕ) → walk p bs ≡ At q → Through p (take k bs) (drop k bs) q
-walk-take p q k bs h = walk-prefix p q (take k bs) (drop k bs) (rw take-append-drop h)
-
 -- ---- the data of a record, at once
 
 -- the numbers of bytes left are equal
@@ -81,22 +78,6 @@ walk-skip-forged zero n bs one h l = absurd (omega arith)
 walk-skip-forged (suc k) n [] one h l = absurd (omega arith)
 walk-skip-forged (suc k) n (b ∷ bs) one h l =
     walk-skip k (n - 1) bs (omega arith) (omega arith) ∙ left-same (n - 1 - k) (n - suc k) (drop k bs) (omega arith)
-
--- the whole record is there
-pub walk-past : (n : ℕ) (bs : List ℕ) → 1 ≤ n → n ≤ length bs → walk (Remaining n) bs ≡ walk Between (drop n bs)
-walk-past n bs one h =
-    walk-skip-forged n n bs one (omega arith) h ∙ left-same (n - n) 0 (drop n bs) (omega arith)
-
--- or not
-pub walk-within : (n : ℕ) (bs : List ℕ) → length bs < n → walk (Remaining n) bs ≡ At (Remaining (n - length bs))
-unfolding thenWalk
-walk-within n bs h =
-    rw (
-      ← remaining-some n (omega arith),
-      walk-skip (length bs) n bs (omega arith) (omega arith),
-      drop-length bs,
-      remaining-some (n - length bs) (omega arith),
-    )
 
 -- ---- where walks lead
 

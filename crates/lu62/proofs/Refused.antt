@@ -1,29 +1,21 @@
 -- A call that is refused leaves the image and the cells lent as they were: the end's record is the same, and its image is the image that was read.
 -- Assumes nothing.
-use mathlib.Core.Path.{_≡_, refl, sym, _∙_}
-use mathlib.Core.Bool.{Bool, true, false, cond, false≢true}
-use mathlib.Core.List.{List}
 use Prim.Native.Nat.{ℕ}
-use lib.Dec.{eqb}
-use lib.ListN.{length, take}
-use Rattle.cells.specs.Cells.{front}
-use Rattle.unit.specs.Unit.{numberIn}
+use mathlib.Core.Path.{_≡_, refl, ap, _∙_}
+use mathlib.Core.Bool.{Bool, true, false}
+use mathlib.Core.List.{List, []}
 use Rattle.header.specs.declared.Follows.{Follows}
 use Rattle.header.specs.declared.Follows.the-variants.{Stay, ChangeDirection, EndBracket}
-use Rattle.header.specs.declared.Header.{Header}
-use Rattle.header.specs.declared.Header.the-variants.{Data, Bid, PositiveBidResponse, NegativeBidResponse, Confirmation, PacingResponse}
-use Rattle.control.specs.Tests.{isFirstSpeaker}
-use Rattle.end.specs.Outcome.{Decision, made, doneOf, cellsOut}
-use Rattle.end.specs.Allocate.{allocateRefusal, bidMade, allocateDecision, allocate}
-use Rattle.sides.specs.Sending.{keeps}
-use Rattle.end.specs.SendData.{sendRefusal, bytesKept, bytesSpilled, sendDecision, sendCells, sendData}
-use Rattle.end.specs.Close.{nothingGoes, closeRefusal, lastMade, closeDecision, close}
-use Rattle.end.specs.Confirmed.{confirmedRefusal, confirmedDecision, confirmed}
-use Rattle.end.specs.Pace.{paceRefusal, paceDecision, pace}
-use Rattle.end.specs.ReceiveUnit.{headerTaken, ruTaken, takeRefusal, dataJoined, bidAnswered, creditRaised, kindTaken, takeDecision, inboxCells, answerNaming, receiveUnit}
-use Rattle.end.specs.Receive.{someHeld, readRefusal, bytesRead, markRead, readDecision, inboxMoved, receive}
+use Rattle.end.specs.Allocate.{allocate}
+use Rattle.end.specs.SendData.{sendData}
+use Rattle.end.specs.Close.{close}
+use Rattle.end.specs.Confirmed.{confirmed}
+use Rattle.end.specs.Pace.{pace}
+use Rattle.end.specs.ReceiveUnit.{receiveUnit}
+use Rattle.end.specs.Receive.{receive}
 use Rattle.end.specs.declared.End.{End}
-use Rattle.end.specs.declared.ReadDone.{ReadDone}
+use Rattle.calls.specs.Calls.{Station, Verb, called, taken}
+use Rattle.calls.proofs.Refusals.{refused-nothing, refused-buffer, refused-take-nothing}
 use Rattle.image.specs.Image.{imageOf, imageRead}
 use Rattle.image.specs.declared.ImageRead.{ImageRead}
 use Rattle.image.specs.declared.ImageRead.the-variants.{Record, Refused}
@@ -31,15 +23,7 @@ use Rattle.image.proofs.RoundTrip.{read-is-written}
 use Rattle.handing.specs.Handing.{Left, byReading, onImage}
 use Rattle.lu62.specs.Calls.{madeOut, sentOut, takenOut, copiedOut, allocateOn, sendDataOn, flushOn, confirmOn, prepareToReceiveOn, deallocateOn, confirmedOn, paceOn, receiveUnitOn, receiveOn}
 use Rattle.lu62.specs.Claims.{Bytes, Untouched, RefusedChangesNothing}
-
--- to show a fact of a test's two outcomes, show it of each
-cases : {X : Type 0} (P : X → Type 0) (b : Bool) {x y : X} → (b ≡ true → P x) → (b ≡ false → P y) → P (cond b x y)
-cases P true f g = f refl
-cases P false f g = g refl
-
--- an accepted call returns 0
-never : {X : Type 0} → true ≡ false → X
-never e = absurd (false≢true (sym e))
+use Rattle.lu62.proofs.Sizes.{at}
 
 on-image : {Cells : Type 0} (image : List ℕ) (cells : Cells) (call : End → Left Cells) → Bytes image
     → ((e : End) → Untouched (imageOf e) cells (call e)) → Untouched image cells (onImage image cells call)
@@ -49,80 +33,52 @@ on-image {Cells} image cells call b f = by (imageRead image) refl
     by (Record e) h n = let t = f e n in (t .0 ∙ read-is-written image b e h, t .1)
     by (Refused q) h n = (refl, refl)
 
--- ---- each call, at a record
+-- ---- each call, at a record: the law of all calls, read off its cells
 
 module _ (e : End) where
-  abbrev Made-nothing : List ℕ → Decision → Type 0
-  Made-nothing unit d = Untouched (imageOf e) unit (madeOut (made d unit))
-
   allocate-refused : (unit : List ℕ) → Untouched (imageOf e) unit (madeOut (allocate e unit))
-  unfolding allocate allocateDecision bidMade
-  allocate-refused unit =
-      cases (Made-nothing unit) (eqb (allocateRefusal e (length unit)) 0)
-      (λ a. cases (Made-nothing unit) (isFirstSpeaker (e .control .role)) (λ b n. never n) (λ b n. never n)) (λ a n. (refl, refl))
+  unfolding called
+  allocate-refused unit n =
+      let h = refused-nothing (at e [] unit []) Verb.allocate n .0 in
+      (ap (λ (s : Station). imageOf (s .end)) h, ap (λ (s : Station). s .unit) h)
 
   close-refused : (f : Follows) (b : Bool) (send unit : List ℕ) → Untouched (imageOf e) unit (madeOut (close f b e send unit))
-  unfolding close closeDecision lastMade
-  close-refused f b send unit =
-      cases (Made-nothing unit) (eqb (closeRefusal e f b (length send) (length unit)) 0)
-      (λ a. cases (Made-nothing unit) (nothingGoes e f b) (λ g n. never n) (λ g n. never n)) (λ a n. (refl, refl))
+  unfolding called
+  close-refused f b send unit n =
+      let h = refused-nothing (at e send unit []) (Verb.close f b) n .0 in
+      (ap (λ (s : Station). imageOf (s .end)) h, ap (λ (s : Station). s .unit) h)
 
   confirmed-refused : (unit : List ℕ) → Untouched (imageOf e) unit (madeOut (confirmed e unit))
-  unfolding confirmed confirmedDecision
-  confirmed-refused unit = cases (Made-nothing unit) (eqb (confirmedRefusal e (length unit)) 0) (λ a n. never n) (λ a n. (refl, refl))
+  unfolding called
+  confirmed-refused unit n =
+      let h = refused-nothing (at e [] unit []) Verb.confirmed n .0 in
+      (ap (λ (s : Station). imageOf (s .end)) h, ap (λ (s : Station). s .unit) h)
 
   pace-refused : (unit : List ℕ) → Untouched (imageOf e) unit (madeOut (pace e unit))
-  unfolding pace paceDecision
-  pace-refused unit = cases (Made-nothing unit) (eqb (paceRefusal e (length unit)) 0) (λ a n. never n) (λ a n. (refl, refl))
+  unfolding called
+  pace-refused unit n =
+      let h = refused-nothing (at e [] unit []) Verb.pace n .0 in
+      (ap (λ (s : Station). imageOf (s .end)) h, ap (λ (s : Station). s .unit) h)
 
   send-refused : (bytes send unit : List ℕ) → Untouched (imageOf e) (send, unit) (sentOut (sendData e bytes send unit))
-  unfolding sendData sendDecision sendCells bytesKept bytesSpilled
-  send-refused bytes send unit =
-      cases P (eqb (sendRefusal e bytes (length send) (length unit)) 0)
-      (λ a. cases P (keeps (e .sending) (length bytes)) (λ k n. never n) (λ k n. never n)) (λ a n. (refl, rw a))
-    where
-      P : Decision → Type 0
-      P d =
-          Untouched (imageOf e) (send, unit)
-          (sentOut (record { done = doneOf d; send = sendCells e bytes (d .refusal) send; unit = cellsOut (d .out) unit }))
+  unfolding called
+  send-refused bytes send unit n =
+      let h = refused-nothing (at e send unit []) (Verb.sendData bytes) n .0 in
+      (ap (λ (s : Station). imageOf (s .end)) h, ap (λ (s : Station). (s .send, s .unit)) h)
 
-  take-refused : (rule : ℕ) (taken inbox unit : List ℕ) → Untouched (imageOf e) (inbox, unit) (takenOut (receiveUnit rule e taken inbox unit))
-  unfolding receiveUnit takeDecision inboxCells dataJoined bidAnswered creditRaised
-  take-refused rule taken inbox unit =
-      cases P (eqb (takeRefusal e taken (length inbox) (length unit)) 0) (λ a. kind (headerTaken taken)) (λ a n. (refl, rw a))
-    where
-      P : Decision → Type 0
-      P d =
-          Untouched (imageOf e) (inbox, unit)
-          (takenOut
-          (record {
-            done = record { answer = answerNaming rule d; end = d .end };
-            inbox = inboxCells e taken (d .refusal) inbox;
-            unit = cellsOut (d .out) unit;
-          }))
-
-      kind : (h : Header) → P (kindTaken e h (numberIn taken) (ruTaken taken))
-      kind (Data d) n = never n
-      kind (Bid p) n = never n
-      kind PositiveBidResponse n = never n
-      kind NegativeBidResponse n = never n
-      kind Confirmation n = never n
-      kind PacingResponse n = never n
+  take-refused : (rule : ℕ) (u inbox unit : List ℕ) → Untouched (imageOf e) (inbox, unit) (takenOut (receiveUnit rule e u inbox unit))
+  unfolding taken
+  take-refused rule u inbox unit n =
+      let h = refused-take-nothing (λ x. rule) (at e [] unit inbox) u n .0 in
+      (ap (λ (s : Station). imageOf (s .end)) h, ap (λ (s : Station). (s .inbox, s .unit)) h)
 
   read-refused : (inbox buffer : List ℕ) → Untouched (imageOf e) (inbox, buffer) (copiedOut (receive e inbox buffer))
-  unfolding receive readDecision bytesRead markRead inboxMoved front
-  read-refused inbox buffer =
-      cases P (eqb (readRefusal e inbox (length buffer)) 0) (λ a. cases P (someHeld e) (λ k n. never n) (λ k n. never n)) (λ a n. (refl, refl))
-    where
-      P : ReadDone → Type 0
-      P d =
-          Untouched (imageOf e) (inbox, buffer)
-          (copiedOut
-          (record {
-            done = d;
-            inbox = inboxMoved e (d .answer .copied) inbox;
-            buffer = front (take (d .answer .copied) inbox) buffer;
-          }))
+  unfolding called
+  read-refused inbox buffer n =
+      let s = at e [] [] inbox in
+      let h = refused-nothing s (Verb.receive buffer) n .0 in
+      let b = refused-buffer s buffer n in
+      (ap (λ (t : Station). imageOf (t .end)) h, λ i. (h i .inbox, b i))
 
 pub refused-changes-nothing : RefusedChangesNothing
 unfolding allocateOn sendDataOn flushOn confirmOn prepareToReceiveOn deallocateOn confirmedOn paceOn receiveUnitOn receiveOn

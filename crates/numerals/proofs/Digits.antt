@@ -10,7 +10,7 @@ use lib.Dec.{eqb, leb, ltb}
 use lib.ListN.{length, getD, drop, drop-of-length-le}
 use lib.Seq.{drop-cons}
 use borrow.Author.Tests.{leb-true, le-leb, lt-leb, lt-ltb}
-use Rattle.numerals.proofs.Halves.{both}
+use Rattle.bools.proofs.Tests.{both}
 use Rattle.numerals.specs.Numbers.{isDecimal, withDigit, readOn, numberOf}
 use Rattle.numerals.specs.declared.Number.the-variants.{Is, Bad}
 

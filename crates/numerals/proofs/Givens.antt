@@ -9,7 +9,7 @@ use native.Mathlib.Omega.{arith}
 use lib.Dec.{leb}
 use lib.ListN.{length}
 use borrow.Author.Tests.{leb-true}
-use Rattle.numerals.proofs.Halves.{both}
+use Rattle.bools.proofs.Tests.{both}
 use Rattle.numerals.proofs.Pairs.{pairs-length}
 use Rattle.numerals.specs.Hexadecimal.{arePairs, bytesOf, hexOf}
 

@@ -1,4 +1,3 @@
 mod Digits
 mod Givens
-pub mod Halves
 pub mod Pairs

@@ -13,7 +13,7 @@ use lib.Seq.{drop-cons, paste, paste-suc, take-length}
 use borrow.Author.Tests.{leb-true}
 use Rattle.cells.specs.Cells.{front}
 use Rattle.numerals.proofs.Digits.{decimal-bounds}
-use Rattle.numerals.proofs.Halves.{both}
+use Rattle.bools.proofs.Tests.{both}
 use Rattle.numerals.specs.Numbers.{isDecimal}
 use Rattle.numerals.specs.Hexadecimal.{isLetter, digitOf, isPair, byteOf, arePairs, bytesOf}
 

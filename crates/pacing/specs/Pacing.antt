@@ -1,7 +1,7 @@
 -- Pacing of one direction: the window W, the place in it, and the flag. One definition for credit (sending) and open (receiving).
 -- Assumes nothing.
 use Prim.Native.Nat.{ℕ, _+_, _-_}
-use mathlib.Core.Bool.{Bool, true, false, cond, _&&_, _||_}
+use mathlib.Core.Bool.{Bool, false, cond, _&&_, _||_}
 use lib.Dec.{eqb, leb, ltb}
 use Rattle.pacing.specs.declared.Window.{Window}
 

@@ -67,7 +67,7 @@ pub fn copy_count(buffer: usize, held: u16, rest: Rest) -> usize
 
 // The first k of the bytes held go to the front of the caller's buffer, and the others to the front of the inbox. Cells past
 // those keep what they had.
-fn hand_over(inbox: &mut [u8], held: usize, k: usize, buffer: &mut [u8])
+pub fn hand_over(inbox: &mut [u8], held: usize, k: usize, buffer: &mut [u8])
     requires { ⌜ (k ≤ held) × (held ≤ length (now inbox)) × (k ≤ length (now buffer)) ⌝ }
     ensures copied { λ _. ⌜ now (buffer .exit) ≡ front (take k (now (inbox .entry))) (now (buffer .entry)) ⌝ }
     ensures moved { λ _. ⌜ now (inbox .exit) ≡ front (drop k (take held (now (inbox .entry)))) (now (inbox .entry)) ⌝ }
@@ -94,16 +94,12 @@ fn read_on(r: Receiving, k: u16, place: Position) -> Receiving
     }
 }
 
-// Reads k of the bytes held: they go to the caller's buffer, and the record place moves over them.
-pub fn read_bytes(r: Receiving, k: usize, inbox: &mut [u8], buffer: &mut [u8]) -> Receiving
-    requires { ⌜ (k ≤ r .held) × (r .held ≤ length (now inbox)) × (k ≤ length (now buffer)) ⌝ }
-    ensures side { λ b. ⌜ b ≡ bytesGone k (placeOr (r .read) (walk (r .read) (take k (now (inbox .entry))))) r ⌝ }
-    ensures copied { λ _. ⌜ now (buffer .exit) ≡ front (take k (now (inbox .entry))) (now (buffer .entry)) ⌝ }
-    ensures moved { λ _. ⌜ now (inbox .exit) ≡ front (drop k (take (r .held) (now (inbox .entry)))) (now (inbox .entry)) ⌝ }
+// The side once k of the bytes held are read: the record place moves over them.
+pub fn after_read(r: Receiving, k: usize, inbox: &[u8]) -> Receiving
+    requires { ⌜ (k ≤ r .held) × (r .held ≤ length (now inbox)) ⌝ }
+    ensures { λ b. ⌜ b ≡ bytesGone k (placeOr (r .read) (walk (r .read) (take k (now (inbox .entry))))) r ⌝ }
 {
     let before = r.read;
-    let held = r.held as usize;
     let place = place_or(before, walk_over(before, &inbox[..k]));
-    hand_over(inbox, held, k, buffer);
     read_on(r, k as u16, place)
 }

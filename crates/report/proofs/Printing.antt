@@ -8,7 +8,7 @@ use native.Mathlib.Omega.{arith}
 use lib.Dec.{leb}
 use lib.ListN.{length, length-append}
 use borrow.Author.Tests.{leb-true, leb-false}
-use Rattle.cells.specs.Cells.{front, written}
+use Rattle.cells.specs.Cells.{written}
 use Rattle.cells.proofs.Fronts.{written-length}
 use Rattle.text.specs.Put.{putAt}
 use Rattle.report.specs.Prints.{PrintsAt, Prints}

@@ -1,4 +1,3 @@
-pub mod Counts
 mod Givens
 mod Lines
 mod Parts

@@ -1,4 +1,4 @@
--- What an end's call leaves is what the call of two joined ends leaves, by the buffers that it is lent.
+-- What an end's call leaves is what the call as one function leaves, by the buffers that it is lent.
 -- Assumes nothing.
 use Prim.Native.Nat.{ℕ}
 use mathlib.Core.Path.{_≡_, refl, ap, _∙_}
@@ -12,9 +12,8 @@ use Rattle.end.specs.Receive.{readRefusal, someHeld, bytesRead, markRead, readD
 use Rattle.end.specs.declared.End.{End}
 use Rattle.end.specs.declared.Done.{Done}
 use Rattle.end.specs.declared.ReadDone.{ReadDone}
-use Rattle.joined.specs.Joined.{Acted}
-use Rattle.joined.specs.Ends.{Lane, Station, Reply, unitsOf, onNormal, makes, sends, copies}
-use Rattle.joined.proofs.Cases.{cases}
+use Rattle.bools.proofs.Cases.{cases}
+use Rattle.calls.specs.Calls.{Called, Reply, Station, copies, makes, sends, unitsOf}
 use Rattle.script.specs.declared.Verb.{Verb}
 use Rattle.script.specs.declared.Verb.the-variants.{Allocate, Confirmed, SendPacingResponse, SendData, Close, Receive}
 use Rattle.script_calls.specs.Calls.{isRead, stationOf, plainDone}
@@ -29,12 +28,12 @@ read-is (Close f b) e = absurd (false≢true e)
 read-is Receive e = refl
 
 -- the end, the cells, the reply's buffer and the unit made, of what is handed back
-abbrev pub left : ReadDone → List ℕ → List ℕ → List ℕ → List ℕ → Acted Lane Station Reply (List ℕ)
+abbrev pub left : ReadDone → List ℕ → List ℕ → List ℕ → List ℕ → Called
 left d send unit inbox buffer =
     record {
       end = stationOf (d .end) send unit inbox;
       answer = record { answer = d .answer; buffer = buffer };
-      sent = onNormal (unitsOf (d .answer .answer .unit) unit);
+      sent = unitsOf (d .answer .answer .unit) unit;
     }
 
 pub made-left : (s : Station) (d : Done) (r : ReadDone) (unit : List ℕ) (m : Made) → r ≡ plainDone d → madeBy d unit ≡ m
@@ -60,5 +59,5 @@ copied-left s r inbox buffer before e =
     let z : r .answer .answer .unit ≡ 0 =
     ap (λ (m : Copied). m .done .answer .answer .unit) e ∙ no-unit (s .end) (s .inbox) (length before) in
     let answers : Reply = record { answer = r .answer; buffer = buffer } in
-    ap (λ (n : ℕ). record { end = stationOf (r .end) (s .send) (s .unit) inbox; answer = answers; sent = onNormal (unitsOf n (s .unit)) }) z
+    ap (λ (n : ℕ). record { end = stationOf (r .end) (s .send) (s .unit) inbox; answer = answers; sent = unitsOf n (s .unit) }) z
     ∙ ap (copies s) e

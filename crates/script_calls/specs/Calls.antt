@@ -7,11 +7,10 @@ use Rattle.end.specs.declared.End.{End}
 use Rattle.end.specs.declared.Done.{Done}
 use Rattle.answers.specs.declared.ReadAnswer.{ReadAnswer}
 use Rattle.end.specs.declared.ReadDone.{ReadDone}
-use Rattle.joined.specs.Joined.{Acted}
-use Rattle.joined.specs.Ends as J
-use Rattle.joined.specs.Ends.{Lane, Station, Reply, plain, unitsOf, onNormal}
+use Rattle.calls.specs.Calls as J
 use Rattle.script.specs.declared.Verb.{Verb}
 use Rattle.script.specs.declared.Verb.the-variants.{Allocate, Confirmed, SendPacingResponse, SendData, Close, Receive}
+use Rattle.calls.specs.Calls.{Called, Reply, Station, plain, unitsOf}
 
 -- the call of two joined ends, with the bytes given and the cells of a read's buffer
 abbrev pub verbOf : Verb → List ℕ → List ℕ → J.Verb
@@ -38,12 +37,12 @@ abbrev pub stationOf : End → List ℕ → List ℕ → List ℕ → Station
 stationOf e send unit inbox = record { end = e; send = send; unit = unit; inbox = inbox }
 
 -- what a call leaves, by what it hands back and the cells it is lent as it returns
-abbrev pub actedBy : Verb → ReadDone → List ℕ → List ℕ → List ℕ → List ℕ → Acted Lane Station Reply (List ℕ)
+abbrev pub actedBy : Verb → ReadDone → List ℕ → List ℕ → List ℕ → List ℕ → Called
 actedBy v d send unit inbox buffer =
     record {
       end = stationOf (d .end) send unit inbox;
       answer = replyOf v (d .answer) buffer;
-      sent = onNormal (unitsOf (d .answer .answer .unit) unit);
+      sent = unitsOf (d .answer .answer .unit) unit;
     }
 
 -- the answer of a call that is no read: nothing copied, no record complete, no mark

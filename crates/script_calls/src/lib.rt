@@ -10,7 +10,7 @@ ghost use mathlib.Core.Path.{_≡_};
 ghost use mathlib.Core.Bool.{false};
 ghost use mathlib.Core.List.{List};
 ghost use Prim.Native.Nat.{ℕ};
-ghost use Rattle.joined.specs.Ends.{acts};
+ghost use Rattle.calls.specs.Calls.{called};
 ghost use Rattle.script_calls.specs.Calls.{verbOf, isRead, stationOf, actedBy, plainDone};
 
 // The answer of a call that is no read: nothing copied, no record complete, no mark.
@@ -57,7 +57,7 @@ fn unmade(end: End) -> Done
 
 // Makes a call that is no read; a read is not made here.
 fn make(end: End, verb: Verb, given: &[u8], send: &mut [u8], unit: &mut [u8]) -> Done
-    ensures { λ r. ⌜ (isRead verb ≡ false → (inbox buffer : List ℕ) → actedBy verb (plainDone r) (now (send .exit)) (now (unit .exit)) inbox buffer ≡ acts (stationOf end (now (send .entry)) (now (unit .entry)) inbox) (verbOf verb (now (given .entry)) buffer)) ⌝ }
+    ensures { λ r. ⌜ (isRead verb ≡ false → (inbox buffer : List ℕ) → actedBy verb (plainDone r) (now (send .exit)) (now (unit .exit)) inbox buffer ≡ called (stationOf end (now (send .entry)) (now (unit .entry)) inbox) (verbOf verb (now (given .entry)) buffer)) ⌝ }
 {
     match verb {
         Verb::Allocate => end.allocate(unit),
@@ -79,7 +79,7 @@ pub fn call(
     inbox: &mut [u8],
     buffer: &mut [u8],
 ) -> ReadDone
-    ensures acted { λ r. ⌜ actedBy verb r (now (send .exit)) (now (unit .exit)) (now (inbox .exit)) (now (buffer .exit)) ≡ acts (stationOf end (now (send .entry)) (now (unit .entry)) (now (inbox .entry))) (verbOf verb (now (given .entry)) (now (buffer .entry))) ⌝ }
+    ensures acted { λ r. ⌜ actedBy verb r (now (send .exit)) (now (unit .exit)) (now (inbox .exit)) (now (buffer .exit)) ≡ called (stationOf end (now (send .entry)) (now (unit .entry)) (now (inbox .entry))) (verbOf verb (now (given .entry)) (now (buffer .entry))) ⌝ }
     ensures unread { λ _. ⌜ (isRead verb ≡ false → now (buffer .exit) ≡ now (buffer .entry)) ⌝ }
 {
     if is_read(verb) {

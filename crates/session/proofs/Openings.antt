@@ -5,10 +5,11 @@ use mathlib.Core.Path.{_≡_}
 use mathlib.Core.Bool.{true, _&&_}
 use lib.Dec.{leb}
 use borrow.Author.Tests.{leb-true}
-use Rattle.answers.proofs.Rows.{both, yes}
+use Rattle.answers.proofs.Rows.{yes}
 use Rattle.sides.specs.Shared.{maxGood}
 use Rattle.sides.specs.Opening.{openingQuestions, openingRefusal}
 use Rattle.sides.specs.declared.Session.{Session}
+use Rattle.bools.proofs.Tests.{both}
 
 pub record Fits (s : Session) (inbox : ℕ) : Type 0 where
   pub outmax : s .outmax ≤ 1024

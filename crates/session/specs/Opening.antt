@@ -1,7 +1,7 @@
 -- Opening.
 -- Assumes nothing.
 use Prim.Native.Nat.{ℕ}
-use mathlib.Core.Bool.{cond, _||_}
+use mathlib.Core.Bool.{cond}
 use lib.Dec.{eqb}
 use Rattle.transitions.specs.Transitions.{fresh}
 use Rattle.control.specs.declared.Role.{Role}

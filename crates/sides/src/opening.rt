@@ -5,7 +5,7 @@ use answers::numbers::BAD_BUFFER;
 use answers::numbers::BAD_MAXIMUM;
 use answers::numbers::BAD_ROLE;
 use answers::numbers::BAD_WINDOW;
-use answers::questions::ask;
+use answers::questions::then_ask;
 use control::Role;
 use pacing::size_good;
 use unit::RU_START;
@@ -46,12 +46,12 @@ fn buffers_good(s: Session, send: usize, unit: usize, inbox: usize) -> bool
 pub fn opening_refusal(s: Session, send: usize, unit: usize, inbox: usize) -> u8
     ensures { λ r. ⌜ r ≡ openingRefusal s send unit inbox ⌝ }
 {
-    let buffers = ask(buffers_good(s, send, unit, inbox), BAD_BUFFER, 0);
-    let maxima = ask(max_good(s.outmax) & max_good(s.inmax), BAD_MAXIMUM, buffers);
-    let windows = ask(
+    let q = then_ask(0, (s.role == 0) | (s.role == 1), BAD_ROLE);
+    let q = then_ask(
+        q,
         size_good(s.outwindow) & size_good(s.inwindow),
         BAD_WINDOW,
-        maxima,
     );
-    ask((s.role == 0) | (s.role == 1), BAD_ROLE, windows)
+    let q = then_ask(q, max_good(s.outmax) & max_good(s.inmax), BAD_MAXIMUM);
+    then_ask(q, buffers_good(s, send, unit, inbox), BAD_BUFFER)
 }

@@ -7,7 +7,7 @@ use answers::numbers::BAD_RECORDS;
 use answers::numbers::BAD_RESPONSE;
 use answers::numbers::BAD_RU;
 use answers::numbers::BAD_STATE;
-use answers::questions::ask;
+use answers::questions::then_ask;
 use control::Control;
 use control::tests::agree;
 use header::ChainEnd;
@@ -21,12 +21,14 @@ use logical_record::walk::place_or;
 use logical_record::walk::walk_over;
 use sides::Receiving;
 use sides::incoming::request_taken;
+use unit::RU_START;
 use unit::ru::marks;
 use unit::ru::ru_good;
 ghost use mathlib.Core.Path.{_≡_};
 ghost use mathlib.Core.Bool.{cond};
 ghost use Prim.Native.Nat.{_+_, _≤_};
-ghost use lib.ListN.{length};
+ghost use lib.Dec.{eqb};
+ghost use lib.ListN.{length, drop};
 ghost use Rattle.cells.specs.Cells.{written};
 ghost use Rattle.logical_record.specs.Walk.{walk, placeOr};
 ghost use Rattle.answers.specs.Questions.{firstNo};
@@ -89,13 +91,13 @@ pub fn data_refusal(
     let begins = d.begins;
     let ends = d.ends;
     let bracket = begins_bracket(begins);
-    let records = ask(records_fit(ends, walked), BAD_RECORDS, 0);
-    let state = ask(c.state_fits(bracket), BAD_STATE, records);
-    let brackets = ask(c.bracket_fits(bracket), BAD_BRACKET, state);
-    let chain = ask(c.chain_fits(is_first(begins)), BAD_CHAIN, brackets);
-    let next = ask(is_next(r, number), BAD_NUMBER, chain);
-    let pacing = ask(pacing_fits(r, d.pacing), BAD_PACING, next);
-    ask(ru_good(max, Header::Data(d), ru), BAD_RU, pacing)
+    let q = then_ask(0, ru_good(max, Header::Data(d), ru), BAD_RU);
+    let q = then_ask(q, pacing_fits(r, d.pacing), BAD_PACING);
+    let q = then_ask(q, is_next(r, number), BAD_NUMBER);
+    let q = then_ask(q, c.chain_fits(is_first(begins)), BAD_CHAIN);
+    let q = then_ask(q, c.bracket_fits(bracket), BAD_BRACKET);
+    let q = then_ask(q, c.state_fits(bracket), BAD_STATE);
+    then_ask(q, records_fit(ends, walked), BAD_RECORDS)
 }
 
 // Of a bid, which counts as first in a chain, and comes to the first speaker only.
@@ -103,11 +105,11 @@ pub fn bid_refusal(c: Control, r: Receiving, bit: bool, number: u16, ru: &[u8]) 
     ensures { λ q. ⌜ q ≡ firstNo (bidQuestions c r bit number (now (ru .entry))) ⌝ }
 {
     let max = r.max as usize;
-    let bracket = ask(c.bid_fits(), BAD_BRACKET, 0);
-    let chain = ask(c.chain_fits(true), BAD_CHAIN, bracket);
-    let next = ask(is_next(r, number), BAD_NUMBER, chain);
-    let pacing = ask(pacing_fits(r, bit), BAD_PACING, next);
-    ask(ru_good(max, Header::Bid(bit), ru), BAD_RU, pacing)
+    let q = then_ask(0, ru_good(max, Header::Bid(bit), ru), BAD_RU);
+    let q = then_ask(q, pacing_fits(r, bit), BAD_PACING);
+    let q = then_ask(q, is_next(r, number), BAD_NUMBER);
+    let q = then_ask(q, c.chain_fits(true), BAD_CHAIN);
+    then_ask(q, c.bid_fits(), BAD_BRACKET)
 }
 
 // Of a grant, a bid refusal and a confirmation: `fits` says that one of this number is expected now.
@@ -115,8 +117,8 @@ pub fn response_refusal(max: u16, header: Header, fits: bool, ru: &[u8]) -> u8
     ensures { λ r. ⌜ r ≡ firstNo (responseQuestions max header fits (now (ru .entry))) ⌝ }
 {
     let most = max as usize;
-    let response = ask(fits, BAD_RESPONSE, 0);
-    ask(ru_good(most, header, ru), BAD_RU, response)
+    let q = then_ask(0, ru_good(most, header, ru), BAD_RU);
+    then_ask(q, fits, BAD_RESPONSE)
 }
 
 // Of a pacing response, whose number is always 0: `pending` is of the window of sending, which it answers.
@@ -124,22 +126,31 @@ pub fn pacing_response_refusal(max: u16, pending: bool, number: u16, ru: &[u8]) 
     ensures { λ r. ⌜ r ≡ firstNo (pacingQuestions max pending number (now (ru .entry))) ⌝ }
 {
     let most = max as usize;
-    let next = ask(number == 0, BAD_NUMBER, 0);
-    let pacing = ask(pending, BAD_PACING, next);
-    ask(ru_good(most, Header::PacingResponse, ru), BAD_RU, pacing)
+    let q = then_ask(0, ru_good(most, Header::PacingResponse, ru), BAD_RU);
+    let q = then_ask(q, pending, BAD_PACING);
+    then_ask(q, number == 0, BAD_NUMBER)
 }
 
-// The RU of a data unit joins the inbox, behind the bytes held; `walked` is what the walk over it found.
-pub fn join(r: Receiving, walked: Walked, ru: &[u8], inbox: &mut [u8]) -> Receiving
-    requires { ⌜ (r .held + length (now ru) ≤ r .inbox) × (length (now inbox) ≡ r .inbox) ⌝ }
-    ensures side { λ s. ⌜ s ≡ requestTaken (r .held + length (now (ru .entry))) (placeOr (r .taken) walked) r ⌝ }
-    ensures cells { λ _. ⌜ now (inbox .exit) ≡ written (r .held) (now (ru .entry)) (now (inbox .entry)) ⌝ }
+// The side once a data unit of n bytes is taken; `walked` is what the walk over them found.
+pub fn joined(r: Receiving, n: usize, walked: Walked) -> Receiving
+    requires { ⌜ r .held + n ≤ r .inbox ⌝ }
+    ensures { λ s. ⌜ s ≡ requestTaken (r .held + n) (placeOr (r .taken) walked) r ⌝ }
 {
     let before = r.taken;
-    let from = r.held as usize;
-    let held = r.held + ru.len() as u16;
-    bytes::copy(ru, &mut inbox[from..]);
+    let held = r.held + n as u16;
     request_taken(r, held, place_or(before, walked))
+}
+
+// The RU of a data unit joins the inbox, behind the bytes held before. Where no more are held than before there is none.
+pub fn join(before: u16, after: u16, taken: &[u8], inbox: &mut [u8])
+    requires { ⌜ ((after ≡ before → ⊥) → (5 ≤ length (now taken)) × (before + length (drop 5 (now taken)) ≤ length (now inbox))) ⌝ }
+    ensures { λ _. ⌜ now (inbox .exit) ≡ cond (eqb after before) (now (inbox .entry)) (written before (drop 5 (now (taken .entry))) (now (inbox .entry))) ⌝ }
+{
+    if after == before {
+        return;
+    }
+    let from = before as usize;
+    bytes::copy(&taken[RU_START..], &mut inbox[from..]);
 }
 
 // The number owed is that of the last unit that asked for a confirmation.

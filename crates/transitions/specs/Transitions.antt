@@ -13,7 +13,6 @@ use Rattle.header.specs.declared.Header.the-variants.{PositiveBidResponse, Nega
 use Rattle.control.specs.Parts.{setState, setFollows, setMark, setDue, setBid, setOutchain, setInchain}
 use Rattle.control.specs.Tests.{isFirstSpeaker, isReset}
 use Rattle.control.specs.declared.Role.{Role}
-use Rattle.control.specs.declared.Role.the-variants.{FirstSpeaker, Bidder}
 use Rattle.control.specs.declared.State.{State}
 use Rattle.control.specs.declared.State.the-variants.{Reset, Send, Receive, ConfirmOwed, ConfirmAwaited}
 use Rattle.control.specs.declared.WhatReceived.{WhatReceived}

@@ -1,31 +1,26 @@
 -- A unit is read by its header.
 -- Assumes nothing.
-use mathlib.Core.Path.{_≡_, refl, sym, ap, _∙_}
-use mathlib.Core.Bool.{Bool, true, false, not, cond, _&&_, _||_}
+use mathlib.Core.Path.{_≡_, refl, ap}
+use mathlib.Core.Bool.{Bool, true, false, cond}
 use mathlib.Core.List.{List}
-use Prim.Native.Nat.{ℕ, zero, suc, _≤_, _<_}
+use Prim.Native.Nat.{ℕ, _≤_, _<_}
 use native.Mathlib.Omega.{arith}
-use borrow.Author.Tests.{le-leb, lt-leb, eqb-true, ne-eqb}
-use lib.Dec.{eqb}
+use borrow.Author.Tests.{le-leb, lt-leb}
 use lib.ListN.{length}
-use Rattle.header.specs.Weights.{PACING, on}
-use Rattle.header.specs.Rules.{bytes, keepsH1, keepsH2, keepsH3, keepsH4, keepsH5, keepsH6, keeps, breaks, headerGood}
-use Rattle.header.specs.Header.{fieldsOf, readAs, readLowest, ruleNamed}
-use Rattle.header.specs.Reading.{dataRead, bidRead, responseRead, positiveRead, negativeRead}
+use Rattle.header.specs.Rules.{headerGood}
+use Rattle.header.specs.Header.{fieldsOf, readAs, ruleNamed}
 use Rattle.unit.specs.Unit.{RU-START, numberIn, headerIn, headingOf, unitReadAs}
-use Rattle.header.specs.declared.HeaderBytes.{HeaderBytes}
 use Rattle.header.specs.declared.Header.{Header}
-use Rattle.header.specs.declared.Header.the-variants.{Bid, PositiveBidResponse, NegativeBidResponse, Confirmation, PacingResponse}
 use Rattle.header.specs.declared.HeaderRead.{HeaderRead}
 use Rattle.header.specs.declared.HeaderRead.the-variants.{Good, Breaks}
 use Rattle.header.specs.declared.Rule.{Rule}
-use Rattle.header.specs.declared.Rule.the-variants.{H1, H2, H3, H4, H5, H6}
+use Rattle.header.specs.declared.Rule.the-variants.{H1}
 use Rattle.unit.specs.declared.Heading.{Heading}
 use Rattle.unit.specs.declared.UnitRead.{UnitRead}
 use Rattle.unit.specs.declared.UnitRead.the-variants as unitRead
 
 abbrev headingAs : ℕ → Header → Heading
-headingAs n f = record { number = n; header = f; ru = RU-START }
+headingAs n f = record { number = n; header = f }
 
 good-heading : (ok : Bool) (q : HeaderRead) (r : Rule) (n : ℕ) (f g : Header) → q ≡ cond ok (Good g) (Breaks r) → q ≡ Good f
     → unitRead.Good (headingAs n f) ≡ cond ok (unitRead.Good (headingAs n g)) (unitRead.Breaks H1)

@@ -1,7 +1,7 @@
 -- Laws of units and headers, for the crates above; the round trip of headers is passed on from its own file.
 -- Assumes nothing.
 pub use Rattle.header.proofs.RoundTrip.{built-good, built-fields, read-bytes}
-use mathlib.Core.Path.{_≡_, refl, sym}
+use mathlib.Core.Path.{_≡_, refl}
 use mathlib.Core.Bool.{Bool, true, false, not}
 use mathlib.Core.List.{List}
 use Prim.Native.Nat.{ℕ, _+_, _≤_}
@@ -9,19 +9,15 @@ use native.Mathlib.Nat.{div-add-mod'}
 use native.Mathlib.Omega.{arith}
 use borrow.Author.Tests.{le-leb}
 use lib.Dec.{leb}
-use lib.ListN.{length, take, drop}
+use lib.ListN.{length, drop}
 use Rattle.cells.specs.Cells.{front}
-use Rattle.cells.proofs.Fronts.{front-bytes}
 use Rattle.header.specs.Weights.{FIRST, LAST, bit}
 use Rattle.header.specs.Header.{isFirst, isLast, headerBytes}
-use Rattle.cells.specs.Equal.{sameBytes}
-use Rattle.unit.specs.Ru.{fixedRu, ruGood}
 use Rattle.unit.specs.Unit.{RU-START, unitBytes, unitOf, lengthMade, cellsMade, numberIn, headerIn, headingOf, unitReadAs}
 use Rattle.header.specs.declared.Header.{Header}
 use Rattle.header.specs.declared.Header.the-variants.{Data, Bid, PositiveBidResponse, NegativeBidResponse, Confirmation, PacingResponse}
 use Rattle.header.specs.declared.Rule.{Rule}
 use Rattle.unit.specs.declared.UnitRead.the-variants as unitRead
-use Rattle.header.proofs.Finite.{never}
 
 -- ---- what a unit holds
 
@@ -44,7 +40,7 @@ unit-ru n f ru = refl
 -- ---- a unit is read
 
 pub unit-read : (r : Rule) (n : ℕ) (f : Header) (ru : List ℕ)
-    → unitReadAs r (unitOf n f ru) ≡ unitRead.Good (record { number = n; header = f; ru = RU-START })
+    → unitReadAs r (unitOf n f ru) ≡ unitRead.Good (record { number = n; header = f })
 unfolding unitReadAs headingOf
 unit-read r n f ru =
     rw (
@@ -65,31 +61,7 @@ pub cells-made : (n : ℕ) (f : Header) (ru cells : List ℕ) → RU-START + len
 unfolding cellsMade
 cells-made n f ru cells h = rw (le-leb (RU-START + length ru) (length cells) h)
 
--- the bytes that the answer counts are the unit
-pub unit-made : (n : ℕ) (f : Header) (ru cells : List ℕ) → RU-START + length ru ≤ length cells
-    → take (lengthMade ru cells) (cellsMade n f ru cells) ≡ unitOf n f ru
-unit-made n f ru cells h =
-    rw (cells-made n f ru cells h, length-made ru cells h, ← unit-length n f ru) (front-bytes (unitOf n f ru) cells)
-
 -- ---- kinds
-
--- the RU of a fixed kind is as its header wants it
-abbrev pub holdsData : Header → Bool
-holdsData (Data d) = true
-holdsData (Bid p) = false
-holdsData PositiveBidResponse = false
-holdsData NegativeBidResponse = false
-holdsData Confirmation = false
-holdsData PacingResponse = false
-
-pub fixed-ru-good : (max : ℕ) (f : Header) → holdsData f ≡ false → ruGood max f (fixedRu f) ≡ true
-unfolding ruGood sameBytes
-fixed-ru-good max (Data d) e = absurd (never (sym e))
-fixed-ru-good max (Bid p) e = refl
-fixed-ru-good max PositiveBidResponse e = refl
-fixed-ru-good max NegativeBidResponse e = refl
-fixed-ru-good max Confirmation e = refl
-fixed-ru-good max PacingResponse e = refl
 
 -- data and bids are requests; every other kind is a response, and has the weight 80 on in byte 0
 abbrev pub isRequest : Header → Bool

@@ -14,4 +14,4 @@ abbrev pub WrittenIsRead : Type 0
 WrittenIsRead =
     (r : Rule) (n : ℕ) (f : Header) (ru : List ℕ)
     → n < 65536
-    → (unitReadAs r (unitOf n f ru) ≡ unitRead.Good (record { number = n; header = f; ru = RU-START })) × (drop RU-START (unitOf n f ru) ≡ ru)
+    → (unitReadAs r (unitOf n f ru) ≡ unitRead.Good (record { number = n; header = f })) × (drop RU-START (unitOf n f ru) ≡ ru)

@@ -1,9 +1,9 @@
 -- The RUs: those that are fixed, and what a data RU may be.
 -- Assumes nothing.
 use Prim.Native.Nat.{ℕ}
-use mathlib.Core.Bool.{Bool, true, false, _&&_, _||_}
+use mathlib.Core.Bool.{Bool, _&&_, _||_}
 use mathlib.Core.List.{List, [], _∷_}
-use lib.Dec.{eqb, leb}
+use lib.Dec.{leb}
 use lib.ListN.{length}
 use Rattle.cells.specs.Equal.{sameBytes}
 use Rattle.header.specs.Header.{confirms, followsOf, turns, endsBracket}

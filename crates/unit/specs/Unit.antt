@@ -53,7 +53,7 @@ abbrev pub headerIn : List ℕ → HeaderBytes
 headerIn u = bytes (getD u 2 0) (getD u 3 0) (getD u 4 0)
 
 unfoldable pub headingOf : List ℕ → Heading
-headingOf u = record { number = numberIn u; header = fieldsOf (headerIn u); ru = RU-START }
+headingOf u = record { number = numberIn u; header = fieldsOf (headerIn u) }
 
 -- what is read of a unit, if it is this rule that is named where one is broken
 unfoldable pub unitReadAs : Rule → List ℕ → UnitRead

@@ -10,11 +10,10 @@ use header::Rule;
 // Where the RU starts in a unit.
 pub const RU_START: usize = 5;
 
-// What stands before a unit's RU, and where the RU starts.
+// What stands before a unit's RU.
 pub struct Heading {
     pub number: u16,
     pub header: Header,
-    pub ru: usize,
 }
 
 // What a unit says: its heading; or that it is too short for one (refusal 20); or a rule that its header breaks (21).

@@ -34,11 +34,7 @@ pub fn read_unit(unit: &[u8]) -> UnitRead
     });
     match read {
         HeaderRead::Good(header) => {
-            let heading = Heading {
-                number,
-                header,
-                ru: RU_START,
-            };
+            let heading = Heading { number, header };
             UnitRead::Good(heading)
         }
         HeaderRead::Breaks(rule) => UnitRead::Breaks(rule),

@@ -9,7 +9,7 @@ ghost use mathlib.Core.List.{[], _++_};
 ghost use Prim.Native.Nat.{_+_, _≤_};
 ghost use lib.ListN.{length};
 ghost use Rattle.cells.specs.Cells.{front};
-ghost use Rattle.unit.specs.Unit.{unitBytes, lengthMade, cellsMade};
+ghost use Rattle.unit.specs.Unit.{RU-START, unitBytes, lengthMade, cellsMade};
 ghost use Rattle.unit.specs.Ru.{fixedRu};
 
 // The sequence number, high byte first, and the header.
@@ -50,6 +50,20 @@ pub fn write_unit(unit: &mut [u8], number: u16, header: Header, a: &[u8], b: &[u
     write_heading(unit, number, h);
     write_ru(&mut unit[RU_START..], a, b);
     RU_START + ru
+}
+
+// The length of a unit that holds no data, before it is made.
+pub fn fixed_length(header: Header) -> usize
+    ensures { λ r. ⌜ r ≡ RU-START + length (fixedRu header) ⌝ }
+{
+    match header {
+        Header::Data(_) => RU_START,
+        Header::Bid(_) => RU_START + 5,
+        Header::PositiveBidResponse => RU_START + 1,
+        Header::NegativeBidResponse => RU_START + 5,
+        Header::Confirmation => RU_START,
+        Header::PacingResponse => RU_START,
+    }
 }
 
 // Makes a unit that holds no data: its RU is the fixed one of its header.

@@ -12,7 +12,7 @@ use lib.ListN.{length, take, drop, length-append, length-drop, take-append-drop}
 use lib.Seq.{take-append-seam, drop-at, length-take-le}
 use Rattle.cells.specs.Cells.{front, written}
 use Rattle.cells.proofs.Fronts.{written-length, written-bytes}
-use Rattle.answers.proofs.Rows.{both}
+use Rattle.bools.proofs.Tests.{both}
 use Rattle.unit_lines.specs.declared.Line.{Line}
 use Rattle.unit_lines.specs.Lines.{framed, frames, NoneLonger, Holds, hasRoom, pastFirst, stands, oldestEnd, UnitTo}
 use Rattle.unit_lines.proofs.Frames.{frames-more, none-more, frames-length}

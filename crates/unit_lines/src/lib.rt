@@ -8,7 +8,7 @@ ghost use Prim.Native.Nat.{ℕ, _+_, _*_, _≤_, _<_};
 ghost use lib.Dec.{leb};
 ghost use lib.ListN.{length, getD};
 ghost use Rattle.cells.specs.Cells.{front};
-ghost use Rattle.joined.specs.Ends.{unitsOf};
+ghost use Rattle.calls.specs.Calls.{unitsOf};
 ghost use Rattle.unit_lines.specs.Lines.{MOST-UNITS, LONGEST-UNIT, LONGEST-FRAME, framed, Holds, hasRoom, stands, oldestEnd, UnitTo};
 
 // A line holds up to 512 units.

@@ -3,15 +3,16 @@
 -- Assumes nothing.
 use Prim.Native.Nat.{ℕ}
 use mathlib.Core.Path.{_≡_, refl}
-use mathlib.Core.Bool.{Bool, true, false, cond}
+use mathlib.Core.Bool.{false, cond}
 use mathlib.Core.List.{List, [], _∷_}
 use lib.Dec.{eqb}
 use Rattle.control.specs.declared.State.{State}
 use Rattle.control.specs.declared.State.the-variants.{Reset, Send, Receive, ConfirmOwed, ConfirmAwaited}
-use Rattle.joined.specs.Ends as J
-use Rattle.joined.specs.Ends.{normal, Station, Verb, takes, plain, onNormal}
+use Rattle.calls.specs.Calls as J
+use Rattle.joined.specs.Ends.{normal, takes, onNormal}
 use Rattle.worked_examples.specs.Computed.{computed}
 use Rattle.worked_examples.specs.Stations.{zeros, firstSpeaker, bidder, after, takeRefuses, afterTaking, shortestRecord, firstUnit, secondUnit, thirdUnit, aBid, aPacingAnswer, sending, oneSent, hasBid, receiving}
+use Rattle.calls.specs.Calls.{Station, Verb, plain}
 
 -- a take of u at s is refused with this number and sense, whatever rule 21 would name: the record and every lent cell are as before, no unit is
 -- made, and u stays on its line

@@ -24,9 +24,11 @@ use Rattle.end.specs.Confirmed.{confirmedRefusal, confirmedDecision, confirmed}
 use Rattle.end.specs.ReceiveUnit.{takeRefusal, dataJoined, bidAnswered, creditRaised, takeDecision, inboxCells, receiveUnit}
 use Rattle.end.specs.Receive.{readRefusal, copyCount, bytesRead, markRead, readDecision, inboxMoved, receive}
 use Rattle.end.specs.Pace.{paceRefusal, paceDecision, pace}
+use Rattle.calls.specs.Calls.{called, taken}
+use Rattle.calls.specs.Units.{requestsAmong}
 use Rattle.joined.specs.Ends.{acts, takes}
 use Rattle.joined.specs.Histories as H
 
 unfoldable pub computed : Unit {0}
-unfolding front written sameBytes thenWalk recordsFrom keeps headerGood headerBytes fieldsOf ruGood unitBytes unitOf credit advanced answered controlGood allocated spilled closed confirmationMade markAnswered dataTaken bidTaken grantTaken refusalTaken confirmationTaken sendingGood requestMade receivingGood requestTaken openingRefusal opened recordGood dataHeader allocateRefusal bidMade allocateDecision allocate sendRefusal bytesKept bytesSpilled sendDecision sendCells sendData closeRefusal lastMade closeDecision close confirmedRefusal confirmedDecision confirmed takeRefusal dataJoined bidAnswered creditRaised takeDecision inboxCells receiveUnit readRefusal copyCount bytesRead markRead readDecision inboxMoved receive paceRefusal paceDecision pace acts takes H.bytesAccepted H.bytesRead H.bytesOnLine H.pacingResponsesTaken H.requestsMade H.requestsAmong
+unfolding front written sameBytes thenWalk recordsFrom keeps headerGood headerBytes fieldsOf ruGood unitBytes unitOf credit advanced answered controlGood allocated spilled closed confirmationMade markAnswered dataTaken bidTaken grantTaken refusalTaken confirmationTaken sendingGood requestMade receivingGood requestTaken openingRefusal opened recordGood dataHeader allocateRefusal bidMade allocateDecision allocate sendRefusal bytesKept bytesSpilled sendDecision sendCells sendData closeRefusal lastMade closeDecision close confirmedRefusal confirmedDecision confirmed takeRefusal dataJoined bidAnswered creditRaised takeDecision inboxCells receiveUnit readRefusal copyCount bytesRead markRead readDecision inboxMoved receive paceRefusal paceDecision pace called taken acts takes H.bytesAccepted H.bytesRead H.bytesOnLine H.pacingResponsesTaken H.requestsMade requestsAmong
 computed = tt

@@ -9,12 +9,13 @@ use Rattle.control.specs.declared.State.{State}
 use Rattle.control.specs.declared.State.the-variants.{Reset, Send, Receive}
 use Rattle.end.specs.Record.{creditOf}
 use Rattle.joined.specs.Joined.{At, first, second, act, take, acted, took, Side, Both}
-use Rattle.joined.specs.Ends as J
-use Rattle.joined.specs.Ends.{Lane, normal, Station, Verb, Reply, refusalIn, openedBoth}
+use Rattle.calls.specs.Calls as J
+use Rattle.joined.specs.Ends.{Lane, normal, openedBoth}
 use Rattle.joined.specs.Histories as H
 use Rattle.joined.specs.Histories.{Log, pacingResponsesTaken, requestsMade}
 use Rattle.worked_examples.specs.Computed.{computed}
 use Rattle.worked_examples.specs.Stations.{zeros, session, joined, runs}
+use Rattle.calls.specs.Calls.{Reply, Station, Verb, refusalIn}
 
 -- the refusal numbers of an end's calls, in order
 abbrev pub numbers : Log → List ℕ

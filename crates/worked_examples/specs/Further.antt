@@ -6,11 +6,12 @@ use mathlib.Core.Bool.{Bool, true, false}
 use mathlib.Core.List.{List, [], _∷_, _++_}
 use Rattle.end.specs.Record.{creditOf, openOf}
 use Rattle.end.specs.Outcome.{withSending, withReceiving}
-use Rattle.joined.specs.Ends as J
-use Rattle.joined.specs.Ends.{Station, Verb, openedWith}
+use Rattle.calls.specs.Calls as J
+use Rattle.joined.specs.Ends.{openedWith}
 use Rattle.worked_examples.specs.Computed.{computed}
 use Rattle.worked_examples.specs.Stations.{zeros, session, firstSpeaker, bidder, after, makes, unitsMade, refuses, taking, takeRefuses, afterTaking, takesRefuse, flushed, firstUnit, secondUnit, thirdUnit, aBid, aPacingAnswer, sending, oneSent, twoSent, hasBid, receiving}
 use Rattle.worked_examples.specs.Breaches.{Breaches, MarkFirst, breached, marked-first}
+use Rattle.calls.specs.Calls.{Station, Verb}
 
 -- ---- "Last sequence number sent and last taken, from 0; the number after 65,535 is 0."
 

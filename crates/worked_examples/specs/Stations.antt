@@ -2,11 +2,11 @@
 -- Assumes nothing.
 use Prim.Native.Nat.{ℕ, zero, suc, _+_, _*_}
 use mathlib.Core.List.{List, [], _∷_, _++_}
-use lib.ListN.{length}
 use Rattle.sides.specs.declared.Session.{Session}
-use Rattle.joined.specs.Joined.{Acted, Took, Side, Both, At, run}
-use Rattle.joined.specs.Ends as J
-use Rattle.joined.specs.Ends.{Lane, normal, sameLane, Station, Verb, Reply, Buffers, acts, takes, openedWith, openedBoth}
+use Rattle.joined.specs.Joined.{Took, Both, At, run}
+use Rattle.calls.specs.Calls as J
+use Rattle.joined.specs.Ends.{Lane, normal, sameLane, Buffers, acts, takes, openedWith, openedBoth}
+use Rattle.calls.specs.Calls.{Reply, Station, Verb}
 
 abbrev pub zeros : ℕ → List ℕ
 zeros zero = []

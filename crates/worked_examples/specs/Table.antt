@@ -17,11 +17,12 @@ use Rattle.control.specs.declared.State.the-variants.{ConfirmOwed}
 use Rattle.control.specs.declared.WhatReceived.the-variants as mark
 use Rattle.end.specs.Outcome.{withControl, withOwed}
 use Rattle.end.specs.RuleNamed.{NamesBroken}
-use Rattle.joined.specs.Ends as J
-use Rattle.joined.specs.Ends.{normal, Station, Verb, acts, takes}
+use Rattle.calls.specs.Calls as J
+use Rattle.joined.specs.Ends.{normal, acts, takes}
 use Rattle.joined.specs.Histories.{bytesInSendBuffer}
 use Rattle.worked_examples.specs.Computed.{computed}
 use Rattle.worked_examples.specs.Stations.{zeros, firstSpeaker, bidder, after, makes, refuses, taking, takeRefuses, shortestRecord, flushed, aBid, sending, receiving}
+use Rattle.calls.specs.Calls.{Station, Verb}
 
 -- a record in Owes, stay, number owed 7
 abbrev pub owing : Station

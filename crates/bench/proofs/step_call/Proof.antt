@@ -10,12 +10,6 @@ use borrow.Author.Needs.{needs}
 use Rattle.bench.proofs.step_call.Statement.{statement}
 use Rattle.bench.proofs.step_call.Tie as tie
 
-is-full-requires : tie.Need-is-full-requires
-is-full-requires c κs = search needs
-
-unmade-requires : tie.Need-unmade-requires
-unmade-requires c κs = search needs
-
 returns : tie.Need-returns
 returns c =
     let a = c .before .before .before .before .before .before .before .before .before .args in
@@ -27,27 +21,6 @@ returns c =
     (rw (u .1, u .2, u .3))
     (counted (a .to) (now (a .far)) vs true hf (sym (c .before .before .is-full .ensures) ∙ c .before .if1 .taken))
     refl
-
-call-requires : tie.Need-call-requires
-call-requires c κs = search needs
-
-deliver-requires : tie.Need-deliver-requires
-deliver-requires c κs = search needs
-
-same-length : tie.Need-same-length
-same-length c = search needs
-
-same-length-2 : tie.Need-same-length-2
-same-length-2 c = search needs
-
-same-length-3 : tie.Need-same-length-3
-same-length-3 c = search needs
-
-same-length-4 : tie.Need-same-length-4
-same-length-4 c = search needs
-
-same-length-5 : tie.Need-same-length-5
-same-length-5 c = search needs
 
 returns-2 : tie.Need-returns-2
 returns-2 c =
@@ -66,14 +39,14 @@ pub step-call-spec : {M : Type 1} → statement M
 step-call-spec =
     tie.close
     (tie.spec
-    is-full-requires
-    unmade-requires
+    (search needs)
+    (search needs)
     returns
-    call-requires
-    deliver-requires
-    same-length
-    same-length-2
-    same-length-3
-    same-length-4
-    same-length-5
+    (search needs)
+    (search needs)
+    (search needs)
+    (search needs)
+    (search needs)
+    (search needs)
+    (search needs)
     returns-2)

@@ -10,12 +10,6 @@ use borrow.Author.Needs.{needs}
 use Rattle.bench.proofs.step_offer.Statement.{statement}
 use Rattle.bench.proofs.step_offer.Tie as tie
 
-is-full-requires : tie.Need-is-full-requires
-is-full-requires c κs = search needs
-
-unmade-requires : tie.Need-unmade-requires
-unmade-requires c κs = search needs
-
 returns : tie.Need-returns
 returns c =
     let a = c .before .before .before .before .before .before .before .args in
@@ -26,24 +20,6 @@ returns c =
     (rw (u .1, u .2, u .3))
     (counted (a .to) (now (a .far)) vs true hf (sym (c .before .before .is-full .ensures) ∙ c .before .if1 .taken))
     refl
-
-receive-unit-requires : tie.Need-receive-unit-requires
-receive-unit-requires c κs = search needs
-
-plain-requires : tie.Need-plain-requires
-plain-requires c κs = search needs
-
-deliver-requires : tie.Need-deliver-requires
-deliver-requires c κs = search needs
-
-same-length : tie.Need-same-length
-same-length c = search needs
-
-same-length-2 : tie.Need-same-length-2
-same-length-2 c = search needs
-
-same-length-3 : tie.Need-same-length-3
-same-length-3 c = search needs
 
 returns-2 : tie.Need-returns-2
 returns-2 c =
@@ -62,13 +38,13 @@ pub step-offer-spec : {M : Type 1} → statement M
 step-offer-spec =
     tie.close
     (tie.spec
-    is-full-requires
-    unmade-requires
+    (search needs)
+    (search needs)
     returns
-    receive-unit-requires
-    plain-requires
-    deliver-requires
-    same-length
-    same-length-2
-    same-length-3
+    (search needs)
+    (search needs)
+    (search needs)
+    (search needs)
+    (search needs)
+    (search needs)
     returns-2)

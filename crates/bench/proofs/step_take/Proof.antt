@@ -18,15 +18,6 @@ within c =
     let w = end-within (a .from) (now (a .waiting)) (λ z. c .if1 .left (c .before .oldest-end .ensures .0 ∙ z)) in
     (omega (arith, w .1, w .2), w .3)
 
-oldest-end-requires : tie.Need-oldest-end-requires
-oldest-end-requires c κs = search needs
-
-unmade-requires : tie.Need-unmade-requires
-unmade-requires c κs = search needs
-
-same-length : tie.Need-same-length
-same-length c = search needs
-
 returns : tie.Need-returns
 returns c =
     let a = c .before .before .before .before .before .before .before .before .args in
@@ -45,27 +36,6 @@ part-step-offer-start c = rw (c .before .before .oldest-end .ensures .0) (within
 part-step-offer-end : tie.Need-part-step-offer-end
 part-step-offer-end c = rw (c .before .before .oldest-end .ensures .0) (within (c .before) .0)
 
-step-offer-requires : tie.Need-step-offer-requires
-step-offer-requires c κs = search needs
-
-accepted-requires : tie.Need-accepted-requires
-accepted-requires c κs = search needs
-
-remove-oldest-requires : tie.Need-remove-oldest-requires
-remove-oldest-requires c κs = search needs
-
-same-length-2 : tie.Need-same-length-2
-same-length-2 c = search needs
-
-same-length-3 : tie.Need-same-length-3
-same-length-3 c = search needs
-
-same-length-4 : tie.Need-same-length-4
-same-length-4 c = search needs
-
-same-length-5 : tie.Need-same-length-5
-same-length-5 c = search needs
-
 returns-2 : tie.Need-returns-2
 returns-2 c =
     let a = c .before .before .before .before .before .before .before .before .before .before .before .before .before .before .before .before .before .before .before .before .before .before .before .before .before .before .before .before .before .args in
@@ -81,18 +51,6 @@ returns-2 c =
     (take (c .before .before .before .before .before .before .before .before .before .before .before .before .before .before .before .before .before .before .before .before .before .before .before .oldest-end .result - 2) (drop 2 (now (a .waiting)))) (f .are) (ap (λ (k : ℕ). take (k - 2) (drop 2 (now (a .waiting)))) (c .before .before .before .before .before .before .before .before .before .before .before .before .before .before .before .before .before .before .before .before .before .before .before .oldest-end .ensures .0) ∙ f .there) st
     (λ y. rw t (c .before .before .remove-oldest .ensures .0 (f .unit) (f .rest) (f .holds)))
     (λ n. absurd (apart t n))
-
-same-length-6 : tie.Need-same-length-6
-same-length-6 c = search needs
-
-same-length-7 : tie.Need-same-length-7
-same-length-7 c = search needs
-
-same-length-8 : tie.Need-same-length-8
-same-length-8 c = search needs
-
-same-length-9 : tie.Need-same-length-9
-same-length-9 c = search needs
 
 returns-3 : tie.Need-returns-3
 returns-3 c =
@@ -114,23 +72,23 @@ pub step-take-spec : {M : Type 1} → statement M
 step-take-spec =
     tie.close
     (tie.spec
-    oldest-end-requires
-    unmade-requires
-    same-length
+    (search needs)
+    (search needs)
+    (search needs)
     returns
     sub-step-offer
     part-step-offer-start
     part-step-offer-end
-    step-offer-requires
-    accepted-requires
-    remove-oldest-requires
-    same-length-2
-    same-length-3
-    same-length-4
-    same-length-5
+    (search needs)
+    (search needs)
+    (search needs)
+    (search needs)
+    (search needs)
+    (search needs)
+    (search needs)
     returns-2
-    same-length-6
-    same-length-7
-    same-length-8
-    same-length-9
+    (search needs)
+    (search needs)
+    (search needs)
+    (search needs)
     returns-3)

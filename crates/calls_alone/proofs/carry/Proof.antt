@@ -17,9 +17,6 @@ abbrev μ-loop : tie.MeasureT-loop
 loop-holds : tie.Need-loop-holds Inv-loop μ-loop
 loop-holds c = (refl, refl, refl, refl)
 
-part-carried-requires : tie.Need-part-carried-requires Inv-loop μ-loop
-part-carried-requires c κs = search needs
-
 sub-turns : tie.Need-sub-turns Inv-loop μ-loop
 sub-turns c = let test = c .before .before .before .before .before .before .before .before .before .before .before .before .before .loop-test .taken in omega (arith, test)
 
@@ -29,21 +26,6 @@ loop-less c = let test = c .before .before .before .before .before .before .befo
 loop-again : tie.Need-loop-again Inv-loop μ-loop
 loop-again c = let before = c .before .before .before .before .before .before .before .before .before .before .before .before .before .before .loop .inv in (c .before .before .before .before .before .before .before .send .given ∙ before .0, c .before .before .before .before .before .unit .given ∙ before .1, c .before .before .before .inbox .given ∙ before .2, c .before .buffer .given ∙ before .3)
 
-same-length : tie.Need-same-length Inv-loop μ-loop
-same-length c = search needs
-
-same-length-2 : tie.Need-same-length-2 Inv-loop μ-loop
-same-length-2 c = search needs
-
-same-length-3 : tie.Need-same-length-3 Inv-loop μ-loop
-same-length-3 c = search needs
-
-same-length-4 : tie.Need-same-length-4 Inv-loop μ-loop
-same-length-4 c = search needs
-
-returns : tie.Need-returns Inv-loop μ-loop
-returns c = search needs
-
 pub carry-spec : {M : Type 1} → statement M
 carry-spec =
     tie.close
@@ -51,12 +33,12 @@ carry-spec =
     Inv-loop
     μ-loop
     loop-holds
-    part-carried-requires
+    (search needs)
     sub-turns
     loop-less
     loop-again
-    same-length
-    same-length-2
-    same-length-3
-    same-length-4
-    returns)
+    (search needs)
+    (search needs)
+    (search needs)
+    (search needs)
+    (search needs))

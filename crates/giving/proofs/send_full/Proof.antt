@@ -5,7 +5,7 @@ use native.Mathlib.Omega.{arith}
 use lib.ListN.{length, length-append, take}
 use lib.Seq.{length-take-le}
 use denote.Ref.{now}
-use Rattle.unit.proofs.Units.{length-made, cells-made}
+use Rattle.unit.proofs.Units.{cells-made}
 use Rattle.cells.proofs.Copies.{copy-rest}
 use borrow.Author.Needs.{needs}
 use Rattle.giving.proofs.send_full.Statement.{statement}
@@ -42,7 +42,7 @@ same-length-2 : tie.Need-same-length-2
 same-length-2 c = search needs
 
 returns : tie.Need-returns
-returns c = let a = c .before .before .before .before .before .before .before .before .before .before .before .before .before .before .args in let x = take (a .held) (now (a .send)) in let y = take (a .gone) (now (a .bytes)) in let h : 5 + length (x ++ y) ≤ length (now (a .unit)) = omega (arith, length-append x y, length-take-le (a .held) (now (a .send)) (omega (arith, c .before .before .before .before .before .before .before .before .before .before .before .before .before .before .pre)), length-take-le (a .gone) (now (a .bytes)) (omega (arith, c .before .before .before .before .before .before .before .before .before .before .before .before .before .before .pre)), c .before .before .before .before .before .before .before .before .before .before .before .before .before .before .pre) in (c .before .before .before .before .before .before .before .write-unit .ensures .0 ∙ length-made (x ++ y) (now (a .unit)) h, (c .before .before .before .before .before .before .before .write-unit .ensures .1 ∙ cells-made (a .number) (a .header) (x ++ y) (now (a .unit)) h, copy-rest (a .gone) (now (a .bytes)) (now (a .send)) (c .before .before .copy .last .1 .0) (c .before .before .copy .ensures .1)))
+returns c = let a = c .before .before .before .before .before .before .before .before .before .before .before .before .before .before .args in let x = take (a .held) (now (a .send)) in let y = take (a .gone) (now (a .bytes)) in let h : 5 + length (x ++ y) ≤ length (now (a .unit)) = omega (arith, length-append x y, length-take-le (a .held) (now (a .send)) (omega (arith, c .before .before .before .before .before .before .before .before .before .before .before .before .before .before .pre)), length-take-le (a .gone) (now (a .bytes)) (omega (arith, c .before .before .before .before .before .before .before .before .before .before .before .before .before .before .pre)), c .before .before .before .before .before .before .before .before .before .before .before .before .before .before .pre) in (c .before .before .before .before .before .before .before .write-unit .ensures .1 ∙ cells-made (a .number) (a .header) (x ++ y) (now (a .unit)) h, copy-rest (a .gone) (now (a .bytes)) (now (a .send)) (c .before .before .copy .last .1 .0) (c .before .before .copy .ensures .1))
 
 pub send-full-spec : {M : Type 1} → statement M
 send-full-spec =

@@ -5,7 +5,7 @@ use native.Mathlib.Omega.{arith}
 use lib.ListN.{length, take}
 use lib.Seq.{length-take-le}
 use denote.Ref.{now}
-use Rattle.unit.proofs.Units.{length-made, cells-made}
+use Rattle.unit.proofs.Units.{cells-made}
 use borrow.Author.Needs.{needs}
 use Rattle.giving.proofs.send_held.Statement.{statement}
 use Rattle.giving.proofs.send_held.Tie as tie
@@ -23,7 +23,7 @@ same-length : tie.Need-same-length
 same-length c = search needs
 
 returns : tie.Need-returns
-returns c = let a = c .before .before .before .before .before .before .before .before .args in let ru = take (a .held) (now (a .send)) in let h : 5 + length ru ≤ length (now (a .unit)) = omega (arith, length-take-le (a .held) (now (a .send)) (omega (arith, c .before .before .before .before .before .before .before .before .pre)), c .before .before .before .before .before .before .before .before .pre) in (rw (c .before .before .write-unit .ensures .0, append-nil ru) (length-made ru (now (a .unit)) h), rw (c .before .before .write-unit .ensures .1, append-nil ru) (cells-made (a .number) (a .header) ru (now (a .unit)) h))
+returns c = let a = c .before .before .before .before .before .before .before .before .args in let ru = take (a .held) (now (a .send)) in let h : 5 + length ru ≤ length (now (a .unit)) = omega (arith, length-take-le (a .held) (now (a .send)) (omega (arith, c .before .before .before .before .before .before .before .before .pre)), c .before .before .before .before .before .before .before .before .pre) in rw (c .before .before .write-unit .ensures .1, append-nil ru) (cells-made (a .number) (a .header) ru (now (a .unit)) h)
 
 pub send-held-spec : {M : Type 1} → statement M
 send-held-spec =

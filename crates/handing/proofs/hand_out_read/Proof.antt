@@ -6,19 +6,10 @@ use borrow.Author.Needs.{needs}
 use Rattle.handing.proofs.hand_out_read.Statement.{statement}
 use Rattle.handing.proofs.hand_out_read.Tie as tie
 
-write-image-requires : tie.Need-write-image-requires
-write-image-requires c κs = search needs
-
-hand-read-answer-requires : tie.Need-hand-read-answer-requires
-hand-read-answer-requires c κs = search needs
-
-same-length : tie.Need-same-length
-same-length c = search needs
-
 returns : tie.Need-returns
 unfolding imageWritten
 returns c = rw (c .hand-read-answer .ensures .0, c .hand-read-answer .ensures .1, c .before .before .before .before .write-image .ensures, eq-eqb _ _ (c .before .before .before .before .before .before .before .before .before .pre .2))
 
 pub hand-out-read-spec : {M : Type 1} → statement M
 hand-out-read-spec =
-    tie.close (tie.spec write-image-requires hand-read-answer-requires same-length returns)
+    tie.close (tie.spec (search needs) (search needs) (search needs) returns)

@@ -1,4 +1,4 @@
-use borrow.Author.Tests.{eq-eqb, ne-eqb, le-leb, lt-leb}
+use borrow.Author.Tests.{eq-eqb, ne-eqb}
 use native.Mathlib.Omega.{arith}
 use borrow.Author.Needs.{needs}
 use Rattle.pacing.proofs.left.Statement.{statement}
@@ -7,9 +7,6 @@ use Rattle.pacing.proofs.left.Tie as tie
 returns : tie.Need-returns
 returns c = (rw (eq-eqb _ _ (c .if1 .taken)), search needs)
 
-cast-result : tie.Need-cast-result
-cast-result c = search needs
-
 returns-2 : tie.Need-returns-2
 returns-2 c = (rw (ne-eqb _ _ (c .before .if1 .left)), omega arith)
 
@@ -17,4 +14,4 @@ returns-3 : tie.Need-returns-3
 returns-3 c = (rw (ne-eqb _ _ (c .before .if1 .left)) (omega arith), omega arith)
 
 pub left-spec : {M : Type 1} → statement M
-left-spec = tie.close (tie.spec returns cast-result returns-2 returns-3)
+left-spec = tie.close (tie.spec returns (search needs) returns-2 returns-3)

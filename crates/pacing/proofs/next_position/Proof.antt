@@ -1,4 +1,4 @@
-use borrow.Author.Tests.{eq-eqb, ne-eqb, le-leb, lt-leb}
+use borrow.Author.Tests.{le-leb, lt-leb}
 use native.Mathlib.Omega.{arith}
 use Prim.Native.Nat.{_+_, _≤_, _<_}
 use borrow.Author.Needs.{needs}
@@ -8,12 +8,6 @@ use Rattle.pacing.proofs.next_position.Tie as tie
 returns : tie.Need-returns
 returns c = let a = c .before .args in let h : a .size ≤ a .position + 1 = omega arith in rw (le-leb _ _ h)
 
-sub-if2 : tie.Need-sub-if2
-sub-if2 c = search needs
-
-add-result : tie.Need-add-result
-add-result c = search needs
-
 returns-2 : tie.Need-returns-2
 returns-2 c = let a = c .before .before .args in let h : a .size ≤ a .position + 1 = omega arith in rw (le-leb _ _ h)
 
@@ -21,4 +15,4 @@ returns-3 : tie.Need-returns-3
 returns-3 c = let a = c .before .before .args in let h : a .position + 1 < a .size = omega arith in rw (lt-leb _ _ h)
 
 pub next-position-spec : {M : Type 1} → statement M
-next-position-spec = tie.close (tie.spec returns sub-if2 add-result returns-2 returns-3)
+next-position-spec = tie.close (tie.spec returns (search needs) (search needs) returns-2 returns-3)

@@ -1,54 +1,41 @@
+use native.Mathlib.Omega.{arith}
+use lib.ListN.{length-drop, drop}
 use denote.Ref.{now}
+use borrow.Author.Tests.{eq-eqb, ne-eqb}
+use Rattle.cells.proofs.Parts.{part-is}
 use Rattle.cells.proofs.Copies.{copy-part}
 use borrow.Author.Needs.{needs}
 use Rattle.taking.proofs.join.Statement.{statement}
 use Rattle.taking.proofs.join.Tie as tie
 
-cast-from : tie.Need-cast-from
-cast-from c = search needs
-
-cast-held : tie.Need-cast-held
-cast-held c = search needs
-
-add-held : tie.Need-add-held
-add-held c = search needs
+returns : tie.Need-returns
+returns c = rw (eq-eqb _ _ (c .if1 .taken))
 
 sub-copy : tie.Need-sub-copy
-sub-copy c = search needs
+sub-copy c = let p = c .before .before .before .pre (c .if1 .left) in omega (arith, p .0)
 
 part-copy-start : tie.Need-part-copy-start
-part-copy-start c = search needs
+part-copy-start c = let p = c .before .before .before .pre (c .if1 .left) in omega (arith, p .0)
 
-part-copy-end : tie.Need-part-copy-end
-part-copy-end c = search needs
+sub-copy-2 : tie.Need-sub-copy-2
+sub-copy-2 c = let p = c .before .before .before .before .pre (c .before .if1 .left) in omega (arith, p .1)
+
+part-copy-start-2 : tie.Need-part-copy-start-2
+part-copy-start-2 c = let p = c .before .before .before .before .pre (c .before .if1 .left) in omega (arith, p .1)
 
 copy-requires : tie.Need-copy-requires
-copy-requires c κs = search needs
+copy-requires c κs =
+    let a = c .before .before .before .before .before .args in
+    let p = c .before .before .before .before .before .pre (c .before .before .if1 .left) in
+    omega (arith, p .0, p .1, length-drop 5 (now (a .taken)))
 
-place-or-requires : tie.Need-place-or-requires
-place-or-requires c κs = search needs
-
-request-taken-requires : tie.Need-request-taken-requires
-request-taken-requires c κs = search needs
-
-same-length : tie.Need-same-length
-same-length c = search needs
-
-returns : tie.Need-returns
-returns c = let a = c .before .before .before .before .before .before .before .before .before .before .args in (rw (c .request-taken .ensures, c .before .place-or .ensures), copy-part (a .r .held) (now (a .ru)) (now (a .inbox)) (c .before .before .before .before .copy .last .1 .0) (c .before .before .before .before .copy .ensures .1))
+returns-2 : tie.Need-returns-2
+returns-2 c =
+    let a = c .before .before .before .before .before .before .before .before .args in
+    rw (ne-eqb _ _ (c .before .before .before .before .before .if1 .left))
+    (copy-part (a .before) (drop 5 (now (a .taken))) (now (a .inbox)) (c .before .before .copy .last .1 .0)
+    (rw (part-is 5 (now (a .taken))) at (c .before .before .copy .ensures .1)))
 
 pub join-spec : {M : Type 1} → statement M
 join-spec =
-    tie.close
-    (tie.spec
-    cast-from
-    cast-held
-    add-held
-    sub-copy
-    part-copy-start
-    part-copy-end
-    copy-requires
-    place-or-requires
-    request-taken-requires
-    same-length
-    returns)
+    tie.close (tie.spec returns sub-copy part-copy-start (search needs) sub-copy-2 part-copy-start-2 (search needs) copy-requires (search needs) returns-2)

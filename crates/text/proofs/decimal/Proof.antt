@@ -1,4 +1,4 @@
--- `report::text::decimal` meets its contract. The invariant: the digits of what is left, and those stored behind them, are those of the number; i + 1 cells are enough for what is left.
+-- `text::decimal` meets its contract. The invariant: the digits of what is left, and those stored behind them, are those of the number; i + 1 cells are enough for what is left.
 -- Assumes nothing.
 use mathlib.Core.Path.{_≡_, refl, sym}
 use mathlib.Core.List.{_++_, append-nil}
@@ -66,12 +66,6 @@ part-put-start c = omega arith
 part-put-end : tie.Need-part-put-end Inv-loop μ-loop
 part-put-end c = simp length-set (omega (arith, c .before .before .before .loop .inv .2))
 
-put-requires : tie.Need-put-requires Inv-loop μ-loop
-put-requires c κs = search needs
-
-same-length : tie.Need-same-length Inv-loop μ-loop
-same-length c = search needs
-
 returns : tie.Need-returns Inv-loop μ-loop
 returns c =
     let a = c .before .before .before .before .before .before .before .before .before .args in
@@ -99,6 +93,6 @@ decimal-spec =
     sub-put
     part-put-start
     part-put-end
-    put-requires
-    same-length
+    (search needs)
+    (search needs)
     returns)

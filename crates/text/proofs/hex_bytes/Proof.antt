@@ -1,4 +1,4 @@
--- `report::text::hex_bytes` meets its contract. The invariant: what is left of the text, put at the next place, completes it.
+-- `text::hex_bytes` meets its contract. The invariant: what is left of the text, put at the next place, completes it.
 -- Assumes nothing.
 use mathlib.Core.Path.{_≡_, sym}
 use mathlib.Core.List.{[]}
@@ -41,9 +41,6 @@ loop-holds c =
 
 shared-slice-read-hex-byte : tie.Need-shared-slice-read-hex-byte Inv-loop μ-loop
 shared-slice-read-hex-byte c = omega arith
-
-hex-byte-requires : tie.Need-hex-byte-requires Inv-loop μ-loop
-hex-byte-requires c κs = search needs
 
 add-i : tie.Need-add-i Inv-loop μ-loop
 add-i c = omega arith
@@ -94,7 +91,7 @@ hex-bytes-spec =
     returns-2
     loop-holds
     shared-slice-read-hex-byte
-    hex-byte-requires
+    (search needs)
     add-i
     loop-less
     loop-again

@@ -1,4 +1,4 @@
--- `report::text::put` meets its contract. Text that does not fit leaves the cells as they were; else it is a copy into the part that starts at the place.
+-- `text::put` meets its contract. Text that does not fit leaves the cells as they were; else it is a copy into the part that starts at the place.
 -- Assumes nothing.
 use mathlib.Core.Path.{sym}
 use native.Mathlib.Omega.{arith}
@@ -11,29 +11,8 @@ use Rattle.text.proofs.put.Tie as tie
 returns : tie.Need-returns
 returns c = let a = c .before .before .before .args in sym (not-put (now (a .text)) (a .at) (now (a .out)) (omega arith))
 
-sub-if2 : tie.Need-sub-if2
-sub-if2 c = search needs
-
 returns-2 : tie.Need-returns-2
 returns-2 c = let a = c .before .before .before .before .args in sym (not-put (now (a .text)) (a .at) (now (a .out)) (omega arith))
-
-sub-copy : tie.Need-sub-copy
-sub-copy c = search needs
-
-part-copy-start : tie.Need-part-copy-start
-part-copy-start c = search needs
-
-part-copy-end : tie.Need-part-copy-end
-part-copy-end c = search needs
-
-copy-requires : tie.Need-copy-requires
-copy-requires c κs = search needs
-
-add-result : tie.Need-add-result
-add-result c = search needs
-
-same-length : tie.Need-same-length
-same-length c = search needs
 
 returns-3 : tie.Need-returns-3
 returns-3 c =
@@ -46,12 +25,12 @@ put-spec =
     tie.close
     (tie.spec
     returns
-    sub-if2
+    (search needs)
     returns-2
-    sub-copy
-    part-copy-start
-    part-copy-end
-    copy-requires
-    add-result
-    same-length
+    (search needs)
+    (search needs)
+    (search needs)
+    (search needs)
+    (search needs)
+    (search needs)
     returns-3)

@@ -3,15 +3,9 @@ use borrow.Author.Needs.{needs}
 use Rattle.transitions.proofs.confirmation_taken.Statement.{statement}
 use Rattle.transitions.proofs.confirmation_taken.Tie as tie
 
-after-last-requires : tie.Need-after-last-requires
-after-last-requires c κs = search needs
-
-with-state-requires : tie.Need-with-state-requires
-with-state-requires c κs = search needs
-
 returns : tie.Need-returns
 unfolding confirmationTaken
 returns c = rw (c .with-state .ensures, c .before .after-last .ensures)
 
 pub confirmation-taken-spec : {M : Type 1} → statement M
-confirmation-taken-spec = tie.close (tie.spec after-last-requires with-state-requires returns)
+confirmation-taken-spec = tie.close (tie.spec (search needs) (search needs) returns)

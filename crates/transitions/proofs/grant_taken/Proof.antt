@@ -3,15 +3,9 @@ use borrow.Author.Needs.{needs}
 use Rattle.transitions.proofs.grant_taken.Statement.{statement}
 use Rattle.transitions.proofs.grant_taken.Tie as tie
 
-with-state-requires : tie.Need-with-state-requires
-with-state-requires c κs = search needs
-
-with-bid-requires : tie.Need-with-bid-requires
-with-bid-requires c κs = search needs
-
 returns : tie.Need-returns
 unfolding grantTaken
 returns c = rw (c .with-bid .ensures, c .before .with-state .ensures)
 
 pub grant-taken-spec : {M : Type 1} → statement M
-grant-taken-spec = tie.close (tie.spec with-state-requires with-bid-requires returns)
+grant-taken-spec = tie.close (tie.spec (search needs) (search needs) returns)

@@ -2,24 +2,6 @@ use borrow.Author.Needs.{needs}
 use Rattle.transitions.proofs.mark_of_last.Statement.{statement}
 use Rattle.transitions.proofs.mark_of_last.Tie as tie
 
-enum-told : tie.Need-enum-told
-enum-told c = search needs
-
-choose-mark-requires : tie.Need-choose-mark-requires
-choose-mark-requires c κs = search needs
-
-enum-told-2 : tie.Need-enum-told-2
-enum-told-2 c = search needs
-
-choose-mark-requires-2 : tie.Need-choose-mark-requires-2
-choose-mark-requires-2 c κs = search needs
-
-enum-told-3 : tie.Need-enum-told-3
-enum-told-3 c = search needs
-
-choose-mark-requires-3 : tie.Need-choose-mark-requires-3
-choose-mark-requires-3 c κs = search needs
-
 returns : tie.Need-returns
 returns c = rw (c .choose-mark .ensures, c .before .enum-told .given .1)
 
@@ -33,12 +15,12 @@ pub mark-of-last-spec : {M : Type 1} → statement M
 mark-of-last-spec =
     tie.close
     (tie.spec
-    enum-told
-    choose-mark-requires
-    enum-told-2
-    choose-mark-requires-2
-    enum-told-3
-    choose-mark-requires-3
+    (search needs)
+    (search needs)
+    (search needs)
+    (search needs)
+    (search needs)
+    (search needs)
     returns
     returns-2
     returns-3)

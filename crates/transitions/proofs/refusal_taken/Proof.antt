@@ -3,12 +3,9 @@ use borrow.Author.Needs.{needs}
 use Rattle.transitions.proofs.refusal_taken.Statement.{statement}
 use Rattle.transitions.proofs.refusal_taken.Tie as tie
 
-with-bid-requires : tie.Need-with-bid-requires
-with-bid-requires c κs = search needs
-
 returns : tie.Need-returns
 unfolding refusalTaken
 returns c = rw (c .with-bid .ensures)
 
 pub refusal-taken-spec : {M : Type 1} → statement M
-refusal-taken-spec = tie.close (tie.spec with-bid-requires returns)
+refusal-taken-spec = tie.close (tie.spec (search needs) returns)

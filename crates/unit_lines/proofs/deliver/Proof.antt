@@ -17,12 +17,6 @@ returns-2 c = λ vs h m s t. absurd (omega arith)
 slice-aggregate-put : tie.Need-slice-aggregate-put
 slice-aggregate-put c = let a = c .before .before .before .before .before .before .args in sym (length-take-le (a .n) (now (a .unit)) (omega arith))
 
-put-requires : tie.Need-put-requires
-put-requires c κs = search needs
-
-same-length : tie.Need-same-length
-same-length c = search needs
-
 returns-3 : tie.Need-returns-3
 returns-3 c =
     let a = c .before .before .before .before .before .before .before .before .before .args in
@@ -32,4 +26,4 @@ returns-3 c =
 
 pub deliver-spec : {M : Type 1} → statement M
 deliver-spec =
-    tie.close (tie.spec returns returns-2 slice-aggregate-put put-requires same-length returns-3)
+    tie.close (tie.spec returns returns-2 slice-aggregate-put (search needs) (search needs) returns-3)

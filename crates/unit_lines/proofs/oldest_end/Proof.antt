@@ -7,24 +7,6 @@ use borrow.Author.Needs.{needs}
 use Rattle.unit_lines.proofs.oldest_end.Statement.{statement}
 use Rattle.unit_lines.proofs.oldest_end.Tie as tie
 
-byte-at-requires : tie.Need-byte-at-requires
-byte-at-requires c κs = search needs
-
-mul-past : tie.Need-mul-past
-mul-past c = search needs
-
-byte-at-requires-2 : tie.Need-byte-at-requires-2
-byte-at-requires-2 c κs = search needs
-
-add-past : tie.Need-add-past
-add-past c = search needs
-
-add-past-2 : tie.Need-add-past-2
-add-past-2 c = search needs
-
-stands-requires : tie.Need-stands-requires
-stands-requires c κs = search needs
-
 returns : tie.Need-returns
 unfolding oldestEnd
 returns c =
@@ -45,11 +27,11 @@ pub oldest-end-spec : {M : Type 1} → statement M
 oldest-end-spec =
     tie.close
     (tie.spec
-    byte-at-requires
-    mul-past
-    byte-at-requires-2
-    add-past
-    add-past-2
-    stands-requires
+    (search needs)
+    (search needs)
+    (search needs)
+    (search needs)
+    (search needs)
+    (search needs)
     returns
     returns-2)

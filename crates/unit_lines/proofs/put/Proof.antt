@@ -16,17 +16,11 @@ room-at c =
     let a = c .before .before .before .before .args in
     room-for (a .line) (length (now (a .cells))) (length (now (a .unit))) (sym (c .before .has-room .ensures) ∙ c .if1 .taken)
 
-has-room-requires : tie.Need-has-room-requires
-has-room-requires c κs = search needs
-
 sub-put-frame : tie.Need-sub-put-frame
 sub-put-frame c = omega (arith, room-at c .2)
 
 part-put-frame-start : tie.Need-part-put-frame-start
 part-put-frame-start c = omega (arith, room-at c .2)
-
-part-put-frame-end : tie.Need-part-put-frame-end
-part-put-frame-end c = search needs
 
 put-frame-requires : tie.Need-put-frame-requires
 put-frame-requires c κs = let r = room-at (c .before) in (r .1, rw part-is (simp length-drop (omega (arith, r .2))))
@@ -39,9 +33,6 @@ add-t11 c = omega (arith, room-at (c .before .before .before .before .before) .2
 
 add-t16 : tie.Need-add-t16
 add-t16 c = let r = room-at (c .before .before .before .before .before) in omega (arith, r .1, r .2, c .before .before .before .before .before .before .before .before .before .good)
-
-same-length : tie.Need-same-length
-same-length c = search needs
 
 returns : tie.Need-returns
 unfolding written
@@ -63,14 +54,14 @@ pub put-spec : {M : Type 1} → statement M
 put-spec =
     tie.close
     (tie.spec
-    has-room-requires
+    (search needs)
     sub-put-frame
     part-put-frame-start
-    part-put-frame-end
+    (search needs)
     put-frame-requires
     add-t14
     add-t11
     add-t16
-    same-length
+    (search needs)
     returns
     returns-2)

@@ -11,15 +11,6 @@ use borrow.Author.Needs.{needs}
 use Rattle.unit_lines.proofs.put_frame.Statement.{statement}
 use Rattle.unit_lines.proofs.put_frame.Tie as tie
 
-cast-cells : tie.Need-cast-cells
-cast-cells c = search needs
-
-slice-write-cells : tie.Need-slice-write-cells
-slice-write-cells c = search needs
-
-cast-cells-2 : tie.Need-cast-cells-2
-cast-cells-2 c = search needs
-
 slice-write-cells-2 : tie.Need-slice-write-cells-2
 slice-write-cells-2 c = simp length-set (omega arith)
 
@@ -28,9 +19,6 @@ sub-copy c = simp length-set (omega arith)
 
 part-copy-start : tie.Need-part-copy-start
 part-copy-start c = simp length-set (omega arith)
-
-part-copy-end : tie.Need-part-copy-end
-part-copy-end c = search needs
 
 copy-requires : tie.Need-copy-requires
 copy-requires c κs = rw part-is (simp (length-drop, length-set) (omega arith))
@@ -49,13 +37,13 @@ pub put-frame-spec : {M : Type 1} → statement M
 put-frame-spec =
     tie.close
     (tie.spec
-    cast-cells
-    slice-write-cells
-    cast-cells-2
+    (search needs)
+    (search needs)
+    (search needs)
     slice-write-cells-2
     sub-copy
     part-copy-start
-    part-copy-end
+    (search needs)
     copy-requires
     same-length
     returns)

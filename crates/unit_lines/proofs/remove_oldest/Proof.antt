@@ -18,12 +18,6 @@ within c =
     let w = end-within (a .line) (now (a .cells)) (λ z. c .if1 .left (c .before .oldest-end .ensures .0 ∙ z)) in
     (w .0, w .1, w .2)
 
-oldest-end-requires : tie.Need-oldest-end-requires
-oldest-end-requires c κs = search needs
-
-same-length : tie.Need-same-length
-same-length c = search needs
-
 returns : tie.Need-returns
 returns c =
     let a = c .before .before .before .before .args in (
@@ -37,17 +31,11 @@ slice-relend-prefix-move-to-front c = within c .1
 slice-aggregate-move-to-front : tie.Need-slice-aggregate-move-to-front
 slice-aggregate-move-to-front c = let a = c .before .before .before .before .before .args in sym (length-take-le (a .line .used) (now (a .cells)) (within (c .before) .1))
 
-move-to-front-requires : tie.Need-move-to-front-requires
-move-to-front-requires c κs = search needs
-
 sub-t11 : tie.Need-sub-t11
 sub-t11 c = within (c .before .before .before .before .before) .0
 
 sub-t12 : tie.Need-sub-t12
 sub-t12 c = rw (c .before .before .before .before .before .before .oldest-end .ensures .0) (within (c .before .before .before .before .before) .2)
-
-same-length-2 : tie.Need-same-length-2
-same-length-2 c = search needs
 
 returns-2 : tie.Need-returns-2
 returns-2 c =
@@ -61,13 +49,13 @@ pub remove-oldest-spec : {M : Type 1} → statement M
 remove-oldest-spec =
     tie.close
     (tie.spec
-    oldest-end-requires
-    same-length
+    (search needs)
+    (search needs)
     returns
     slice-relend-prefix-move-to-front
     slice-aggregate-move-to-front
-    move-to-front-requires
+    (search needs)
     sub-t11
     sub-t12
-    same-length-2
+    (search needs)
     returns-2)

@@ -2,11 +2,8 @@ use borrow.Author.Needs.{needs}
 use Rattle.control.proofs.Control.bid_at_bidder.Statement.{statement}
 use Rattle.control.proofs.Control.bid_at_bidder.Tie as tie
 
-is-bidder-requires : tie.Need-is-bidder-requires
-is-bidder-requires c κs = search needs
-
 returns : tie.Need-returns
 returns c = rw (c .is-bidder .ensures)
 
 pub bid-at-bidder-spec : {M : Type 1} → statement M
-bid-at-bidder-spec = tie.close (tie.spec is-bidder-requires returns)
+bid-at-bidder-spec = tie.close (tie.spec (search needs) returns)

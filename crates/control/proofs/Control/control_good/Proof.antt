@@ -3,18 +3,6 @@ use borrow.Author.Needs.{needs}
 use Rattle.control.proofs.Control.control_good.Statement.{statement}
 use Rattle.control.proofs.Control.control_good.Tie as tie
 
-mark-in-receive-requires : tie.Need-mark-in-receive-requires
-mark-in-receive-requires c κs = search needs
-
-due-in-send-requires : tie.Need-due-in-send-requires
-due-in-send-requires c κs = search needs
-
-bid-at-bidder-requires : tie.Need-bid-at-bidder-requires
-bid-at-bidder-requires c κs = search needs
-
-chain-in-send-requires : tie.Need-chain-in-send-requires
-chain-in-send-requires c κs = search needs
-
 returns : tie.Need-returns
 unfolding controlGood
 returns c = rw (
@@ -28,8 +16,8 @@ pub control-good-spec : {M : Type 1} → statement M
 control-good-spec =
     tie.close
     (tie.spec
-    mark-in-receive-requires
-    due-in-send-requires
-    bid-at-bidder-requires
-    chain-in-send-requires
+    (search needs)
+    (search needs)
+    (search needs)
+    (search needs)
     returns)

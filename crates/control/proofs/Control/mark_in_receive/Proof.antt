@@ -2,14 +2,8 @@ use borrow.Author.Needs.{needs}
 use Rattle.control.proofs.Control.mark_in_receive.Statement.{statement}
 use Rattle.control.proofs.Control.mark_in_receive.Tie as tie
 
-is-nothing-requires : tie.Need-is-nothing-requires
-is-nothing-requires c κs = search needs
-
-is-receive-requires : tie.Need-is-receive-requires
-is-receive-requires c κs = search needs
-
 returns : tie.Need-returns
 returns c = rw (c .is-receive .ensures, c .before .is-nothing .ensures)
 
 pub mark-in-receive-spec : {M : Type 1} → statement M
-mark-in-receive-spec = tie.close (tie.spec is-nothing-requires is-receive-requires returns)
+mark-in-receive-spec = tie.close (tie.spec (search needs) (search needs) returns)

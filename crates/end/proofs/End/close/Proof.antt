@@ -1,54 +1,52 @@
-use mathlib.Core.Path.{sym, _∙_}
+use mathlib.Core.Path.{refl, sym, ap, _∙_}
 use lib.ListN.{length}
 use denote.Ref.{now}
-use native.Mathlib.Omega.{arith}
-use borrow.Author.Tests.{eq-eqb, ne-eqb}
+use Rattle.header.specs.declared.ChainEnd.the-variants.{Last}
+use Rattle.end.specs.declared.Done.{Done}
+use Rattle.end.specs.Requests.{dataHeader}
+use Rattle.end.specs.SendData.{heldBytes}
+use Rattle.end.specs.Outcome.{Out, cellsOut, doneOf}
+use Rattle.end.specs.Results.{madeBy}
 use Rattle.end.specs.Close.{closeDecision, close}
-use Rattle.end.proofs.Rooms.{close-room}
+use Rattle.end.proofs.Makes.{stays, goes}
+use Rattle.end.proofs.Makings.{close-makes, close-goes}
 use borrow.Author.Needs.{needs}
 use Rattle.end.proofs.End.close.Statement.{statement}
 use Rattle.end.proofs.End.close.Tie as tie
 
-close-refusal-requires : tie.Need-close-refusal-requires
-close-refusal-requires c κs = search needs
-
-refused-requires : tie.Need-refused-requires
-refused-requires c κs = search needs
-
 returns : tie.Need-returns
-unfolding close closeDecision
-returns c = rw (c .refused .ensures, ← c .before .before .close-refusal .ensures, ne-eqb _ _ (c .before .if1 .taken), ne-eqb _ _ (c .before .if1 .taken))
+unfolding close
+returns c = let a = c .before .before .before .before .before .args in
+    let send = now (a .send) in
+    let unit = now (a .unit) in
+    let d = closeDecision (a .self) (a .follows) (a .confirm) send (length unit) in
+    let e = c .before .before .close-decision .ensures send refl in
+    let said = ap (λ (y : Done). y .answer .unit) e in
+    let m = close-makes (a .self) (a .follows) (a .confirm) send (length unit) in
+    let o = stays d (d .end .sending .number) (dataHeader (a .self) (Last (a .follows) (a .confirm))) (heldBytes (a .self) send) (length unit) m (sym said ∙ c .if1 .taken) in
+    rw e (sym (ap (λ (x : Out). madeBy (doneOf d) (cellsOut x unit)) o))
 
-nothing-goes-requires : tie.Need-nothing-goes-requires
-nothing-goes-requires c κs = search needs
-
-accepted-requires : tie.Need-accepted-requires
-accepted-requires c κs = search needs
+send-held-requires : tie.Need-send-held-requires
+send-held-requires c κs = let a = c .before .before .before .before .before .before .before .args in
+    let send = now (a .send) in
+    let unit = now (a .unit) in
+    let d = closeDecision (a .self) (a .follows) (a .confirm) send (length unit) in
+    let e = c .before .before .before .before .close-decision .ensures send refl in
+    let said = ap (λ (y : Done). y .answer .unit) e in
+    let r = close-goes (a .self) (a .follows) (a .confirm) send (length unit) (λ z. c .before .before .if1 .left (said ∙ z)) in
+    (r .in-send, r .in-unit)
 
 returns-2 : tie.Need-returns-2
-unfolding close closeDecision
-returns-2 c = rw (c .accepted .ensures, eq-eqb _ _ (sym (c .before .before .before .before .close-refusal .ensures) ∙ c .before .before .before .if1 .left), sym (c .before .before .nothing-goes .ensures) ∙ c .before .if2 .taken)
-
-send-last-requires : tie.Need-send-last-requires
-send-last-requires c κs = let a = c .before .before .before .before .before .before .before .args in let r = close-room (a .self) (a .follows) (a .confirm) (length (now (a .send))) (length (now (a .unit))) (sym (c .before .before .before .before .close-refusal .ensures) ∙ c .before .before .before .if1 .left) in (r .in-send, r .in-unit)
-
-same-length : tie.Need-same-length
-same-length c = search needs
-
-returns-3 : tie.Need-returns-3
-unfolding close closeDecision
-returns-3 c = rw (eq-eqb _ _ (sym (c .before .before .before .before .before .before .before .close-refusal .ensures) ∙ c .before .before .before .before .before .before .if1 .left), sym (c .before .before .before .before .before .nothing-goes .ensures) ∙ c .before .before .before .before .if2 .left) (c .before .before .send-last .ensures)
+unfolding close
+returns-2 c = let a = c .before .before .before .before .before .before .before .before .before .before .args in
+    let send = now (a .send) in
+    let unit = now (a .unit) in
+    let d = closeDecision (a .self) (a .follows) (a .confirm) send (length unit) in
+    let e = c .before .before .before .before .before .before .before .close-decision .ensures send refl in
+    let said = ap (λ (y : Done). y .answer .unit) e in
+    let m = close-makes (a .self) (a .follows) (a .confirm) send (length unit) in
+    let o = goes d (d .end .sending .number) (dataHeader (a .self) (Last (a .follows) (a .confirm))) (heldBytes (a .self) send) (length unit) m (λ z. c .before .before .before .before .before .if1 .left (said ∙ z)) in
+    rw (c .before .before .send-held .ensures, c .before .before .before .before .data-header .ensures, e) (sym (ap (λ (x : Out). madeBy (doneOf d) (cellsOut x unit)) (o .0)))
 
 pub close-spec : {M : Type 1} → statement M
-close-spec =
-    tie.close
-    (tie.spec
-    close-refusal-requires
-    refused-requires
-    returns
-    nothing-goes-requires
-    accepted-requires
-    returns-2
-    send-last-requires
-    same-length
-    returns-3)
+close-spec = tie.close (tie.spec (search needs) returns (search needs) send-held-requires (search needs) returns-2)

@@ -1,49 +1,24 @@
-use mathlib.Core.Path.{sym, _∙_}
+use mathlib.Core.Path.{ap}
+use mathlib.Core.List.{List, []}
+use Prim.Native.Nat.{ℕ}
 use lib.ListN.{length}
 use denote.Ref.{now}
-use native.Mathlib.Omega.{arith}
-use borrow.Author.Tests.{eq-eqb, ne-eqb}
+use Rattle.header.specs.declared.Header.the-variants.{Confirmation}
+use Rattle.end.specs.Outcome.{doneOf}
+use Rattle.end.specs.Results.{madeBy}
 use Rattle.end.specs.Confirmed.{confirmedDecision, confirmed}
-use Rattle.end.proofs.Rooms.{confirmed-room}
+use Rattle.end.proofs.Makes.{wrote}
+use Rattle.end.proofs.Makings.{confirmed-makes}
 use borrow.Author.Needs.{needs}
 use Rattle.end.proofs.End.confirmed.Statement.{statement}
 use Rattle.end.proofs.End.confirmed.Tie as tie
 
-confirmed-refusal-requires : tie.Need-confirmed-refusal-requires
-confirmed-refusal-requires c κs = search needs
-
-refused-requires : tie.Need-refused-requires
-refused-requires c κs = search needs
-
 returns : tie.Need-returns
-unfolding confirmed confirmedDecision
-returns c = rw (c .refused .ensures, ← c .before .before .confirmed-refusal .ensures, ne-eqb _ _ (c .before .if1 .taken), ne-eqb _ _ (c .before .if1 .taken))
-
-confirmation-made-requires : tie.Need-confirmation-made-requires
-confirmation-made-requires c κs = search needs
-
-with-control-requires : tie.Need-with-control-requires
-with-control-requires c κs = search needs
-
-make-fixed-requires : tie.Need-make-fixed-requires
-make-fixed-requires c κs = let a = c .before .before .before .before .before .before .args in omega (arith, confirmed-room (a .self) (length (now (a .unit))) (sym (c .before .before .before .before .confirmed-refusal .ensures) ∙ c .before .before .before .if1 .left))
-
-same-length : tie.Need-same-length
-same-length c = search needs
-
-returns-2 : tie.Need-returns-2
-unfolding confirmed confirmedDecision
-returns-2 c = rw (eq-eqb _ _ (sym (c .before .before .before .before .before .before .before .confirmed-refusal .ensures) ∙ c .before .before .before .before .before .before .if1 .left), ← c .before .before .before .before .before .confirmation-made .ensures, ← c .before .before .before .before .with-control .ensures) (c .before .before .make-fixed .ensures)
+unfolding confirmed
+returns c = let a = c .before .before .before .before .before .before .args in
+    let d = confirmedDecision (a .self) (length (now (a .unit))) in
+    rw (c .before .before .write-made .ensures, c .before .before .before .before .confirmed-decision .ensures)
+    (ap (λ (cells : List ℕ). madeBy (doneOf d) cells) (wrote d (a .self .owed) Confirmation [] (now (a .unit)) (confirmed-makes (a .self) (length (now (a .unit))))))
 
 pub confirmed-spec : {M : Type 1} → statement M
-confirmed-spec =
-    tie.close
-    (tie.spec
-    confirmed-refusal-requires
-    refused-requires
-    returns
-    confirmation-made-requires
-    with-control-requires
-    make-fixed-requires
-    same-length
-    returns-2)
+confirmed-spec = tie.close (tie.spec (search needs) (search needs) (search needs) returns)

@@ -1,76 +1,90 @@
-use mathlib.Core.Path.{sym, _∙_}
+use mathlib.Core.Path.{refl, sym, ap, _∙_}
+use native.Mathlib.Omega.{arith}
 use lib.ListN.{length}
 use denote.Ref.{now}
-use native.Mathlib.Omega.{arith}
-use borrow.Author.Tests.{eq-eqb, ne-eqb}
-use Prim.Native.Nat.{_+_}
-use borrow.Author.Tests.{leb-true, leb-false}
-use Rattle.end.specs.SendData.{bytesKept, bytesSpilled, sendDecision, sendCells, sendData}
-use Rattle.end.proofs.Spills.{send-room, sent-from}
+use Rattle.end.specs.declared.Done.{Done}
+use Rattle.end.specs.Outcome.{doneOf}
+use Rattle.end.specs.SendData.{sendDecision, sendData}
+use Rattle.end.proofs.Spills.{send-sends, send-refused}
 use borrow.Author.Needs.{needs}
 use Rattle.end.proofs.End.send_data.Statement.{statement}
 use Rattle.end.proofs.End.send_data.Tie as tie
 
-walk-given-requires : tie.Need-walk-given-requires
-walk-given-requires c κs = search needs
-
-send-refusal-requires : tie.Need-send-refusal-requires
-send-refusal-requires c κs = search needs
-
-refused-requires : tie.Need-refused-requires
-refused-requires c κs = search needs
-
 returns : tie.Need-returns
-unfolding sendData sendDecision sendCells bytesKept bytesSpilled
-returns c = rw (c .refused .ensures, ← c .before .before .send-refusal .ensures, ne-eqb _ _ (c .before .if1 .taken), ne-eqb _ _ (c .before .if1 .taken))
-
-keeps-requires : tie.Need-keeps-requires
-keeps-requires c κs = search needs
+unfolding sendData
+returns c = let a = c .before .before .before .before .before .before .args in
+    let bytes = now (a .bytes) in
+    let send = now (a .send) in
+    let unit = now (a .unit) in
+    let e = c .before .before .send-decision .ensures send refl in
+    let number = ap (λ (y : Done). y .answer .refusal) e in
+    let d = sendDecision (a .self) bytes send (length unit) in
+    let s = send-refused (a .self) bytes send unit (λ z. c .if1 .taken (number ∙ z)) in
+    rw e (λ i. record { done = doneOf d; send = sym (s .0) i; unit = sym (s .1) i })
 
 keep-requires : tie.Need-keep-requires
-keep-requires c κs = let a = c .before .before .before .before .before .before .before .before .before .args in let n = length (now (a .bytes)) in let r = send-room (a .self) (now (a .bytes)) (length (now (a .send))) (length (now (a .unit))) (sym (c .before .before .before .before .send-refusal .ensures) ∙ c .before .before .before .if1 .left) in (leb-true (a .self .sending .held + n) (a .self .sending .max) (sym (c .before .before .keeps .ensures) ∙ c .before .if2 .taken), r .in-send)
-
-with-sending-requires : tie.Need-with-sending-requires
-with-sending-requires c κs = search needs
-
-accepted-requires : tie.Need-accepted-requires
-accepted-requires c κs = search needs
-
-same-length : tie.Need-same-length
-same-length c = search needs
+keep-requires c κs = let a = c .before .before .before .before .before .before .before .before .before .args in
+    let bytes = now (a .bytes) in
+    let send = now (a .send) in
+    let unit = now (a .unit) in
+    let e = c .before .before .before .before .before .send-decision .ensures send refl in
+    let number = ap (λ (y : Done). y .answer .refusal) e in
+    let said = ap (λ (y : Done). y .answer .unit) e in
+    let s = send-sends (a .self) bytes send unit (sym number ∙ c .before .before .before .if1 .left) in
+    omega (arith, s .if-kept (sym said ∙ c .before .if2 .taken) .0, s .room .in-send)
 
 returns-2 : tie.Need-returns-2
-unfolding sendData sendDecision sendCells bytesKept bytesSpilled
-returns-2 c = rw (c .accepted .ensures, c .before .with-sending .ensures, c .before .before .before .before .keep .ensures .0, c .before .before .before .before .keep .ensures .1, c .before .before .before .before .before .before .before .before .before .before .walk-given .ensures, eq-eqb _ _ (sym (c .before .before .before .before .before .before .before .before .before .send-refusal .ensures) ∙ c .before .before .before .before .before .before .before .before .if1 .left), sym (c .before .before .before .before .before .before .before .keeps .ensures) ∙ c .before .before .before .before .before .before .if2 .taken)
+unfolding sendData
+returns-2 c = let a = c .before .before .before .before .before .before .before .before .before .before .before .before .args in
+    let bytes = now (a .bytes) in
+    let send = now (a .send) in
+    let unit = now (a .unit) in
+    let e = c .before .before .before .before .before .before .before .before .send-decision .ensures send refl in
+    let number = ap (λ (y : Done). y .answer .refusal) e in
+    let said = ap (λ (y : Done). y .answer .unit) e in
+    let s = send-sends (a .self) bytes send unit (sym number ∙ c .before .before .before .before .before .before .if1 .left) in
+    let d = sendDecision (a .self) bytes send (length unit) in
+    let k = s .if-kept (sym said ∙ c .before .before .before .before .if2 .taken) in
+    rw (c .before .before .keep .ensures, e) (λ i. record { done = doneOf d; send = sym (k .1) i; unit = sym (k .2) i })
 
-spill-requires : tie.Need-spill-requires
-spill-requires c κs = let a = c .before .before .before .before .before .before .before .before .before .before .args in let n = length (now (a .bytes)) in let r = send-room (a .self) (now (a .bytes)) (length (now (a .send))) (length (now (a .unit))) (sym (c .before .before .before .before .before .send-refusal .ensures) ∙ c .before .before .before .before .if1 .left) in (c .before .before .before .before .before .before .walk-given .ensures, r .rules .held-in, leb-false (a .self .sending .held + n) (a .self .sending .max) (sym (c .before .before .before .keeps .ensures) ∙ c .before .before .if2 .left), r .most, r .in-send, r .in-unit)
+sub-gone : tie.Need-sub-gone
+sub-gone c = let a = c .before .before .before .before .before .before .before .before .before .before .before .args in
+    let bytes = now (a .bytes) in
+    let send = now (a .send) in
+    let unit = now (a .unit) in
+    let e = c .before .before .before .before .before .before .before .send-decision .ensures send refl in
+    let number = ap (λ (y : Done). y .answer .refusal) e in
+    let s = send-sends (a .self) bytes send unit (sym number ∙ c .before .before .before .before .before .if1 .left) in
+    omega (arith, s .room .rules .held)
 
-same-length-2 : tie.Need-same-length-2
-same-length-2 c = search needs
-
-same-length-3 : tie.Need-same-length-3
-same-length-3 c = search needs
+send-full-requires : tie.Need-send-full-requires
+send-full-requires c κs = let a = c .before .before .before .before .before .before .before .before .before .before .before .before .before .args in
+    let bytes = now (a .bytes) in
+    let send = now (a .send) in
+    let unit = now (a .unit) in
+    let e = c .before .before .before .before .before .before .before .before .before .send-decision .ensures send refl in
+    let number = ap (λ (y : Done). y .answer .refusal) e in
+    let said = ap (λ (y : Done). y .answer .unit) e in
+    let s = send-sends (a .self) bytes send unit (sym number ∙ c .before .before .before .before .before .before .before .if1 .left) in
+    let past = s .if-gone (λ z. c .before .before .before .before .before .if2 .left (said ∙ z)) .0 in
+    let r = s .room in
+    let h = r .rules .held in
+    (omega (arith, h, r .in-send), omega (arith, h, past), omega (arith, r .most, r .in-send), omega (arith, h, r .in-unit))
 
 returns-3 : tie.Need-returns-3
-unfolding sendData sendDecision sendCells bytesKept bytesSpilled
-returns-3 c = let a = c .before .before .before .before .before .before .before .before .before .before .before .before .before .before .before .args in rw (eq-eqb _ _ (sym (c .before .before .before .before .before .before .before .before .before .before .send-refusal .ensures) ∙ c .before .before .before .before .before .before .before .before .before .if1 .left), sym (c .before .before .before .before .before .before .before .before .keeps .ensures) ∙ c .before .before .before .before .before .before .before .if2 .left) (sent-from (bytesSpilled (a .self) (now (a .bytes)) (now (a .send))) (now (a .unit)) (c .before .before .before .before .spill .ensures .0) (c .before .before .before .before .spill .ensures .1))
+unfolding sendData
+returns-3 c = let a = c .before .before .before .before .before .before .before .before .before .before .before .before .before .before .before .before .before .before .args in
+    let bytes = now (a .bytes) in
+    let send = now (a .send) in
+    let unit = now (a .unit) in
+    let e = c .before .before .before .before .before .before .before .before .before .before .before .before .before .before .send-decision .ensures send refl in
+    let number = ap (λ (y : Done). y .answer .refusal) e in
+    let said = ap (λ (y : Done). y .answer .unit) e in
+    let s = send-sends (a .self) bytes send unit (sym number ∙ c .before .before .before .before .before .before .before .before .before .before .before .before .if1 .left) in
+    let d = sendDecision (a .self) bytes send (length unit) in
+    let g = s .if-gone (λ z. c .before .before .before .before .before .before .before .before .before .before .if2 .left (said ∙ z)) in
+    rw (c .before .before .before .before .send-full .ensures .0, c .before .before .before .before .send-full .ensures .1, c .before .before .before .before .before .before .before .before .before .data-header .ensures, e)
+    (λ i. record { done = doneOf d; send = sym (g .1) i; unit = sym (g .2) i })
 
 pub send-data-spec : {M : Type 1} → statement M
-send-data-spec =
-    tie.close
-    (tie.spec
-    walk-given-requires
-    send-refusal-requires
-    refused-requires
-    returns
-    keeps-requires
-    keep-requires
-    with-sending-requires
-    accepted-requires
-    same-length
-    returns-2
-    spill-requires
-    same-length-2
-    same-length-3
-    returns-3)
+send-data-spec = tie.close (tie.spec (search needs) returns keep-requires (search needs) returns-2 (search needs) (search needs) sub-gone (search needs) send-full-requires (search needs) (search needs) returns-3)

@@ -1,36 +1,9 @@
--- `unit::build::build_header` meets its contract. Each arm is the row of its kind.
+-- `header::build::build_header` meets its contract. Each arm is the row of its kind.
 -- Assumes nothing.
 use Rattle.header.specs.Header.{headerBytes}
 use borrow.Author.Needs.{needs}
 use Rattle.header.proofs.build.build_header.Statement.{statement}
 use Rattle.header.proofs.build.build_header.Tie as tie
-
-enum-known-h : tie.Need-enum-known-h
-enum-known-h c = search needs
-
-build-data-requires : tie.Need-build-data-requires
-build-data-requires c κs = search needs
-
-enum-known-h-2 : tie.Need-enum-known-h-2
-enum-known-h-2 c = search needs
-
-bit-of-requires : tie.Need-bit-of-requires
-bit-of-requires c κs = search needs
-
-add-t6 : tie.Need-add-t6
-add-t6 c = search needs
-
-enum-told : tie.Need-enum-told
-enum-told c = search needs
-
-enum-told-2 : tie.Need-enum-told-2
-enum-told-2 c = search needs
-
-enum-told-3 : tie.Need-enum-told-3
-enum-told-3 c = search needs
-
-enum-told-4 : tie.Need-enum-told-4
-enum-told-4 c = search needs
 
 returns : tie.Need-returns
 unfolding headerBytes
@@ -60,15 +33,15 @@ pub build-header-spec : {M : Type 1} → statement M
 build-header-spec =
     tie.close
     (tie.spec
-    enum-known-h
-    build-data-requires
-    enum-known-h-2
-    bit-of-requires
-    add-t6
-    enum-told
-    enum-told-2
-    enum-told-3
-    enum-told-4
+    (search needs)
+    (search needs)
+    (search needs)
+    (search needs)
+    (search needs)
+    (search needs)
+    (search needs)
+    (search needs)
+    (search needs)
     returns
     returns-2
     returns-3

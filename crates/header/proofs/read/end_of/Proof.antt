@@ -1,4 +1,4 @@
--- `unit::read::end_of` meets its contract. The arm that was taken is what `cond` picks.
+-- `header::read::end_of` meets its contract. The arm that was taken is what `cond` picks.
 -- Assumes nothing.
 use borrow.Author.Needs.{needs}
 use Rattle.header.proofs.read.end_of.Statement.{statement}
@@ -7,8 +7,5 @@ use Rattle.header.proofs.read.end_of.Tie as tie
 returns : tie.Need-returns
 returns c = rw (c .if1 .taken)
 
-returns-2 : tie.Need-returns-2
-returns-2 c = search needs
-
 pub end-of-spec : {M : Type 1} → statement M
-end-of-spec = tie.close (tie.spec returns returns-2)
+end-of-spec = tie.close (tie.spec returns (λ c. search needs))

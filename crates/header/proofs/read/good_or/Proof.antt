@@ -1,4 +1,4 @@
--- `unit::read::good_or` meets its contract. The arm that was taken is what `cond` picks.
+-- `header::read::good_or` meets its contract. The arm that was taken is what `cond` picks.
 -- Assumes nothing.
 use Rattle.header.proofs.read.good_or.Statement.{statement}
 use Rattle.header.proofs.read.good_or.Tie as tie

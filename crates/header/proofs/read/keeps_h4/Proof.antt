@@ -1,17 +1,11 @@
--- `unit::read::keeps_h4` meets its contract. It is the rule, of the two tests that it calls.
+-- `header::read::keeps_h4` meets its contract. It is the rule, of the two tests that it calls.
 -- Assumes nothing.
 use borrow.Author.Needs.{needs}
 use Rattle.header.proofs.read.keeps_h4.Statement.{statement}
 use Rattle.header.proofs.read.keeps_h4.Tie as tie
 
-requests-confirmation-requires : tie.Need-requests-confirmation-requires
-requests-confirmation-requires c κs = search needs
-
-has-requires : tie.Need-has-requires
-has-requires c κs = search needs
-
 returns : tie.Need-returns
 returns c = rw (c .has .ensures, c .before .requests-confirmation .ensures)
 
 pub keeps-h4-spec : {M : Type 1} → statement M
-keeps-h4-spec = tie.close (tie.spec requests-confirmation-requires has-requires returns)
+keeps-h4-spec = tie.close (tie.spec (search needs) (search needs) returns)

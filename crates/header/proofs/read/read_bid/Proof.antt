@@ -1,4 +1,4 @@
--- `unit::read::read_bid` meets its contract. It is `bidRead`, of the bit that is read.
+-- `header::read::read_bid` meets its contract. It is `bidRead`, of the bit that is read.
 -- Assumes nothing.
 use mathlib.Core.Path.{_∙_, ap}
 use mathlib.Core.Bool.{Bool, _&&_, _||_}
@@ -10,12 +10,6 @@ use borrow.Author.Needs.{needs}
 use Rattle.header.proofs.read.read_bid.Statement.{statement}
 use Rattle.header.proofs.read.read_bid.Tie as tie
 
-has-requires : tie.Need-has-requires
-has-requires c κs = search needs
-
-good-or-requires : tie.Need-good-or-requires
-good-or-requires c κs = search needs
-
 returns : tie.Need-returns
 returns c =
     let a = c .before .before .args in
@@ -23,4 +17,4 @@ returns c =
     ∙ ap (λ (p : Bool). goodOr ((eqb (a .b1) 0x80 || eqb (a .b1) 0x81) && eqb (a .b2) 0x80) (Bid p) H2) (c .before .has .ensures)
 
 pub read-bid-spec : {M : Type 1} → statement M
-read-bid-spec = tie.close (tie.spec has-requires good-or-requires returns)
+read-bid-spec = tie.close (tie.spec (search needs) (search needs) returns)

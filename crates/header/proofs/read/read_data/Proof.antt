@@ -1,4 +1,4 @@
--- `unit::read::read_data` meets its contract. The first rule of H3 to H6 that is broken is returned, as `dataRead` picks it.
+-- `header::read::read_data` meets its contract. The first rule of H3 to H6 that is broken is returned, as `dataRead` picks it.
 -- Assumes nothing.
 use borrow.Author.Tests.{not-true, not-false}
 use Rattle.header.specs.Reading.{dataRead}
@@ -6,17 +6,11 @@ use borrow.Author.Needs.{needs}
 use Rattle.header.proofs.read.read_data.Statement.{statement}
 use Rattle.header.proofs.read.read_data.Tie as tie
 
-keeps-h3-requires : tie.Need-keeps-h3-requires
-keeps-h3-requires c κs = search needs
-
 returns : tie.Need-returns
 unfolding dataRead
 returns c =
     let k3 = c .before .keeps-h3 in
     rw (← k3 .ensures, not-true (k3 .result) (c .if1 .taken))
-
-keeps-h4-requires : tie.Need-keeps-h4-requires
-keeps-h4-requires c κs = search needs
 
 returns-2 : tie.Need-returns-2
 unfolding dataRead
@@ -29,9 +23,6 @@ returns-2 c =
       ← k4 .ensures,
       not-true (k4 .result) (c .if2 .taken),
     )
-
-keeps-h5-requires : tie.Need-keeps-h5-requires
-keeps-h5-requires c κs = search needs
 
 returns-3 : tie.Need-returns-3
 unfolding dataRead
@@ -47,15 +38,6 @@ returns-3 c =
       ← k5 .ensures,
       not-true (k5 .result) (c .if3 .taken),
     )
-
-data-fields-requires : tie.Need-data-fields-requires
-data-fields-requires c κs = search needs
-
-keeps-h6-requires : tie.Need-keeps-h6-requires
-keeps-h6-requires c κs = search needs
-
-good-or-requires : tie.Need-good-or-requires
-good-or-requires c κs = search needs
 
 returns-4 : tie.Need-returns-4
 unfolding dataRead
@@ -79,13 +61,13 @@ pub read-data-spec : {M : Type 1} → statement M
 read-data-spec =
     tie.close
     (tie.spec
-    keeps-h3-requires
+    (search needs)
     returns
-    keeps-h4-requires
+    (search needs)
     returns-2
-    keeps-h5-requires
+    (search needs)
     returns-3
-    data-fields-requires
-    keeps-h6-requires
-    good-or-requires
+    (search needs)
+    (search needs)
+    (search needs)
     returns-4)

@@ -1,4 +1,4 @@
--- `unit::read::read_lowest` meets its contract. At each byte 0 of H1's list a law says what `readLowest` is; at any other it is H1 that is broken.
+-- `header::read::read_lowest` meets its contract. At each byte 0 of H1's list a law says what `readLowest` is; at any other it is H1 that is broken.
 -- Assumes nothing.
 use mathlib.Core.Path.{_∙_}
 use native.Mathlib.Omega.{arith}
@@ -6,21 +6,6 @@ use Rattle.header.proofs.Reading.{data-lowest, bid-lowest, response-low
 use borrow.Author.Needs.{needs}
 use Rattle.header.proofs.read.read_lowest.Statement.{statement}
 use Rattle.header.proofs.read.read_lowest.Tie as tie
-
-read-bid-requires : tie.Need-read-bid-requires
-read-bid-requires c κs = search needs
-
-read-response-requires : tie.Need-read-response-requires
-read-response-requires c κs = search needs
-
-read-positive-requires : tie.Need-read-positive-requires
-read-positive-requires c κs = search needs
-
-read-negative-requires : tie.Need-read-negative-requires
-read-negative-requires c κs = search needs
-
-read-data-requires : tie.Need-read-data-requires
-read-data-requires c κs = search needs
 
 returns : tie.Need-returns
 returns c = let h = c .before .before .args .h in c .read-bid .ensures ∙ bid-lowest (h .b0) (h .b1) (h .b2) (c .before .match .keys1)
@@ -46,11 +31,11 @@ pub read-lowest-spec : {M : Type 1} → statement M
 read-lowest-spec =
     tie.close
     (tie.spec
-    read-bid-requires
-    read-response-requires
-    read-positive-requires
-    read-negative-requires
-    read-data-requires
+    (search needs)
+    (search needs)
+    (search needs)
+    (search needs)
+    (search needs)
     returns
     returns-2
     returns-3

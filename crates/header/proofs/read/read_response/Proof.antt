@@ -1,4 +1,4 @@
--- `unit::read::read_response` meets its contract. A confirmation is returned at once, and a pacing response is what is left.
+-- `header::read::read_response` meets its contract. A confirmation is returned at once, and a pacing response is what is left.
 -- Assumes nothing.
 use borrow.Author.Needs.{needs}
 use Rattle.header.proofs.read.read_response.Statement.{statement}
@@ -7,11 +7,8 @@ use Rattle.header.proofs.read.read_response.Tie as tie
 returns : tie.Need-returns
 returns c = rw (c .if1 .taken)
 
-good-or-requires : tie.Need-good-or-requires
-good-or-requires c κs = search needs
-
 returns-2 : tie.Need-returns-2
 returns-2 c = rw (c .good-or .ensures, c .before .if1 .left)
 
 pub read-response-spec : {M : Type 1} → statement M
-read-response-spec = tie.close (tie.spec returns good-or-requires returns-2)
+read-response-spec = tie.close (tie.spec returns (search needs) returns-2)

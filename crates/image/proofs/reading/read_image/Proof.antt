@@ -14,44 +14,17 @@ returns : tie.Need-returns
 unfolding imageRead
 returns c = rw (ne-eqb _ _ (c .if1 .taken))
 
-codes-good-requires : tie.Need-codes-good-requires
-codes-good-requires c κs = search needs
-
-flags-good-requires : tie.Need-flags-good-requires
-flags-good-requires c κs = search needs
-
 returns-2 : tie.Need-returns-2
 returns-2 c = bad-values (now (c .before .before .before .before .before .args .image)) (c .before .before .before .if1 .left) (rw (← c .before .before .codes-good .ensures, ← c .before .flags-good .ensures) (c .if2 .left))
-
-place-good-at-requires : tie.Need-place-good-at-requires
-place-good-at-requires c κs = search needs
 
 returns-3 : tie.Need-returns-3
 returns-3 c = bad-place (now (c .before .before .before .before .before .before .before .args .image)) (c .before .before .before .before .before .if1 .left) 0 (sym (c .before .place-good-at .ensures) ∙ c .if3 .left)
 
-place-at-requires : tie.Need-place-at-requires
-place-at-requires c κs = search needs
-
-place-good-at-requires-2 : tie.Need-place-good-at-requires-2
-place-good-at-requires-2 c κs = search needs
-
 returns-4 : tie.Need-returns-4
 returns-4 c = bad-place (now (c .before .before .before .before .before .before .before .before .before .before .args .image)) (c .before .before .before .before .before .before .before .before .if1 .left) 1 (sym (c .before .place-good-at2 .ensures) ∙ c .if4 .left)
 
-place-at-requires-2 : tie.Need-place-at-requires-2
-place-at-requires-2 c κs = search needs
-
-place-good-at-requires-3 : tie.Need-place-good-at-requires-3
-place-good-at-requires-3 c κs = search needs
-
 returns-5 : tie.Need-returns-5
 returns-5 c = bad-place (now (c .before .before .before .before .before .before .before .before .before .before .before .before .before .args .image)) (c .before .before .before .before .before .before .before .before .before .before .before .if1 .left) 2 (sym (c .before .place-good-at3 .ensures) ∙ c .if5 .left)
-
-place-at-requires-3 : tie.Need-place-at-requires-3
-place-at-requires-3 c κs = search needs
-
-record-in-requires : tie.Need-record-in-requires
-record-in-requires c κs = search needs
 
 returns-6 : tie.Need-returns-6
 returns-6 c = let i = now (c .before .before .before .before .before .before .before .before .before .before .before .before .before .before .before .args .image) in
@@ -67,17 +40,17 @@ read-image-spec =
     tie.close
     (tie.spec
     returns
-    codes-good-requires
-    flags-good-requires
+    (search needs)
+    (search needs)
     returns-2
-    place-good-at-requires
+    (search needs)
     returns-3
-    place-at-requires
-    place-good-at-requires-2
+    (search needs)
+    (search needs)
     returns-4
-    place-at-requires-2
-    place-good-at-requires-3
+    (search needs)
+    (search needs)
     returns-5
-    place-at-requires-3
-    record-in-requires
+    (search needs)
+    (λ c κs. search needs)
     returns-6)

@@ -6,11 +6,8 @@ use borrow.Author.Needs.{needs}
 use Rattle.image.proofs.theorems.read_is_written.Statement.{statement}
 use Rattle.image.proofs.theorems.read_is_written.Tie as tie
 
-read-image-requires : tie.Need-read-image-requires
-read-image-requires c κs = search needs
-
 returns : tie.Need-returns
 returns c = read-is-written (now (c .before .before .args .image)) (λ i. c .before .shared-slice-known .given i .fits)
 
 pub read-is-written-spec : {M : Type 1} → statement M
-read-is-written-spec = tie.close (tie.spec read-image-requires returns)
+read-is-written-spec = tie.close (tie.spec (search needs) returns)

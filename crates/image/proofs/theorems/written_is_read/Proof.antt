@@ -5,15 +5,6 @@ use borrow.Author.Needs.{needs}
 use Rattle.image.proofs.theorems.written_is_read.Statement.{statement}
 use Rattle.image.proofs.theorems.written_is_read.Tie as tie
 
-first-byte-requires : tie.Need-first-byte-requires
-first-byte-requires c κs = search needs
-
-first-byte-requires-2 : tie.Need-first-byte-requires-2
-first-byte-requires-2 c κs = search needs
-
-first-byte-requires-3 : tie.Need-first-byte-requires-3
-first-byte-requires-3 c κs = search needs
-
 returns : tie.Need-returns
 returns c = let e = c .before .before .before .before .before .args .end in
     written-is-read e (rw (← c .before .before .first-byte .ensures) (search needs))
@@ -21,4 +12,4 @@ returns c = let e = c .before .before .before .before .before .args .end in
 
 pub written-is-read-spec : {M : Type 1} → statement M
 written-is-read-spec =
-    tie.close (tie.spec first-byte-requires first-byte-requires-2 first-byte-requires-3 returns)
+    tie.close (tie.spec (search needs) (search needs) (search needs) returns)

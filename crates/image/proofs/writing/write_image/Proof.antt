@@ -16,24 +16,6 @@ returns : tie.Need-returns
 unfolding imageWritten
 returns c = rw (ne-eqb _ _ (c .if1 .taken))
 
-write-control-requires : tie.Need-write-control-requires
-write-control-requires c κs = search needs
-
-write-sending-requires : tie.Need-write-sending-requires
-write-sending-requires c κs = search needs
-
-write-receiving-requires : tie.Need-write-receiving-requires
-write-receiving-requires c κs = search needs
-
-write-number-requires : tie.Need-write-number-requires
-write-number-requires c κs = search needs
-
-write-number-requires-2 : tie.Need-write-number-requires-2
-write-number-requires-2 c κs = search needs
-
-same-length : tie.Need-same-length
-same-length c = search needs
-
 returns-2 : tie.Need-returns-2
 unfolding imageWritten imageOf
 returns-2 c = let a = c .before .before .before .before .before .before .before .before .before .before .before .before .before .before .before .before .before .before .before .before .before .before .before .before .args in
@@ -57,10 +39,10 @@ write-image-spec =
     tie.close
     (tie.spec
     returns
-    write-control-requires
-    write-sending-requires
-    write-receiving-requires
-    write-number-requires
-    write-number-requires-2
-    same-length
+    (search needs)
+    (search needs)
+    (search needs)
+    (search needs)
+    (search needs)
+    (search needs)
     returns-2)

@@ -9,30 +9,6 @@ use borrow.Author.Needs.{needs}
 use Rattle.image.proofs.writing.write_receiving.Statement.{statement}
 use Rattle.image.proofs.writing.write_receiving.Tie as tie
 
-write-window-requires : tie.Need-write-window-requires
-write-window-requires c κs = search needs
-
-write-number-requires : tie.Need-write-number-requires
-write-number-requires c κs = search needs
-
-write-number-requires-2 : tie.Need-write-number-requires-2
-write-number-requires-2 c κs = search needs
-
-write-number-requires-3 : tie.Need-write-number-requires-3
-write-number-requires-3 c κs = search needs
-
-write-number-requires-4 : tie.Need-write-number-requires-4
-write-number-requires-4 c κs = search needs
-
-write-place-requires : tie.Need-write-place-requires
-write-place-requires c κs = search needs
-
-write-place-requires-2 : tie.Need-write-place-requires-2
-write-place-requires-2 c κs = search needs
-
-same-length : tie.Need-same-length
-same-length c = search needs
-
 returns : tie.Need-returns
 returns c = let a = c .before .before .before .before .before .before .before .before .before .before .before .before .before .before .before .before .before .before .before .before .before .before .before .before .before .before .before .before .before .before .args in
     rw (
@@ -53,12 +29,12 @@ pub write-receiving-spec : {M : Type 1} → statement M
 write-receiving-spec =
     tie.close
     (tie.spec
-    write-window-requires
-    write-number-requires
-    write-number-requires-2
-    write-number-requires-3
-    write-number-requires-4
-    write-place-requires
-    write-place-requires-2
-    same-length
+    (search needs)
+    (search needs)
+    (search needs)
+    (search needs)
+    (search needs)
+    (search needs)
+    (search needs)
+    (search needs)
     returns)

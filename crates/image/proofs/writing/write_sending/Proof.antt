@@ -9,24 +9,6 @@ use borrow.Author.Needs.{needs}
 use Rattle.image.proofs.writing.write_sending.Statement.{statement}
 use Rattle.image.proofs.writing.write_sending.Tie as tie
 
-write-window-requires : tie.Need-write-window-requires
-write-window-requires c κs = search needs
-
-write-number-requires : tie.Need-write-number-requires
-write-number-requires c κs = search needs
-
-write-number-requires-2 : tie.Need-write-number-requires-2
-write-number-requires-2 c κs = search needs
-
-write-number-requires-3 : tie.Need-write-number-requires-3
-write-number-requires-3 c κs = search needs
-
-write-place-requires : tie.Need-write-place-requires
-write-place-requires c κs = search needs
-
-same-length : tie.Need-same-length
-same-length c = search needs
-
 returns : tie.Need-returns
 returns c = let a = c .before .before .before .before .before .before .before .before .before .before .before .before .before .before .before .before .before .before .before .before .before .before .args in
     rw (
@@ -44,10 +26,10 @@ pub write-sending-spec : {M : Type 1} → statement M
 write-sending-spec =
     tie.close
     (tie.spec
-    write-window-requires
-    write-number-requires
-    write-number-requires-2
-    write-number-requires-3
-    write-place-requires
-    same-length
+    (search needs)
+    (search needs)
+    (search needs)
+    (search needs)
+    (search needs)
+    (search needs)
     returns)

@@ -8,24 +8,9 @@ use borrow.Author.Needs.{needs}
 use Rattle.image_parts.proofs.parts.place_at.Statement.{statement}
 use Rattle.image_parts.proofs.parts.place_at.Tie as tie
 
-shared-slice-read-kind : tie.Need-shared-slice-read-kind
-shared-slice-read-kind c = search needs
-
-add-number-at : tie.Need-add-number-at
-add-number-at c = search needs
-
-number-at-requires : tie.Need-number-at-requires
-number-at-requires c κs = search needs
-
 returns : tie.Need-returns
 returns c = let a = c .before .before .before .before .args in
     ap Remaining (c .number-at .ensures) ∙ past-1 (now (a .image)) (a .at) (c .before .if1 .taken)
-
-add-t9 : tie.Need-add-t9
-add-t9 c = search needs
-
-shared-slice-read-t11 : tie.Need-shared-slice-read-t11
-shared-slice-read-t11 c = search needs
 
 returns-2 : tie.Need-returns-2
 returns-2 c = rw (c .before .if2 .taken)
@@ -37,11 +22,11 @@ pub place-at-spec : {M : Type 1} → statement M
 place-at-spec =
     tie.close
     (tie.spec
-    shared-slice-read-kind
-    add-number-at
-    number-at-requires
+    (search needs)
+    (search needs)
+    (search needs)
     returns
-    add-t9
-    shared-slice-read-t11
+    (search needs)
+    (search needs)
     returns-2
     returns-3)

@@ -6,26 +6,11 @@ use borrow.Author.Needs.{needs}
 use Rattle.image_parts.proofs.parts.place_good_at.Statement.{statement}
 use Rattle.image_parts.proofs.parts.place_good_at.Tie as tie
 
-shared-slice-read-kind : tie.Need-shared-slice-read-kind
-shared-slice-read-kind c = search needs
-
 returns : tie.Need-returns
 returns c = let a = c .before .before .before .args in past-1-fits (now (a .image)) (a .at) (c .if1 .taken)
 
-add-result : tie.Need-add-result
-add-result c = search needs
-
-shared-slice-read-result : tie.Need-shared-slice-read-result
-shared-slice-read-result c = search needs
-
 returns-2 : tie.Need-returns-2
 returns-2 c = rw (c .before .if2 .taken)
-
-add-number-at : tie.Need-add-number-at
-add-number-at c = search needs
-
-number-at-requires : tie.Need-number-at-requires
-number-at-requires c κs = search needs
 
 returns-3 : tie.Need-returns-3
 returns-3 c = let a = c .before .before .before .before .before .args in
@@ -35,11 +20,11 @@ pub place-good-at-spec : {M : Type 1} → statement M
 place-good-at-spec =
     tie.close
     (tie.spec
-    shared-slice-read-kind
+    (search needs)
     returns
-    add-result
-    shared-slice-read-result
+    (search needs)
+    (search needs)
     returns-2
-    add-number-at
-    number-at-requires
+    (search needs)
+    (search needs)
     returns-3)

@@ -9,23 +9,8 @@ use borrow.Author.Needs.{needs}
 use Rattle.image_parts.proofs.parts.write_number.Statement.{statement}
 use Rattle.image_parts.proofs.parts.write_number.Tie as tie
 
-cast-image : tie.Need-cast-image
-cast-image c = search needs
-
-slice-write-image : tie.Need-slice-write-image
-slice-write-image c = search needs
-
-cast-image-2 : tie.Need-cast-image-2
-cast-image-2 c = search needs
-
-add-image : tie.Need-add-image
-add-image c = search needs
-
 slice-write-image-2 : tie.Need-slice-write-image-2
 slice-write-image-2 c = simp length-set (omega arith)
-
-same-length : tie.Need-same-length
-same-length c = search needs
 
 returns : tie.Need-returns
 returns c = let a = c .args in two-stored (a .n % 256) (a .n / 256) (now (a .image)) (a .at) (c .pre)
@@ -34,10 +19,10 @@ pub write-number-spec : {M : Type 1} → statement M
 write-number-spec =
     tie.close
     (tie.spec
-    cast-image
-    slice-write-image
-    cast-image-2
-    add-image
+    (search needs)
+    (search needs)
+    (search needs)
+    (search needs)
     slice-write-image-2
-    same-length
+    (search needs)
     returns)

@@ -10,18 +10,6 @@ use borrow.Author.Needs.{needs}
 use Rattle.image_parts.proofs.parts.write_place.Statement.{statement}
 use Rattle.image_parts.proofs.parts.write_place.Tie as tie
 
-place-kind-requires : tie.Need-place-kind-requires
-place-kind-requires c κs = search needs
-
-slice-write-image : tie.Need-slice-write-image
-slice-write-image c = search needs
-
-add-write-number : tie.Need-add-write-number
-add-write-number c = search needs
-
-place-value-requires : tie.Need-place-value-requires
-place-value-requires c κs = search needs
-
 write-number-requires : tie.Need-write-number-requires
 write-number-requires c κs = simp length-set (omega arith)
 
@@ -37,10 +25,10 @@ pub write-place-spec : {M : Type 1} → statement M
 write-place-spec =
     tie.close
     (tie.spec
-    place-kind-requires
-    slice-write-image
-    add-write-number
-    place-value-requires
+    (search needs)
+    (search needs)
+    (search needs)
+    (search needs)
     write-number-requires
     same-length
     returns)

@@ -6,18 +6,6 @@ use borrow.Author.Needs.{needs}
 use Rattle.logical_record.proofs.positions.is_position.Statement.{statement}
 use Rattle.logical_record.proofs.positions.is_position.Tie as tie
 
-enum-told : tie.Need-enum-told
-enum-told c = search needs
-
-enum-known-p : tie.Need-enum-known-p
-enum-known-p c = search needs
-
-enum-known-p-2 : tie.Need-enum-known-p-2
-enum-known-p-2 c = search needs
-
-returns : tie.Need-returns
-returns c = search needs
-
 returns-2 : tie.Need-returns-2
 returns-2 c = rw (c .before .p .given .1) (sym (le-leb (c .before .p .given .0 .0) 255 (search needs)))
 
@@ -26,4 +14,4 @@ returns-3 c = rw (c .before .p2 .given .1)
 
 pub is-position-spec : {M : Type 1} → statement M
 is-position-spec =
-    tie.close (tie.spec enum-told enum-known-p enum-known-p-2 returns returns-2 returns-3)
+    tie.close (tie.spec (search needs) (search needs) (search needs) (λ c. search needs) returns-2 returns-3)

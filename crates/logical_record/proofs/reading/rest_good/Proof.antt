@@ -5,9 +5,6 @@ use borrow.Author.Needs.{needs}
 use Rattle.logical_record.proofs.reading.rest_good.Statement.{statement}
 use Rattle.logical_record.proofs.reading.rest_good.Tie as tie
 
-length-good-requires : tie.Need-length-good-requires
-length-good-requires c κs = search needs
-
 returns : tie.Need-returns
 returns c = rw (sym (c .before .length-good .ensures) ∙ c .if1 .taken)
 
@@ -15,4 +12,4 @@ returns-2 : tie.Need-returns-2
 returns-2 c = rw (sym (c .before .length-good .ensures) ∙ c .if1 .left)
 
 pub rest-good-spec : {M : Type 1} → statement M
-rest-good-spec = tie.close (tie.spec length-good-requires returns returns-2)
+rest-good-spec = tie.close (tie.spec (search needs) returns returns-2)

@@ -7,42 +7,6 @@ use borrow.Author.Needs.{needs}
 use Rattle.logical_record.proofs.reading.rest_of_record.Statement.{statement}
 use Rattle.logical_record.proofs.reading.rest_of_record.Tie as tie
 
-enum-told : tie.Need-enum-told
-enum-told c = search needs
-
-shared-slice-read-length-of : tie.Need-shared-slice-read-length-of
-shared-slice-read-length-of c = search needs
-
-shared-slice-read-length-of-2 : tie.Need-shared-slice-read-length-of-2
-shared-slice-read-length-of-2 c = search needs
-
-length-of-requires : tie.Need-length-of-requires
-length-of-requires c κs = search needs
-
-rest-good-requires : tie.Need-rest-good-requires
-rest-good-requires c κs = search needs
-
-cast-t16 : tie.Need-cast-t16
-cast-t16 c = search needs
-
-enum-known-position : tie.Need-enum-known-position
-enum-known-position c = search needs
-
-shared-slice-read-length-of-3 : tie.Need-shared-slice-read-length-of-3
-shared-slice-read-length-of-3 c = search needs
-
-length-of-requires-2 : tie.Need-length-of-requires-2
-length-of-requires-2 c κs = search needs
-
-less-requires : tie.Need-less-requires
-less-requires c κs = search needs
-
-rest-good-requires-2 : tie.Need-rest-good-requires-2
-rest-good-requires-2 c κs = search needs
-
-enum-known-position-2 : tie.Need-enum-known-position-2
-enum-known-position-2 c = search needs
-
 returns : tie.Need-returns
 returns c =
     let s = now (c .before .before .before .before .before .before .before .before .args .held) in
@@ -74,18 +38,18 @@ pub rest-of-record-spec : {M : Type 1} → statement M
 rest-of-record-spec =
     tie.close
     (tie.spec
-    enum-told
-    shared-slice-read-length-of
-    shared-slice-read-length-of-2
-    length-of-requires
-    rest-good-requires
-    cast-t16
-    enum-known-position
-    shared-slice-read-length-of-3
-    length-of-requires-2
-    less-requires
-    rest-good-requires-2
-    enum-known-position-2
+    (search needs)
+    (search needs)
+    (search needs)
+    (search needs)
+    (search needs)
+    (search needs)
+    (search needs)
+    (search needs)
+    (search needs)
+    (search needs)
+    (search needs)
+    (search needs)
     returns
     returns-2
     returns-3

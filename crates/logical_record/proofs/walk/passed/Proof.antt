@@ -6,9 +6,6 @@ use borrow.Author.Needs.{needs}
 use Rattle.logical_record.proofs.walk.passed.Statement.{statement}
 use Rattle.logical_record.proofs.walk.passed.Tie as tie
 
-cast-result : tie.Need-cast-result
-cast-result c = search needs
-
 returns : tie.Need-returns
 returns c = ⊎-elim (λ w. omega arith) (λ w. omega arith) (c .before .before .if1 .came)
 
@@ -16,4 +13,4 @@ returns-2 : tie.Need-returns-2
 returns-2 c = ⊎-elim (λ w. omega arith) (λ w. omega arith) (c .before .before .if1 .came)
 
 pub passed-spec : {M : Type 1} → statement M
-passed-spec = tie.close (tie.spec cast-result returns returns-2)
+passed-spec = tie.close (tie.spec (search needs) returns returns-2)

@@ -5,30 +5,6 @@ use borrow.Author.Needs.{needs}
 use Rattle.logical_record.proofs.walk.step.Statement.{statement}
 use Rattle.logical_record.proofs.walk.step.Tie as tie
 
-enum-told : tie.Need-enum-told
-enum-told c = search needs
-
-enum-known-from : tie.Need-enum-known-from
-enum-known-from c = search needs
-
-length-of-requires : tie.Need-length-of-requires
-length-of-requires c κs = search needs
-
-length-good-requires : tie.Need-length-good-requires
-length-good-requires c κs = search needs
-
-after-length-requires : tie.Need-after-length-requires
-after-length-requires c κs = search needs
-
-enum-known-from-2 : tie.Need-enum-known-from-2
-enum-known-from-2 c = search needs
-
-less-requires : tie.Need-less-requires
-less-requires c κs = search needs
-
-remaining-requires : tie.Need-remaining-requires
-remaining-requires c κs = search needs
-
 returns : tie.Need-returns
 returns c = cc
 
@@ -51,14 +27,14 @@ pub step-spec : {M : Type 1} → statement M
 step-spec =
     tie.close
     (tie.spec
-    enum-told
-    enum-known-from
-    length-of-requires
-    length-good-requires
-    after-length-requires
-    enum-known-from-2
-    less-requires
-    remaining-requires
+    (search needs)
+    (search needs)
+    (search needs)
+    (search needs)
+    (search needs)
+    (search needs)
+    (search needs)
+    (search needs)
     returns
     returns-2
     returns-3

@@ -24,23 +24,8 @@ abbrev μ-loop : tie.MeasureT-loop
 loop-holds : tie.Need-loop-holds Inv-loop μ-loop
 loop-holds c = (zero-le, refl)
 
-enum-known-position : tie.Need-enum-known-position Inv-loop μ-loop
-enum-known-position c = search needs
-
 sub-passed : tie.Need-sub-passed Inv-loop μ-loop
 sub-passed c = omega arith
-
-passed-requires : tie.Need-passed-requires Inv-loop μ-loop
-passed-requires c κs = search needs
-
-less-requires : tie.Need-less-requires Inv-loop μ-loop
-less-requires c κs = search needs
-
-remaining-requires : tie.Need-remaining-requires Inv-loop μ-loop
-remaining-requires c κs = search needs
-
-cast-i : tie.Need-cast-i Inv-loop μ-loop
-cast-i c = search needs
 
 add-i : tie.Need-add-i Inv-loop μ-loop
 add-i c = omega arith
@@ -62,12 +47,6 @@ loop-again c =
 shared-slice-read-step : tie.Need-shared-slice-read-step Inv-loop μ-loop
 shared-slice-read-step c = omega arith
 
-step-requires : tie.Need-step-requires Inv-loop μ-loop
-step-requires c κs = search needs
-
-enum-known-next : tie.Need-enum-known-next Inv-loop μ-loop
-enum-known-next c = search needs
-
 add-i-2 : tie.Need-add-i-2 Inv-loop μ-loop
 add-i-2 c = omega arith
 
@@ -82,9 +61,6 @@ loop-again-2 c =
       omega arith,
       walk-more (l .position) _ s (l .i) (c .before .before .before .before .before .before .loop-test .taken) e ∙ l .inv .1,
     )
-
-enum-told : tie.Need-enum-told Inv-loop μ-loop
-enum-told c = search needs
 
 returns : tie.Need-returns Inv-loop μ-loop
 returns c =
@@ -107,21 +83,21 @@ walk-over-spec =
     Inv-loop
     μ-loop
     loop-holds
-    enum-known-position
+    (search needs)
     sub-passed
-    passed-requires
-    less-requires
-    remaining-requires
-    cast-i
+    (search needs)
+    (search needs)
+    (search needs)
+    (search needs)
     add-i
     loop-less
     loop-again
     shared-slice-read-step
-    step-requires
-    enum-known-next
+    (search needs)
+    (search needs)
     add-i-2
     loop-less-2
     loop-again-2
-    enum-told
+    (search needs)
     returns
     returns-2)

@@ -4,47 +4,22 @@ use denote.Ref.{now}
 use Rattle.end.specs.Close.{flush}
 use Rattle.lu62.specs.Calls.{madeOut, flushOn}
 use Rattle.lu62.proofs.Sizes.{close-small}
-use Rattle.lu62.proofs.Arms.{refused-arm, made-unit, whole, small, made-arm}
+use Rattle.lu62.proofs.Arms.{refused-arm, made-unit, whole, made-arm}
 use borrow.Author.Needs.{needs}
 use Rattle.lu62.proofs.closing.lu62_flush.Statement.{statement}
 use Rattle.lu62.proofs.closing.lu62_flush.Tie as tie
-
-read-image-requires : tie.Need-read-image-requires
-read-image-requires c κs = search needs
-
-enum-known-read : tie.Need-enum-known-read
-enum-known-read c = search needs
-
-flush-requires : tie.Need-flush-requires
-flush-requires c κs = search needs
 
 hand-out-requires : tie.Need-hand-out-requires
 hand-out-requires c κs = let a = c .before .before .before .before .before .before .before .before .before .before .before .before .before .before .args in
     let p = c .before .before .before .before .before .before .before .before .before .read-image .ensures in
     let s = c .before .before .before .before .before .before .before .read .given .1 in
-    let sizes = small (now (a .image)) p s (λ i. c .before .before .before .before .before .before .before .before .before .before .before .before .before .slice-known .given i .fits) in
-    (made-unit (c .before .before .before .before .flush .ensures) (close-small _ _ _ _ _ (sizes .0)), whole (now (a .image)) p s)
-
-enum-known-read-2 : tie.Need-enum-known-read-2
-enum-known-read-2 c = search needs
-
-refuse-image-requires : tie.Need-refuse-image-requires
-refuse-image-requires c κs = search needs
-
-same-length : tie.Need-same-length
-same-length c = search needs
-
-same-length-2 : tie.Need-same-length-2
-same-length-2 c = search needs
+    (made-unit (c .before .before .before .before .flush .ensures) (close-small _ _ _ _ _), whole (now (a .image)) p s)
 
 returns : tie.Need-returns
 unfolding flushOn
 returns c = let a = c .before .before .before .before .before .before .before .before .before .before .before .before .before .before .before .before .before .args in
     made-arm (now (a .image)) (c .before .before .before .before .before .before .before .before .before .before .before .before .read-image .ensures) (c .before .before .before .before .before .before .before .before .before .before .read .given .1) (now (a .unit))
     (λ e. flush e (now (a .send)) (now (a .unit))) (c .before .before .before .before .before .before .before .flush .ensures) (c .before .before .hand-out .ensures)
-
-same-length-3 : tie.Need-same-length-3
-same-length-3 c = search needs
 
 returns-2 : tie.Need-returns-2
 unfolding flushOn
@@ -55,14 +30,14 @@ pub lu62-flush-spec : {M : Type 1} → statement M
 lu62-flush-spec =
     tie.close
     (tie.spec
-    read-image-requires
-    enum-known-read
-    flush-requires
+    (search needs)
+    (search needs)
+    (search needs)
     hand-out-requires
-    enum-known-read-2
-    refuse-image-requires
-    same-length
-    same-length-2
+    (search needs)
+    (search needs)
+    (search needs)
+    (search needs)
     returns
-    same-length-3
+    (search needs)
     returns-2)

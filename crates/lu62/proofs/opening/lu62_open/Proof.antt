@@ -7,21 +7,12 @@ use borrow.Author.Needs.{needs}
 use Rattle.lu62.proofs.opening.lu62_open.Statement.{statement}
 use Rattle.lu62.proofs.opening.lu62_open.Tie as tie
 
-refuse-image-requires : tie.Need-refuse-image-requires
-refuse-image-requires c κs = search needs
-
 returns : tie.Need-returns
 unfolding openedOn
 returns c = rw (ne-eqb _ _ (c .before .before .if1 .taken), c .refuse-image .ensures _)
 
-open-session-requires : tie.Need-open-session-requires
-open-session-requires c κs = search needs
-
 hand-out-requires : tie.Need-hand-out-requires
 hand-out-requires c κs = (rw (c .before .before .open-session .ensures) (opened-small _ _ _ _), c .before .before .before .if1 .left)
-
-same-length : tie.Need-same-length
-same-length c = search needs
 
 returns-2 : tie.Need-returns-2
 unfolding openedOn
@@ -31,9 +22,9 @@ pub lu62-open-spec : {M : Type 1} → statement M
 lu62-open-spec =
     tie.close
     (tie.spec
-    refuse-image-requires
+    (search needs)
     returns
-    open-session-requires
+    (search needs)
     hand-out-requires
-    same-length
+    (search needs)
     returns-2)

@@ -9,15 +9,6 @@ use borrow.Author.Needs.{needs}
 use Rattle.lu62.proofs.receiving.lu62_receive.Statement.{statement}
 use Rattle.lu62.proofs.receiving.lu62_receive.Tie as tie
 
-read-image-requires : tie.Need-read-image-requires
-read-image-requires c κs = search needs
-
-enum-known-read : tie.Need-enum-known-read
-enum-known-read c = search needs
-
-receive-requires : tie.Need-receive-requires
-receive-requires c κs = search needs
-
 hand-out-read-requires : tie.Need-hand-out-read-requires
 hand-out-read-requires c κs = let a = c .before .before .before .before .before .before .before .before .before .before .before .before .before .before .before .before .before .args in
     let p = c .before .before .before .before .before .before .before .before .before .before .before .before .read-image .ensures in
@@ -26,29 +17,11 @@ hand-out-read-requires c κs = let a = c .before .before .before .before .before
     let f = copied-sizes (c .before .before .before .before .before .before .receive .ensures) (read-small _ _ _ (sizes .2)) in
     (f .0, f .1, whole (now (a .image)) p s)
 
-enum-known-read-2 : tie.Need-enum-known-read-2
-enum-known-read-2 c = search needs
-
-refuse-image-requires : tie.Need-refuse-image-requires
-refuse-image-requires c κs = search needs
-
-same-length : tie.Need-same-length
-same-length c = search needs
-
-same-length-2 : tie.Need-same-length-2
-same-length-2 c = search needs
-
-same-length-3 : tie.Need-same-length-3
-same-length-3 c = search needs
-
 returns : tie.Need-returns
 unfolding receiveOn
 returns c = let a = c .before .before .before .before .before .before .before .before .before .before .before .before .before .before .before .before .before .before .before .before .args in
     copied-arm (now (a .image)) (c .before .before .before .before .before .before .before .before .before .before .before .before .before .before .before .read-image .ensures) (c .before .before .before .before .before .before .before .before .before .before .before .before .before .read .given .1) (now (a .inbox)) (now (a .buffer))
     (λ e. receive e (now (a .inbox)) (now (a .buffer))) (c .before .before .before .before .before .before .before .before .before .receive .ensures) (c .before .before .hand-out-read .ensures)
-
-same-length-4 : tie.Need-same-length-4
-same-length-4 c = search needs
 
 returns-2 : tie.Need-returns-2
 unfolding receiveOn
@@ -59,15 +32,15 @@ pub lu62-receive-spec : {M : Type 1} → statement M
 lu62-receive-spec =
     tie.close
     (tie.spec
-    read-image-requires
-    enum-known-read
-    receive-requires
+    (search needs)
+    (search needs)
+    (search needs)
     hand-out-read-requires
-    enum-known-read-2
-    refuse-image-requires
-    same-length
-    same-length-2
-    same-length-3
+    (search needs)
+    (search needs)
+    (search needs)
+    (search needs)
+    (search needs)
     returns
-    same-length-4
+    (search needs)
     returns-2)

@@ -13,35 +13,11 @@ use borrow.Author.Needs.{needs}
 use Rattle.lu62.proofs.receiving.lu62_receive_unit.Statement.{statement}
 use Rattle.lu62.proofs.receiving.lu62_receive_unit.Tie as tie
 
-read-image-requires : tie.Need-read-image-requires
-read-image-requires c κs = search needs
-
-enum-known-read : tie.Need-enum-known-read
-enum-known-read c = search needs
-
-receive-unit-requires : tie.Need-receive-unit-requires
-receive-unit-requires c κs = search needs
-
 hand-out-requires : tie.Need-hand-out-requires
 hand-out-requires c κs = let a = c .before .before .before .before .before .before .before .before .before .before .before .before .before .before .before .before .before .before .args in
     let p = c .before .before .before .before .before .before .before .before .before .before .before .before .read-image .ensures in
     let s = c .before .before .before .before .before .before .before .before .before .before .read .given .1 in
     (taken-unit (c .before .before .before .before .before .before .receive-unit .ensures .0) (take-small _ _ _ _ _), whole (now (a .image)) p s)
-
-enum-known-read-2 : tie.Need-enum-known-read-2
-enum-known-read-2 c = search needs
-
-refuse-image-requires : tie.Need-refuse-image-requires
-refuse-image-requires c κs = search needs
-
-same-length : tie.Need-same-length
-same-length c = search needs
-
-same-length-2 : tie.Need-same-length-2
-same-length-2 c = search needs
-
-same-length-3 : tie.Need-same-length-3
-same-length-3 c = search needs
 
 returns : tie.Need-returns
 unfolding receiveUnitOn
@@ -52,9 +28,6 @@ returns c = let a = c .before .before .before .before .before .before .before .b
           (λ rule e. receiveUnit rule e (now (a .taken)) (now (a .inbox)) (now (a .unit))) (m .0) o,
       still-named (headerIn (now (a .taken))) (c .before .before .before .before .before .before .before .before .before .receive-unit .result) o (m .1),
     )
-
-same-length-4 : tie.Need-same-length-4
-same-length-4 c = search needs
 
 returns-2 : tie.Need-returns-2
 unfolding receiveUnitOn
@@ -69,15 +42,15 @@ pub lu62-receive-unit-spec : {M : Type 1} → statement M
 lu62-receive-unit-spec =
     tie.close
     (tie.spec
-    read-image-requires
-    enum-known-read
-    receive-unit-requires
+    (search needs)
+    (search needs)
+    (search needs)
     hand-out-requires
-    enum-known-read-2
-    refuse-image-requires
-    same-length
-    same-length-2
-    same-length-3
+    (search needs)
+    (search needs)
+    (search needs)
+    (search needs)
+    (search needs)
     returns
-    same-length-4
+    (search needs)
     returns-2)

@@ -1,4 +1,4 @@
--- `script::hexadecimal::are_pairs` meets its contract. The loop's invariant: the digits left are pairs exactly where all are.
+-- `numerals::hexadecimal::are_pairs` meets its contract. The loop's invariant: the digits left are pairs exactly where all are.
 -- The measure is the number of digits left.
 -- Assumes nothing.
 use mathlib.Core.Path.{_≡_, refl, sym, _∙_}
@@ -38,9 +38,6 @@ add-low c = omega arith
 shared-slice-read-low : tie.Need-shared-slice-read-low Inv-loop μ-loop
 shared-slice-read-low c = omega arith
 
-is-pair-requires : tie.Need-is-pair-requires Inv-loop μ-loop
-is-pair-requires c κs = search needs
-
 returns-2 : tie.Need-returns-2 Inv-loop μ-loop
 returns-2 c = let s = now (c .before .before .before .before .before .before .before .before .args .text) in
     let e = sym (c .before .is-pair .ensures) ∙ not-true (c .before .is-pair .result) (c .if2 .taken) in
@@ -72,7 +69,7 @@ are-pairs-spec =
     shared-slice-read-high
     add-low
     shared-slice-read-low
-    is-pair-requires
+    (search needs)
     returns-2
     add-i
     loop-less

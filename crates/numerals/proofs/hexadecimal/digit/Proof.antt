@@ -1,4 +1,4 @@
--- `script::hexadecimal::digit` meets its contract. Each return is one row of the rule, and each digit is below 16.
+-- `numerals::hexadecimal::digit` meets its contract. Each return is one row of the rule, and each digit is below 16.
 -- Assumes nothing.
 use mathlib.Core.Path.{sym, _∙_}
 use native.Mathlib.Omega.{arith}
@@ -7,17 +7,11 @@ use borrow.Author.Needs.{needs}
 use Rattle.numerals.proofs.hexadecimal.digit.Statement.{statement}
 use Rattle.numerals.proofs.hexadecimal.digit.Tie as tie
 
-is-decimal-requires : tie.Need-is-decimal-requires
-is-decimal-requires c κs = search needs
-
 sub-result : tie.Need-sub-result
 sub-result c = let t = decimal-digit (c .before .before .args .b) (sym (c .before .is-decimal .ensures) ∙ c .if1 .taken) in omega arith
 
 returns : tie.Need-returns
 returns c = let t = decimal-digit (c .before .before .args .b) (sym (c .before .is-decimal .ensures) ∙ c .if1 .taken) in (t .1, t .2)
-
-is-letter-requires : tie.Need-is-letter-requires
-is-letter-requires c κs = search needs
 
 sub-result-2 : tie.Need-sub-result-2
 sub-result-2 c =
@@ -44,10 +38,10 @@ pub digit-spec : {M : Type 1} → statement M
 digit-spec =
     tie.close
     (tie.spec
-    is-decimal-requires
+    (search needs)
     sub-result
     returns
-    is-letter-requires
+    (search needs)
     sub-result-2
     returns-2
     returns-3)

@@ -1,4 +1,4 @@
--- `script::hexadecimal::hex` meets its contract. The test on the number of digits is that on the number of bytes; a bad text writes none.
+-- `numerals::hexadecimal::hex` meets its contract. The test on the number of digits is that on the number of bytes; a bad text writes none.
 -- Assumes nothing.
 use lib.ListN.{length}
 use denote.Ref.{now}
@@ -8,17 +8,11 @@ use borrow.Author.Needs.{needs}
 use Rattle.numerals.proofs.hexadecimal.hex.Statement.{statement}
 use Rattle.numerals.proofs.hexadecimal.hex.Tie as tie
 
-are-pairs-requires : tie.Need-are-pairs-requires
-are-pairs-requires c κs = search needs
-
 write-bytes-requires : tie.Need-write-bytes-requires
 write-bytes-requires c κs =
     let a = c .before .before .before .before .before .args in
     let t = hex-fits (now (a .text)) (length (now (a .into))) (rw (c .before .before .are-pairs .ensures) at (c .before .if1 .taken)) in
     (t .0, t .1)
-
-same-length : tie.Need-same-length
-same-length c = search needs
 
 returns : tie.Need-returns
 returns c =
@@ -37,4 +31,4 @@ returns-2 c =
 
 pub hex-spec : {M : Type 1} → statement M
 hex-spec =
-    tie.close (tie.spec are-pairs-requires write-bytes-requires same-length returns returns-2)
+    tie.close (tie.spec (search needs) write-bytes-requires (search needs) returns returns-2)

@@ -1,4 +1,4 @@
--- `script::hexadecimal::write_bytes` meets its contract. The loop's invariant: the first i bytes are written.
+-- `numerals::hexadecimal::write_bytes` meets its contract. The loop's invariant: the first i bytes are written.
 -- The measure is the number of bytes left.
 -- Assumes nothing.
 use mathlib.Core.Path.{_≡_, refl, ap, _∙_}
@@ -38,9 +38,6 @@ add-byte c = omega arith
 
 shared-slice-read-byte-2 : tie.Need-shared-slice-read-byte-2 Inv-loop μ-loop
 shared-slice-read-byte-2 c = omega arith
-
-byte-requires : tie.Need-byte-requires Inv-loop μ-loop
-byte-requires c κs = search needs
 
 slice-write-into : tie.Need-slice-write-into Inv-loop μ-loop
 slice-write-into c = let h = c .before .before .before .before .before .before .before .pre .1 in omega arith
@@ -86,7 +83,7 @@ write-bytes-spec =
     mul-byte-2
     add-byte
     shared-slice-read-byte-2
-    byte-requires
+    (search needs)
     slice-write-into
     add-i
     loop-less

@@ -1,4 +1,4 @@
--- `script::numbers::number` meets its contract. Each return is one row of the rule on leading zeros.
+-- `numerals::numbers::number` meets its contract. Each return is one row of the rule on leading zeros.
 -- Assumes nothing.
 use mathlib.Core.Path.{sym, _∙_}
 use denote.Ref.{now}
@@ -10,18 +10,12 @@ use Rattle.numerals.proofs.numbers.number.Tie as tie
 returns : tie.Need-returns
 returns c = sym (number-none (now (c .before .before .args .text)) (c .if1 .taken))
 
-shared-slice-read-b : tie.Need-shared-slice-read-b
-shared-slice-read-b c = search needs
-
 returns-2 : tie.Need-returns-2
 returns-2 c = sym (number-leading-zero (now (c .before .before .before .before .args .text)) (c .if2 .taken))
-
-read-digits-requires : tie.Need-read-digits-requires
-read-digits-requires c κs = search needs
 
 returns-3 : tie.Need-returns-3
 returns-3 c = c .read-digits .ensures ∙ number-digits (now (c .before .before .before .before .before .args .text)) (c .before .before .before .if1 .left) (c .before .if2 .left)
 
 pub number-spec : {M : Type 1} → statement M
 number-spec =
-    tie.close (tie.spec returns shared-slice-read-b returns-2 read-digits-requires returns-3)
+    tie.close (tie.spec returns (search needs) returns-2 (search needs) returns-3)

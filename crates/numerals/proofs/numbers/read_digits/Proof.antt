@@ -1,4 +1,4 @@
--- `script::numbers::read_digits` meets its contract. The loop's invariant: the digits left, read on from the value, lead where all lead.
+-- `numerals::numbers::read_digits` meets its contract. The loop's invariant: the digits left, read on from the value, lead where all lead.
 -- The measure is the number of digits left.
 -- Assumes nothing.
 use mathlib.Core.Path.{_≡_, refl, sym, _∙_}
@@ -24,9 +24,6 @@ loop-holds c = (zero-le, omega arith, refl)
 
 shared-slice-read-b : tie.Need-shared-slice-read-b Inv-loop μ-loop
 shared-slice-read-b c = omega arith
-
-is-decimal-requires : tie.Need-is-decimal-requires Inv-loop μ-loop
-is-decimal-requires c κs = search needs
 
 returns : tie.Need-returns Inv-loop μ-loop
 returns c =
@@ -96,7 +93,7 @@ read-digits-spec =
     μ-loop
     loop-holds
     shared-slice-read-b
-    is-decimal-requires
+    (search needs)
     returns
     mul-value
     sub-value

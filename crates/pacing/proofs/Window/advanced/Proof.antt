@@ -3,12 +3,9 @@ use borrow.Author.Needs.{needs}
 use Rattle.pacing.proofs.Window.advanced.Statement.{statement}
 use Rattle.pacing.proofs.Window.advanced.Tie as tie
 
-next-position-requires : tie.Need-next-position-requires
-next-position-requires c κs = search needs
-
 returns : tie.Need-returns
 unfolding advanced
 returns c = rw (c .before .before .next-position .ensures)
 
 pub advanced-spec : {M : Type 1} → statement M
-advanced-spec = tie.close (tie.spec next-position-requires returns)
+advanced-spec = tie.close (tie.spec (search needs) returns)

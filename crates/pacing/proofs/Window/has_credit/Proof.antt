@@ -2,11 +2,8 @@ use borrow.Author.Needs.{needs}
 use Rattle.pacing.proofs.Window.has_credit.Statement.{statement}
 use Rattle.pacing.proofs.Window.has_credit.Tie as tie
 
-credit-requires : tie.Need-credit-requires
-credit-requires c κs = search needs
-
 returns : tie.Need-returns
 returns c = rw (c .credit .ensures .0)
 
 pub has-credit-spec : {M : Type 1} → statement M
-has-credit-spec = tie.close (tie.spec credit-requires returns)
+has-credit-spec = tie.close (tie.spec (search needs) returns)

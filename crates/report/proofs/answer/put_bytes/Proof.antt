@@ -11,15 +11,6 @@ returns : tie.Need-returns
 unfolding bytesText
 returns c = rw (eq-eqb _ _ (c .if1 .taken)) prints-none
 
-put-requires : tie.Need-put-requires
-put-requires c κs = search needs
-
-hex-bytes-requires : tie.Need-hex-bytes-requires
-hex-bytes-requires c κs = search needs
-
-same-length : tie.Need-same-length
-same-length c = search needs
-
 returns-2 : tie.Need-returns-2
 unfolding bytesText
 returns-2 c =
@@ -30,4 +21,4 @@ returns-2 c =
     then put-prints (s2 .hex-bytes .ensures))
 
 pub put-bytes-spec : {M : Type 1} → statement M
-put-bytes-spec = tie.close (tie.spec returns put-requires hex-bytes-requires same-length returns-2)
+put-bytes-spec = tie.close (tie.spec returns (search needs) (search needs) (search needs) returns-2)

@@ -6,27 +6,6 @@ use borrow.Author.Needs.{needs}
 use Rattle.report.proofs.answer.put_call.Statement.{statement}
 use Rattle.report.proofs.answer.put_call.Tie as tie
 
-end-digit-requires : tie.Need-end-digit-requires
-end-digit-requires c κs = search needs
-
-put-word-requires : tie.Need-put-word-requires
-put-word-requires c κs = search needs
-
-slice-aggregate-put : tie.Need-slice-aggregate-put
-slice-aggregate-put c = search needs
-
-put-requires : tie.Need-put-requires
-put-requires c κs = search needs
-
-request-word-requires : tie.Need-request-word-requires
-request-word-requires c κs = search needs
-
-put-word-requires-2 : tie.Need-put-word-requires-2
-put-word-requires-2 c κs = search needs
-
-same-length : tie.Need-same-length
-same-length c = search needs
-
 returns : tie.Need-returns
 unfolding callText
 returns c =
@@ -41,11 +20,11 @@ pub put-call-spec : {M : Type 1} → statement M
 put-call-spec =
     tie.close
     (tie.spec
-    end-digit-requires
-    put-word-requires
-    slice-aggregate-put
-    put-requires
-    request-word-requires
-    put-word-requires-2
-    same-length
+    (search needs)
+    (search needs)
+    (search needs)
+    (search needs)
+    (search needs)
+    (search needs)
+    (search needs)
     returns)

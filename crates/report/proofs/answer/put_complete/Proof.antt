@@ -6,15 +6,6 @@ use borrow.Author.Needs.{needs}
 use Rattle.report.proofs.answer.put_complete.Statement.{statement}
 use Rattle.report.proofs.answer.put_complete.Tie as tie
 
-slice-aggregate-put : tie.Need-slice-aggregate-put
-slice-aggregate-put c = search needs
-
-put-requires : tie.Need-put-requires
-put-requires c κs = search needs
-
-same-length : tie.Need-same-length
-same-length c = search needs
-
 returns : tie.Need-returns
 unfolding completeText
 returns c = rw (c .before .before .before .before .before .if1 .taken) (put-prints (c .before .before .put .ensures))
@@ -25,4 +16,4 @@ returns-2 c = rw (c .if1 .left) prints-none
 
 pub put-complete-spec : {M : Type 1} → statement M
 put-complete-spec =
-    tie.close (tie.spec slice-aggregate-put put-requires same-length returns returns-2)
+    tie.close (tie.spec (search needs) (search needs) (search needs) returns returns-2)

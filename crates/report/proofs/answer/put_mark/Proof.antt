@@ -7,27 +7,9 @@ use borrow.Author.Needs.{needs}
 use Rattle.report.proofs.answer.put_mark.Statement.{statement}
 use Rattle.report.proofs.answer.put_mark.Tie as tie
 
-is-nothing-requires : tie.Need-is-nothing-requires
-is-nothing-requires c κs = search needs
-
 returns : tie.Need-returns
 unfolding markText
 returns c = rw (sym (c .before .is-nothing .ensures) ∙ c .if1 .taken) prints-none
-
-slice-aggregate-put : tie.Need-slice-aggregate-put
-slice-aggregate-put c = search needs
-
-put-requires : tie.Need-put-requires
-put-requires c κs = search needs
-
-mark-word-requires : tie.Need-mark-word-requires
-mark-word-requires c κs = search needs
-
-put-word-requires : tie.Need-put-word-requires
-put-word-requires c κs = search needs
-
-same-length : tie.Need-same-length
-same-length c = search needs
 
 returns-2 : tie.Need-returns-2
 unfolding markText
@@ -42,11 +24,11 @@ pub put-mark-spec : {M : Type 1} → statement M
 put-mark-spec =
     tie.close
     (tie.spec
-    is-nothing-requires
+    (search needs)
     returns
-    slice-aggregate-put
-    put-requires
-    mark-word-requires
-    put-word-requires
-    same-length
+    (search needs)
+    (search needs)
+    (search needs)
+    (search needs)
+    (search needs)
     returns-2)

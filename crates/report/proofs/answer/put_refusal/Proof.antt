@@ -6,24 +6,6 @@ use borrow.Author.Needs.{needs}
 use Rattle.report.proofs.answer.put_refusal.Statement.{statement}
 use Rattle.report.proofs.answer.put_refusal.Tie as tie
 
-slice-aggregate-put : tie.Need-slice-aggregate-put
-slice-aggregate-put c = search needs
-
-put-requires : tie.Need-put-requires
-put-requires c κs = search needs
-
-decimal-requires : tie.Need-decimal-requires
-decimal-requires c κs = search needs
-
-put-sense-requires : tie.Need-put-sense-requires
-put-sense-requires c κs = search needs
-
-put-rule-requires : tie.Need-put-rule-requires
-put-rule-requires c κs = search needs
-
-same-length : tie.Need-same-length
-same-length c = search needs
-
 returns : tie.Need-returns
 unfolding refusalText
 returns c =
@@ -40,10 +22,10 @@ pub put-refusal-spec : {M : Type 1} → statement M
 put-refusal-spec =
     tie.close
     (tie.spec
-    slice-aggregate-put
-    put-requires
-    decimal-requires
-    put-sense-requires
-    put-rule-requires
-    same-length
+    (search needs)
+    (search needs)
+    (search needs)
+    (search needs)
+    (search needs)
+    (search needs)
     returns)

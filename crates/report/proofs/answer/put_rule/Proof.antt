@@ -11,18 +11,6 @@ returns : tie.Need-returns
 unfolding ruleText
 returns c = rw (ne-eqb _ _ (c .if1 .taken)) prints-none
 
-slice-aggregate-put : tie.Need-slice-aggregate-put
-slice-aggregate-put c = search needs
-
-put-requires : tie.Need-put-requires
-put-requires c κs = search needs
-
-decimal-requires : tie.Need-decimal-requires
-decimal-requires c κs = search needs
-
-same-length : tie.Need-same-length
-same-length c = search needs
-
 returns-2 : tie.Need-returns-2
 unfolding ruleText
 returns-2 c =
@@ -35,4 +23,4 @@ returns-2 c =
 pub put-rule-spec : {M : Type 1} → statement M
 put-rule-spec =
     tie.close
-    (tie.spec returns slice-aggregate-put put-requires decimal-requires same-length returns-2)
+    (tie.spec returns (search needs) (search needs) (search needs) (search needs) returns-2)

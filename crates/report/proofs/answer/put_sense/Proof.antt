@@ -11,18 +11,6 @@ returns : tie.Need-returns
 unfolding senseText
 returns c = rw (lt-leb _ _ (c .if1 .taken)) prints-none
 
-slice-aggregate-put : tie.Need-slice-aggregate-put
-slice-aggregate-put c = search needs
-
-put-requires : tie.Need-put-requires
-put-requires c κs = search needs
-
-hex-word-requires : tie.Need-hex-word-requires
-hex-word-requires c κs = search needs
-
-same-length : tie.Need-same-length
-same-length c = search needs
-
 returns-2 : tie.Need-returns-2
 unfolding senseText
 returns-2 c =
@@ -35,4 +23,4 @@ returns-2 c =
 pub put-sense-spec : {M : Type 1} → statement M
 put-sense-spec =
     tie.close
-    (tie.spec returns slice-aggregate-put put-requires hex-word-requires same-length returns-2)
+    (tie.spec returns (search needs) (search needs) (search needs) (search needs) returns-2)

@@ -6,24 +6,6 @@ use borrow.Author.Needs.{needs}
 use Rattle.report.proofs.lines.bad_line.Statement.{statement}
 use Rattle.report.proofs.lines.bad_line.Tie as tie
 
-slice-aggregate-put : tie.Need-slice-aggregate-put
-slice-aggregate-put c = search needs
-
-put-requires : tie.Need-put-requires
-put-requires c κs = search needs
-
-decimal-requires : tie.Need-decimal-requires
-decimal-requires c κs = search needs
-
-slice-aggregate-put-2 : tie.Need-slice-aggregate-put-2
-slice-aggregate-put-2 c = search needs
-
-put-requires-2 : tie.Need-put-requires-2
-put-requires-2 c κs = search needs
-
-same-length : tie.Need-same-length
-same-length c = search needs
-
 returns : tie.Need-returns
 unfolding badLineText
 returns c =
@@ -39,10 +21,10 @@ pub bad-line-spec : {M : Type 1} → statement M
 bad-line-spec =
     tie.close
     (tie.spec
-    slice-aggregate-put
-    put-requires
-    decimal-requires
-    slice-aggregate-put-2
-    put-requires-2
-    same-length
+    (search needs)
+    (search needs)
+    (search needs)
+    (search needs)
+    (search needs)
+    (search needs)
     returns)

@@ -6,21 +6,6 @@ use borrow.Author.Needs.{needs}
 use Rattle.report.proofs.lines.end_line.Statement.{statement}
 use Rattle.report.proofs.lines.end_line.Tie as tie
 
-put-state-requires : tie.Need-put-state-requires
-put-state-requires c κs = search needs
-
-put-counts-requires : tie.Need-put-counts-requires
-put-counts-requires c κs = search needs
-
-slice-aggregate-put : tie.Need-slice-aggregate-put
-slice-aggregate-put c = search needs
-
-put-requires : tie.Need-put-requires
-put-requires c κs = search needs
-
-same-length : tie.Need-same-length
-same-length c = search needs
-
 returns : tie.Need-returns
 unfolding endText
 returns c =
@@ -36,9 +21,9 @@ pub end-line-spec : {M : Type 1} → statement M
 end-line-spec =
     tie.close
     (tie.spec
-    put-state-requires
-    put-counts-requires
-    slice-aggregate-put
-    put-requires
-    same-length
+    (search needs)
+    (search needs)
+    (search needs)
+    (search needs)
+    (search needs)
     returns)

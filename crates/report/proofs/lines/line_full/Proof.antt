@@ -6,18 +6,6 @@ use borrow.Author.Needs.{needs}
 use Rattle.report.proofs.lines.line_full.Statement.{statement}
 use Rattle.report.proofs.lines.line_full.Tie as tie
 
-put-call-requires : tie.Need-put-call-requires
-put-call-requires c κs = search needs
-
-slice-aggregate-put : tie.Need-slice-aggregate-put
-slice-aggregate-put c = search needs
-
-put-requires : tie.Need-put-requires
-put-requires c κs = search needs
-
-same-length : tie.Need-same-length
-same-length c = search needs
-
 returns : tie.Need-returns
 unfolding fullText
 returns c =
@@ -29,4 +17,4 @@ returns c =
 
 pub line-full-spec : {M : Type 1} → statement M
 line-full-spec =
-    tie.close (tie.spec put-call-requires slice-aggregate-put put-requires same-length returns)
+    tie.close (tie.spec (search needs) (search needs) (search needs) (search needs) returns)

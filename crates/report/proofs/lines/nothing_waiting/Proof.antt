@@ -6,21 +6,6 @@ use borrow.Author.Needs.{needs}
 use Rattle.report.proofs.lines.nothing_waiting.Statement.{statement}
 use Rattle.report.proofs.lines.nothing_waiting.Tie as tie
 
-end-digit-requires : tie.Need-end-digit-requires
-end-digit-requires c κs = search needs
-
-put-word-requires : tie.Need-put-word-requires
-put-word-requires c κs = search needs
-
-slice-aggregate-put : tie.Need-slice-aggregate-put
-slice-aggregate-put c = search needs
-
-put-requires : tie.Need-put-requires
-put-requires c κs = search needs
-
-same-length : tie.Need-same-length
-same-length c = search needs
-
 returns : tie.Need-returns
 unfolding nothingWaitingText
 returns c =
@@ -34,9 +19,9 @@ pub nothing-waiting-spec : {M : Type 1} → statement M
 nothing-waiting-spec =
     tie.close
     (tie.spec
-    end-digit-requires
-    put-word-requires
-    slice-aggregate-put
-    put-requires
-    same-length
+    (search needs)
+    (search needs)
+    (search needs)
+    (search needs)
+    (search needs)
     returns)

@@ -6,39 +6,6 @@ use borrow.Author.Needs.{needs}
 use Rattle.report.proofs.lines.put_state.Statement.{statement}
 use Rattle.report.proofs.lines.put_state.Tie as tie
 
-end-digit-requires : tie.Need-end-digit-requires
-end-digit-requires c κs = search needs
-
-put-word-requires : tie.Need-put-word-requires
-put-word-requires c κs = search needs
-
-slice-aggregate-put : tie.Need-slice-aggregate-put
-slice-aggregate-put c = search needs
-
-put-requires : tie.Need-put-requires
-put-requires c κs = search needs
-
-state-word-requires : tie.Need-state-word-requires
-state-word-requires c κs = search needs
-
-put-word-requires-2 : tie.Need-put-word-requires-2
-put-word-requires-2 c κs = search needs
-
-slice-aggregate-put-2 : tie.Need-slice-aggregate-put-2
-slice-aggregate-put-2 c = search needs
-
-put-requires-2 : tie.Need-put-requires-2
-put-requires-2 c κs = search needs
-
-mark-word-requires : tie.Need-mark-word-requires
-mark-word-requires c κs = search needs
-
-put-word-requires-3 : tie.Need-put-word-requires-3
-put-word-requires-3 c κs = search needs
-
-same-length : tie.Need-same-length
-same-length c = search needs
-
 returns : tie.Need-returns
 unfolding stateText
 returns c =
@@ -57,15 +24,15 @@ pub put-state-spec : {M : Type 1} → statement M
 put-state-spec =
     tie.close
     (tie.spec
-    end-digit-requires
-    put-word-requires
-    slice-aggregate-put
-    put-requires
-    state-word-requires
-    put-word-requires-2
-    slice-aggregate-put-2
-    put-requires-2
-    mark-word-requires
-    put-word-requires-3
-    same-length
+    (search needs)
+    (search needs)
+    (search needs)
+    (search needs)
+    (search needs)
+    (search needs)
+    (search needs)
+    (search needs)
+    (search needs)
+    (search needs)
+    (search needs)
     returns)

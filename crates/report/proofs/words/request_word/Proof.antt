@@ -5,18 +5,6 @@ use borrow.Author.Needs.{needs}
 use Rattle.report.proofs.words.request_word.Statement.{statement}
 use Rattle.report.proofs.words.request_word.Tie as tie
 
-enum-known-request : tie.Need-enum-known-request
-enum-known-request c = search needs
-
-verb-word-requires : tie.Need-verb-word-requires
-verb-word-requires c κs = search needs
-
-enum-told : tie.Need-enum-told
-enum-told c = search needs
-
-enum-told-2 : tie.Need-enum-told-2
-enum-told-2 c = search needs
-
 returns : tie.Need-returns
 returns c = (rw (c .before .before .request .given .1) (c .verb-word .ensures .0), c .verb-word .ensures .1)
 
@@ -30,10 +18,10 @@ pub request-word-spec : {M : Type 1} → statement M
 request-word-spec =
     tie.close
     (tie.spec
-    enum-known-request
-    verb-word-requires
-    enum-told
-    enum-told-2
+    (search needs)
+    (search needs)
+    (search needs)
+    (search needs)
     returns
     returns-2
     returns-3)

@@ -9,21 +9,6 @@ use borrow.Author.Needs.{needs}
 use Rattle.script.proofs.line.call_line.Statement.{statement}
 use Rattle.script.proofs.line.call_line.Tie as tie
 
-slice-aggregate-begins : tie.Need-slice-aggregate-begins
-slice-aggregate-begins c = search needs
-
-begins-requires : tie.Need-begins-requires
-begins-requires c κs = search needs
-
-behind-requires : tie.Need-behind-requires
-behind-requires c κs = search needs
-
-request-requires : tie.Need-request-requires
-request-requires c κs = search needs
-
-same-length : tie.Need-same-length
-same-length c = search needs
-
 returns : tie.Need-returns
 returns c =
     let a = c .before .before .before .before .before .before .before .before .before .before .args in
@@ -33,21 +18,6 @@ returns c =
     let s = rw (c .before .before .before .before .behind .ensures) at (c .before .before .request .ensures .0) in
     let t = rw (c .before .before .before .before .behind .ensures) at (c .before .before .request .ensures .1) in
     (s ∙ parsed-as (now (a .line)) (now (a .bytes)) _ e, t ∙ cells-as (now (a .line)) (now (a .bytes)) _ e)
-
-slice-aggregate-begins-2 : tie.Need-slice-aggregate-begins-2
-slice-aggregate-begins-2 c = search needs
-
-begins-requires-2 : tie.Need-begins-requires-2
-begins-requires-2 c κs = search needs
-
-behind-requires-2 : tie.Need-behind-requires-2
-behind-requires-2 c κs = search needs
-
-request-requires-2 : tie.Need-request-requires-2
-request-requires-2 c κs = search needs
-
-same-length-2 : tie.Need-same-length-2
-same-length-2 c = search needs
 
 returns-2 : tie.Need-returns-2
 returns-2 c =
@@ -73,16 +43,16 @@ pub call-line-spec : {M : Type 1} → statement M
 call-line-spec =
     tie.close
     (tie.spec
-    slice-aggregate-begins
-    begins-requires
-    behind-requires
-    request-requires
-    same-length
+    (search needs)
+    (search needs)
+    (search needs)
+    (search needs)
+    (search needs)
     returns
-    slice-aggregate-begins-2
-    begins-requires-2
-    behind-requires-2
-    request-requires-2
-    same-length-2
+    (search needs)
+    (search needs)
+    (search needs)
+    (search needs)
+    (search needs)
     returns-2
     returns-3)

@@ -6,18 +6,6 @@ use borrow.Author.Needs.{needs}
 use Rattle.script.proofs.line.first_line.Statement.{statement}
 use Rattle.script.proofs.line.first_line.Tie as tie
 
-slice-aggregate-begins : tie.Need-slice-aggregate-begins
-slice-aggregate-begins c = search needs
-
-begins-requires : tie.Need-begins-requires
-begins-requires c κs = search needs
-
-behind-requires : tie.Need-behind-requires
-behind-requires c κs = search needs
-
-sizes-requires : tie.Need-sizes-requires
-sizes-requires c κs = search needs
-
 returns : tie.Need-returns
 unfolding firstLineOf
 returns c = rw (c .sizes .ensures, c .before .behind .ensures, sym (c .before .before .before .begins .ensures) ∙ c .before .before .if1 .taken)
@@ -30,9 +18,9 @@ pub first-line-spec : {M : Type 1} → statement M
 first-line-spec =
     tie.close
     (tie.spec
-    slice-aggregate-begins
-    begins-requires
-    behind-requires
-    sizes-requires
+    (search needs)
+    (search needs)
+    (search needs)
+    (search needs)
     returns
     returns-2)

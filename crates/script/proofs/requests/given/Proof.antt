@@ -15,15 +15,6 @@ returns c = let a = c .before .before .before .args in
     let g = hex-long (now (a .text)) (length (now (a .bytes))) (c .if1 .taken) in
     (rw g, rw (g, front-none))
 
-hex-requires : tie.Need-hex-requires
-hex-requires c κs = search needs
-
-counted-requires : tie.Need-counted-requires
-counted-requires c κs = search needs
-
-same-length : tie.Need-same-length
-same-length c = search needs
-
 returns-2 : tie.Need-returns-2
 unfolding givenOf
 returns-2 c = let a = c .before .before .before .before .before .before .before .before .args in
@@ -31,4 +22,4 @@ returns-2 c = let a = c .before .before .before .before .before .before .before 
     (rw (c .counted .ensures, c .before .before .before .hex .ensures .0, g), rw (c .before .before .before .hex .ensures .1, g))
 
 pub given-spec : {M : Type 1} → statement M
-given-spec = tie.close (tie.spec returns hex-requires counted-requires same-length returns-2)
+given-spec = tie.close (tie.spec returns (search needs) (search needs) (search needs) returns-2)

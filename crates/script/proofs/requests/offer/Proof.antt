@@ -7,26 +7,11 @@ use borrow.Author.Needs.{needs}
 use Rattle.script.proofs.requests.offer.Statement.{statement}
 use Rattle.script.proofs.requests.offer.Tie as tie
 
-slice-aggregate-same : tie.Need-slice-aggregate-same
-slice-aggregate-same c = search needs
-
-same-requires : tie.Need-same-requires
-same-requires c κs = search needs
-
-plain-requires : tie.Need-plain-requires
-plain-requires c κs = search needs
-
 returns : tie.Need-returns
 unfolding offerOf
 returns c =
     let e = sym (c .before .before .same .ensures) ∙ c .before .if1 .taken in
     (rw (c .plain .ensures, e), rw (e, front-none))
-
-given-requires : tie.Need-given-requires
-given-requires c κs = search needs
-
-same-length : tie.Need-same-length
-same-length c = search needs
 
 returns-2 : tie.Need-returns-2
 unfolding offerOf
@@ -38,10 +23,10 @@ pub offer-spec : {M : Type 1} → statement M
 offer-spec =
     tie.close
     (tie.spec
-    slice-aggregate-same
-    same-requires
-    plain-requires
+    (search needs)
+    (search needs)
+    (search needs)
     returns
-    given-requires
-    same-length
+    (search needs)
+    (search needs)
     returns-2)

@@ -6,24 +6,9 @@ use borrow.Author.Needs.{needs}
 use Rattle.script.proofs.requests.read.Statement.{statement}
 use Rattle.script.proofs.requests.read.Tie as tie
 
-number-requires : tie.Need-number-requires
-number-requires c κs = search needs
-
-enum-known-n : tie.Need-enum-known-n
-enum-known-n c = search needs
-
-cast-plain : tie.Need-cast-plain
-cast-plain c = search needs
-
-plain-requires : tie.Need-plain-requires
-plain-requires c κs = search needs
-
 returns : tie.Need-returns
 unfolding readOf
 returns c = rw (c .plain .ensures, ← c .before .before .before .before .before .number .ensures, c .before .before .before .n .given .1, le-leb _ 2048 (c .before .if1 .taken))
-
-enum-told : tie.Need-enum-told
-enum-told c = search needs
 
 returns-2 : tie.Need-returns-2
 unfolding readOf
@@ -37,11 +22,11 @@ pub read-spec : {M : Type 1} → statement M
 read-spec =
     tie.close
     (tie.spec
-    number-requires
-    enum-known-n
-    cast-plain
-    plain-requires
+    (search needs)
+    (search needs)
+    (search needs)
+    (search needs)
     returns
-    enum-told
+    (search needs)
     returns-2
     returns-3)

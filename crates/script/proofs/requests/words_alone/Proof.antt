@@ -5,30 +5,12 @@ use borrow.Author.Needs.{needs}
 use Rattle.script.proofs.requests.words_alone.Statement.{statement}
 use Rattle.script.proofs.requests.words_alone.Tie as tie
 
-slice-aggregate-same : tie.Need-slice-aggregate-same
-slice-aggregate-same c = search needs
-
-same-requires : tie.Need-same-requires
-same-requires c κs = search needs
-
-plain-requires : tie.Need-plain-requires
-plain-requires c κs = search needs
-
 returns : tie.Need-returns
 returns c =
     rw (
       c .plain .ensures,
       sym (c .before .before .same .ensures) ∙ c .before .if1 .taken,
     )
-
-slice-aggregate-same-2 : tie.Need-slice-aggregate-same-2
-slice-aggregate-same-2 c = search needs
-
-same-requires-2 : tie.Need-same-requires-2
-same-requires-2 c κs = search needs
-
-plain-requires-2 : tie.Need-plain-requires-2
-plain-requires-2 c κs = search needs
 
 returns-2 : tie.Need-returns-2
 returns-2 c =
@@ -37,15 +19,6 @@ returns-2 c =
       sym (c .before .before .before .before .before .same .ensures) ∙ c .before .before .before .before .if1 .left,
       sym (c .before .before .same2 .ensures) ∙ c .before .if2 .taken,
     )
-
-slice-aggregate-same-3 : tie.Need-slice-aggregate-same-3
-slice-aggregate-same-3 c = search needs
-
-same-requires-3 : tie.Need-same-requires-3
-same-requires-3 c κs = search needs
-
-plain-requires-3 : tie.Need-plain-requires-3
-plain-requires-3 c κs = search needs
 
 returns-3 : tie.Need-returns-3
 returns-3 c =
@@ -56,15 +29,6 @@ returns-3 c =
       sym (c .before .before .same3 .ensures) ∙ c .before .if3 .taken,
     )
 
-slice-aggregate-same-4 : tie.Need-slice-aggregate-same-4
-slice-aggregate-same-4 c = search needs
-
-same-requires-4 : tie.Need-same-requires-4
-same-requires-4 c κs = search needs
-
-plain-requires-4 : tie.Need-plain-requires-4
-plain-requires-4 c κs = search needs
-
 returns-4 : tie.Need-returns-4
 returns-4 c =
     rw (
@@ -74,9 +38,6 @@ returns-4 c =
       sym (c .before .before .before .before .before .same3 .ensures) ∙ c .before .before .before .before .if3 .left,
       sym (c .before .before .same4 .ensures) ∙ c .before .if4 .taken,
     )
-
-turn-or-end-requires : tie.Need-turn-or-end-requires
-turn-or-end-requires c κs = search needs
 
 returns-5 : tie.Need-returns-5
 returns-5 c =
@@ -92,21 +53,21 @@ pub words-alone-spec : {M : Type 1} → statement M
 words-alone-spec =
     tie.close
     (tie.spec
-    slice-aggregate-same
-    same-requires
-    plain-requires
+    (search needs)
+    (search needs)
+    (search needs)
     returns
-    slice-aggregate-same-2
-    same-requires-2
-    plain-requires-2
+    (search needs)
+    (search needs)
+    (search needs)
     returns-2
-    slice-aggregate-same-3
-    same-requires-3
-    plain-requires-3
+    (search needs)
+    (search needs)
+    (search needs)
     returns-3
-    slice-aggregate-same-4
-    same-requires-4
-    plain-requires-4
+    (search needs)
+    (search needs)
+    (search needs)
     returns-4
-    turn-or-end-requires
+    (search needs)
     returns-5)

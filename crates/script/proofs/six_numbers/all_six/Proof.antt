@@ -4,42 +4,6 @@ use borrow.Author.Needs.{needs}
 use Rattle.script.proofs.six_numbers.all_six.Statement.{statement}
 use Rattle.script.proofs.six_numbers.all_six.Tie as tie
 
-is-number-requires : tie.Need-is-number-requires
-is-number-requires c κs = search needs
-
-is-number-requires-2 : tie.Need-is-number-requires-2
-is-number-requires-2 c κs = search needs
-
-is-number-requires-3 : tie.Need-is-number-requires-3
-is-number-requires-3 c κs = search needs
-
-is-number-requires-4 : tie.Need-is-number-requires-4
-is-number-requires-4 c κs = search needs
-
-is-number-requires-5 : tie.Need-is-number-requires-5
-is-number-requires-5 c κs = search needs
-
-is-number-requires-6 : tie.Need-is-number-requires-6
-is-number-requires-6 c κs = search needs
-
-value-requires : tie.Need-value-requires
-value-requires c κs = search needs
-
-value-requires-2 : tie.Need-value-requires-2
-value-requires-2 c κs = search needs
-
-value-requires-3 : tie.Need-value-requires-3
-value-requires-3 c κs = search needs
-
-value-requires-4 : tie.Need-value-requires-4
-value-requires-4 c κs = search needs
-
-value-requires-5 : tie.Need-value-requires-5
-value-requires-5 c κs = search needs
-
-value-requires-6 : tie.Need-value-requires-6
-value-requires-6 c κs = search needs
-
 returns : tie.Need-returns
 returns c =
     let e =
@@ -78,17 +42,17 @@ pub all-six-spec : {M : Type 1} → statement M
 all-six-spec =
     tie.close
     (tie.spec
-    is-number-requires
-    is-number-requires-2
-    is-number-requires-3
-    is-number-requires-4
-    is-number-requires-5
-    is-number-requires-6
-    value-requires
-    value-requires-2
-    value-requires-3
-    value-requires-4
-    value-requires-5
-    value-requires-6
+    (search needs)
+    (search needs)
+    (search needs)
+    (search needs)
+    (search needs)
+    (search needs)
+    (search needs)
+    (search needs)
+    (search needs)
+    (search needs)
+    (search needs)
+    (search needs)
     returns
     returns-2)

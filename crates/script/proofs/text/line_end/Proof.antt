@@ -1,7 +1,7 @@
 -- `line_end` answers the place that the definition gives, within the text.
 -- Assumes nothing.
 use mathlib.Core.Path.{_≡_, refl, sym, _∙_}
-use Prim.Native.Nat.{ℕ, _+_, _≤_}
+use Prim.Native.Nat.{_+_, _≤_}
 use native.Mathlib.Omega.{arith}
 use lib.ListN.{length}
 use denote.Ref.{now}
@@ -18,9 +18,6 @@ returns c =
     let a = c .before .before .args in
     simp (lt-ltb (length (now (a .text))) (a .from) (c .if1 .taken)) (refl, omega arith, λ h. h)
 
-find-requires : tie.Need-find-requires
-find-requires c κs = search needs
-
 returns-2 : tie.Need-returns-2
 unfolding lineEnd
 returns-2 c =
@@ -33,4 +30,4 @@ returns-2 c =
     )
 
 pub line-end-spec : {M : Type 1} → statement M
-line-end-spec = tie.close (tie.spec returns find-requires returns-2)
+line-end-spec = tie.close (tie.spec returns (search needs) returns-2)

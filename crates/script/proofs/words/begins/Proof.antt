@@ -5,15 +5,9 @@ use borrow.Author.Needs.{needs}
 use Rattle.script.proofs.words.begins.Statement.{statement}
 use Rattle.script.proofs.words.begins.Tie as tie
 
-first-requires : tie.Need-first-requires
-first-requires c κs = search needs
-
-same-requires : tie.Need-same-requires
-same-requires c κs = search needs
-
 returns : tie.Need-returns
 unfolding begins
 returns c = rw (c .same .ensures, c .before .first .ensures)
 
 pub begins-spec : {M : Type 1} → statement M
-begins-spec = tie.close (tie.spec first-requires same-requires returns)
+begins-spec = tie.close (tie.spec (search needs) (search needs) returns)

@@ -6,18 +6,9 @@ use borrow.Author.Needs.{needs}
 use Rattle.script.proofs.words.behind_word.Statement.{statement}
 use Rattle.script.proofs.words.behind_word.Tie as tie
 
-find-requires : tie.Need-find-requires
-find-requires c κs = search needs
-
-add-behind : tie.Need-add-behind
-add-behind c = search needs
-
-behind-requires : tie.Need-behind-requires
-behind-requires c κs = search needs
-
 returns : tie.Need-returns
 unfolding behindWord
 returns c = rw (c .behind .ensures, c .before .find .ensures .0, found-in-all)
 
 pub behind-word-spec : {M : Type 1} → statement M
-behind-word-spec = tie.close (tie.spec find-requires add-behind behind-requires returns)
+behind-word-spec = tie.close (tie.spec (search needs) (search needs) (search needs) returns)

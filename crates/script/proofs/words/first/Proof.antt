@@ -11,11 +11,8 @@ use Rattle.script.proofs.words.first.Tie as tie
 slice-aggregate-result : tie.Need-slice-aggregate-result
 slice-aggregate-result c = sym (length-take-le (c .before .before .args .n) (now (c .before .before .args .text)) (c .before .if1 .taken))
 
-returns : tie.Need-returns
-returns c = search needs
-
 returns-2 : tie.Need-returns-2
 returns-2 c = sym (take-all (c .before .args .n) (now (c .before .args .text)) (omega arith))
 
 pub first-spec : {M : Type 1} → statement M
-first-spec = tie.close (tie.spec slice-aggregate-result returns returns-2)
+first-spec = tie.close (tie.spec slice-aggregate-result (search needs) returns-2)

@@ -6,15 +6,9 @@ use borrow.Author.Needs.{needs}
 use Rattle.script.proofs.words.word.Statement.{statement}
 use Rattle.script.proofs.words.word.Tie as tie
 
-find-requires : tie.Need-find-requires
-find-requires c κs = search needs
-
-first-requires : tie.Need-first-requires
-first-requires c κs = search needs
-
 returns : tie.Need-returns
 unfolding wordOf
 returns c = rw (c .first .ensures, c .before .find .ensures .0, found-in-all)
 
 pub word-spec : {M : Type 1} → statement M
-word-spec = tie.close (tie.spec find-requires first-requires returns)
+word-spec = tie.close (tie.spec (search needs) (search needs) returns)

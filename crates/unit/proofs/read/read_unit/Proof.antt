@@ -10,33 +10,6 @@ use Rattle.unit.proofs.read.read_unit.Tie as tie
 returns : tie.Need-returns
 returns c = (unit-short H1 (now (c .before .before .args .unit)) (c .if1 .taken), λ r e. short-names r e)
 
-shared-slice-read-number-of : tie.Need-shared-slice-read-number-of
-shared-slice-read-number-of c = search needs
-
-shared-slice-read-number-of-2 : tie.Need-shared-slice-read-number-of-2
-shared-slice-read-number-of-2 c = search needs
-
-number-of-requires : tie.Need-number-of-requires
-number-of-requires c κs = search needs
-
-shared-slice-read-t10 : tie.Need-shared-slice-read-t10
-shared-slice-read-t10 c = search needs
-
-shared-slice-read-t12 : tie.Need-shared-slice-read-t12
-shared-slice-read-t12 c = search needs
-
-shared-slice-read-t16 : tie.Need-shared-slice-read-t16
-shared-slice-read-t16 c = search needs
-
-read-header-requires : tie.Need-read-header-requires
-read-header-requires c κs = search needs
-
-enum-known-read : tie.Need-enum-known-read
-enum-known-read c = search needs
-
-enum-known-read-2 : tie.Need-enum-known-read-2
-enum-known-read-2 c = search needs
-
 returns-2 : tie.Need-returns-2
 returns-2 c =
     let u = now (c .before .before .before .before .before .before .before .before .before .before .before .before .args .unit) in
@@ -60,14 +33,14 @@ read-unit-spec =
     tie.close
     (tie.spec
     returns
-    shared-slice-read-number-of
-    shared-slice-read-number-of-2
-    number-of-requires
-    shared-slice-read-t10
-    shared-slice-read-t12
-    shared-slice-read-t16
-    read-header-requires
-    enum-known-read
-    enum-known-read-2
+    (search needs)
+    (search needs)
+    (search needs)
+    (search needs)
+    (search needs)
+    (search needs)
+    (search needs)
+    (search needs)
+    (search needs)
     returns-2
     returns-3)

@@ -4,11 +4,8 @@ use borrow.Author.Needs.{needs}
 use Rattle.unit.proofs.ru.data_ru_good.Statement.{statement}
 use Rattle.unit.proofs.ru.data_ru_good.Tie as tie
 
-marks-requires : tie.Need-marks-requires
-marks-requires c κs = search needs
-
 returns : tie.Need-returns
 returns c = rw (c .marks .ensures)
 
 pub data-ru-good-spec : {M : Type 1} → statement M
-data-ru-good-spec = tie.close (tie.spec marks-requires returns)
+data-ru-good-spec = tie.close (tie.spec (search needs) returns)

@@ -10,20 +10,8 @@ use borrow.Author.Needs.{needs}
 use Rattle.unit.proofs.ru.ru_good.Statement.{statement}
 use Rattle.unit.proofs.ru.ru_good.Tie as tie
 
-enum-known-h : tie.Need-enum-known-h
-enum-known-h c = search needs
-
-fixed-ru-requires : tie.Need-fixed-ru-requires
-fixed-ru-requires c κs = search needs
-
-array-share-prefix-bytes : tie.Need-array-share-prefix-bytes
-array-share-prefix-bytes c = search needs
-
 slice-aggregate-same : tie.Need-slice-aggregate-same
 slice-aggregate-same c = let f = c .before .before .fixed-ru in sym (length-take-le (f .result .len) (f .result .bytes) (f .ensures .1))
-
-same-requires : tie.Need-same-requires
-same-requires c κs = search needs
 
 returns : tie.Need-returns
 returns c =
@@ -31,9 +19,6 @@ returns c =
     let ru = now (a .ru) in
     c .same .ensures ∙ ap (sameBytes ru) (c .before .before .before .fixed-ru .ensures .0)
     ∙ wants-fixed (a .max) (a .h) ru (c .before .before .before .before .match .keys2)
-
-data-ru-good-requires : tie.Need-data-ru-good-requires
-data-ru-good-requires c κs = search needs
 
 returns-2 : tie.Need-returns-2
 unfolding ruGood
@@ -43,11 +28,11 @@ pub ru-good-spec : {M : Type 1} → statement M
 ru-good-spec =
     tie.close
     (tie.spec
-    enum-known-h
-    fixed-ru-requires
-    array-share-prefix-bytes
+    (search needs)
+    (search needs)
+    (search needs)
     slice-aggregate-same
-    same-requires
+    (search needs)
     returns
-    data-ru-good-requires
+    (search needs)
     returns-2)

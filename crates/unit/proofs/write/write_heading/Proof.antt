@@ -12,15 +12,6 @@ use borrow.Author.Needs.{needs}
 use Rattle.unit.proofs.write.write_heading.Statement.{statement}
 use Rattle.unit.proofs.write.write_heading.Tie as tie
 
-cast-unit : tie.Need-cast-unit
-cast-unit c = search needs
-
-slice-write-unit : tie.Need-slice-write-unit
-slice-write-unit c = search needs
-
-cast-unit-2 : tie.Need-cast-unit-2
-cast-unit-2 c = search needs
-
 slice-write-unit-2 : tie.Need-slice-write-unit-2
 slice-write-unit-2 c = simp length-set (omega arith)
 
@@ -29,12 +20,6 @@ slice-write-unit-3 c = simp length-set (omega arith)
 
 slice-write-unit-4 : tie.Need-slice-write-unit-4
 slice-write-unit-4 c = simp length-set (omega arith)
-
-slice-write-unit-5 : tie.Need-slice-write-unit-5
-slice-write-unit-5 c = search needs
-
-same-length : tie.Need-same-length
-same-length c = search needs
 
 returns : tie.Need-returns
 unfolding unitBytes front
@@ -45,12 +30,12 @@ pub write-heading-spec : {M : Type 1} → statement M
 write-heading-spec =
     tie.close
     (tie.spec
-    cast-unit
-    slice-write-unit
-    cast-unit-2
+    (search needs)
+    (search needs)
+    (search needs)
     slice-write-unit-2
     slice-write-unit-3
     slice-write-unit-4
-    slice-write-unit-5
-    same-length
+    (λ c. search needs)
+    (search needs)
     returns)

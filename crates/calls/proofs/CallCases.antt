@@ -1,0 +1,457 @@
+-- What each call leaves, refused or accepted, read off its definition: the one view of a call that every proof above goes by.
+-- Assumes nothing.
+use Prim.Native.Nat.{ℕ, _+_, _≤_}
+use mathlib.Core.Path.{_≡_, refl, sym, ap, _∙_, subst}
+use mathlib.Core.Bool.{Bool, true, false, not, cond, _||_}
+use mathlib.Core.List.{List, [], _∷_, _++_}
+use native.Mathlib.Omega.{arith}
+use borrow.Author.Tests.{eqb-true, ne-eqb, leb-true}
+use lib.Dec.{eqb, leb}
+use lib.ListN.{length, take, drop}
+use Rattle.cells.specs.Cells.{front, written}
+use Rattle.cells.proofs.Fronts.{front-bytes}
+use Rattle.logical_record.specs.Walk.{walk}
+use Rattle.logical_record.specs.Positions.{isWhole}
+use Rattle.logical_record.specs.Reading.{rest}
+use Rattle.logical_record.specs.declared.Position.{Position}
+use Rattle.logical_record.specs.declared.Walked.{Walked}
+use Rattle.logical_record.specs.declared.Walked.the-variants.{At, BadLength}
+use Rattle.header.specs.Rules.{headerGood}
+use Rattle.unit.specs.Ru.{marks, bidRu, fixedRu}
+use Rattle.unit.specs.Unit.{RU-START, unitOf, numberIn, headerIn}
+use Rattle.header.specs.declared.Follows.{Follows}
+use Rattle.header.specs.declared.ChainEnd.the-variants.{Continues, Last}
+use Rattle.header.specs.declared.Header.{Header}
+use Rattle.header.specs.declared.Header.the-variants.{Data, Bid, PositiveBidResponse, NegativeBidResponse, Confirmation, PacingResponse}
+use Rattle.unit.proofs.Units.{unit-length}
+use Rattle.pacing.specs.Pacing.{hasCredit, paced}
+use Rattle.control.specs.Tests.{isFirstSpeaker, isNothing}
+use Rattle.control.specs.Questions.{mayAllocate, maySend, mayConfirm}
+use Rattle.transitions.specs.Transitions.{allocated, confirmationMade, markAnswered, bidAnswer, grantTaken, refusalTaken, confirmationTaken}
+use Rattle.answers.specs.Answers.{accepted, refused, refusedNaming, readRefused}
+use Rattle.end.specs.Record.{recordGood, sendLent, unitLent, inboxLent}
+use Rattle.sides.specs.Shared.{nextNumber}
+use Rattle.end.specs.Requests.{dataHeader}
+use Rattle.end.specs.Outcome.{aUnit, cellsOut, Decision, refuse, doneOf, made, withControl, withReceiving}
+use Rattle.end.specs.Allocate.{allocateQuestions, allocateRefusal, bidMade, allocateDecision, allocate}
+use Rattle.logical_record.specs.Walk.{isGood}
+use Rattle.sides.specs.Sending.{keeps}
+use Rattle.end.specs.SendData.{heldBytes, gone, sendQuestions, sendRefusal, bytesKept, bytesSpilled, sendDecision, sendCells, sendData}
+use Rattle.end.specs.Close.{nothingGoes, closeQuestions, closeRefusal, lastMade, closeDecision, close}
+use Rattle.end.specs.Confirmed.{confirmedQuestions, confirmedRefusal, confirmedDecision, confirmed}
+use Rattle.end.specs.ReceiveUnit.{headQuestions, kindQuestions, headerTaken, ruTaken, takeRefusal, dataJoined, bidAnswered, creditRaised, kindTaken, takeDecision, kindJoined, inboxCells, answerNaming, receiveUnit}
+use Rattle.end.specs.Receive.{recordRest, someHeld, readQuestions, readRefusal, copyCount, bytesRead, markRead, readDecision, inboxMoved, receive}
+use Rattle.reading.specs.Reading.{restGood}
+use Rattle.sides.specs.Receiving.{mayPace, windowAnswered}
+use Rattle.end.specs.Pace.{paceQuestions, paceRefusal, paceDecision, pace}
+use Rattle.end.specs.declared.End.{End}
+use Rattle.end.specs.declared.ReadDone.{ReadDone}
+use Rattle.answers.proofs.Rows.{yes}
+use Rattle.answers.proofs.TwoRows.{pass-both}
+use Rattle.bools.proofs.Cases.{cases}
+use Rattle.bools.proofs.Tests.{left, right}
+use Rattle.calls.specs.Calls.{Called, Station, Verb, called, copies, makes, plain, sends, taken, unitsOf}
+use Rattle.answers.specs.Questions.{firstNo}
+
+abbrev pub UnitBytes : Type 0
+UnitBytes = List ℕ
+
+-- ---- a refused call
+
+abbrev pub refusedAct : Station → ℕ → Called
+refusedAct s q = record { end = s; answer = plain (refused q); sent = [] }
+
+made-refused : (P : Called → Type 0) (s : Station) (q : ℕ)
+    → eqb q 0 ≡ false → P (refusedAct s q) → P (makes s (made (refuse q (s .end)) (s .unit)))
+made-refused P s q e h = rw e h
+
+-- ---- a unit made is what the caller finds at the front of the unit buffer
+
+pub unit-out : (n : ℕ) (h : Header) (ru cells : List ℕ) → unitsOf (RU-START + length ru) (front (unitOf n h ru) cells) ≡ unitOf n h ru ∷ []
+unit-out n h ru cells =
+    let l = unit-length n h ru in
+    let t : take (RU-START + length ru) (front (unitOf n h ru) cells) ≡ unitOf n h ru =
+    ap (λ (k : ℕ). take k (front (unitOf n h ru) cells)) (sym l) ∙ front-bytes (unitOf n h ru) cells in
+    rw (ne-eqb (RU-START + length ru) 0 (λ z. omega arith), t)
+
+-- the station after a call that is lent no buffer to write but the unit buffer
+abbrev pub withEnd : Station → End → Station
+withEnd s e = record { end = e; send = s .send; unit = s .unit; inbox = s .inbox }
+
+abbrev pub quietAct : Station → End → Called
+quietAct s e = record { end = withEnd s e; answer = plain (accepted 0); sent = [] }
+
+abbrev pub unitAct : Station → End → ℕ → Header → List ℕ → Called
+unitAct s e n h ru =
+    record {
+      end = record { end = e; send = s .send; unit = front (unitOf n h ru) (s .unit); inbox = s .inbox };
+      answer = plain (accepted (RU-START + length ru));
+      sent = unitOf n h ru ∷ [];
+    }
+
+made-unit : (P : Called → Type 0) (s : Station) (e : End) (n : ℕ) (h : Header) (ru : List ℕ)
+    → P (unitAct s e n h ru) → P (makes s (made (record { refusal = 0; end = e; out = aUnit n h ru }) (s .unit)))
+made-unit P s e n h ru p =
+    subst
+    (λ (us : List UnitBytes).
+    P (record {
+      end = record { end = e; send = s .send; unit = front (unitOf n h ru) (s .unit); inbox = s .inbox };
+      answer = plain (accepted (RU-START + length ru));
+      sent = us;
+    }))
+    (sym (unit-out n h ru (s .unit))) p
+
+-- ---- allocate
+
+abbrev pub bidNumber : End → ℕ
+bidNumber e = nextNumber (e .sending .number)
+
+pub allocate-cases :
+    (P : Called → Type 0) (s : Station)
+    → ((q : ℕ) → eqb q 0 ≡ false → P (refusedAct s q))
+    → (recordGood (s .end) ≡ true
+    → mayAllocate (s .end .control) ≡ true
+    → isFirstSpeaker (s .end .control .role) ≡ true
+    → P (quietAct s (withControl (allocated (s .end .control)) (s .end))))
+    → (recordGood (s .end) ≡ true
+    → mayAllocate (s .end .control) ≡ true
+    → isFirstSpeaker (s .end .control .role) ≡ false
+    → hasCredit (s .end .sending .window) ≡ true
+    → P (unitAct s (bidMade (s .end) .end) (bidNumber (s .end)) (Bid (paced (s .end .sending .window))) bidRu))
+    → P (called s Verb.allocate)
+unfolding called allocate allocateDecision allocateRefusal bidMade
+allocate-cases P s refuses speaks bids =
+    let e = s .end in
+    let n = length (s .unit) in
+    let q : ℕ = allocateRefusal e n in
+    cases (λ (d : Decision). P (makes s (made d (s .unit)))) (eqb q 0)
+    (λ y.
+    let t = yes (allocateQuestions e n) tt (eqb-true q 0 y) in
+    cases (λ (d : Decision). P (makes s (made d (s .unit)))) (isFirstSpeaker (e .control .role))
+    (λ f. speaks (t 1) (t 2) f)
+    (λ f. made-unit P s (bidMade e .end) (bidNumber e) (Bid (paced (e .sending .window))) bidRu
+    (bids (t 1) (t 2) f (subst (λ (b : Bool). b || hasCredit (e .sending .window) ≡ true) f (t 3)))))
+    (λ y. made-refused P s q y (refuses q y))
+
+-- ---- send data
+
+good-at : (w : Walked) → isGood w ≡ true → (p : Position) × (w ≡ At p)
+good-at (At p) e = (p, refl)
+good-at BadLength e = absurd (let z : _≡_ {A = ℕ} 0 1 = cc in omega arith)
+
+-- the bytes are kept
+abbrev pub keptAct : Station → List ℕ → Called
+keptAct s bytes =
+    record {
+      end = record { end = bytesKept (s .end) bytes .end; send = written (s .end .sending .held) bytes (s .send); unit = s .unit; inbox = s .inbox };
+      answer = plain (accepted 0);
+      sent = [];
+    }
+
+-- the RU of the unit that goes out where they are not
+abbrev pub spilledRu : Station → List ℕ → List ℕ
+spilledRu s bytes = heldBytes (s .end) (s .send) ++ take (gone (s .end)) bytes
+
+abbrev pub spilledUnit : Station → List ℕ → UnitBytes
+spilledUnit s bytes = unitOf (nextNumber (s .end .sending .number)) (dataHeader (s .end) Continues) (spilledRu s bytes)
+
+abbrev pub spilledAct : Station → List ℕ → Called
+spilledAct s bytes =
+    record {
+      end =
+          record {
+            end = bytesSpilled (s .end) bytes (s .send) .end;
+            send = front (drop (gone (s .end)) bytes) (s .send);
+            unit = front (spilledUnit s bytes) (s .unit);
+            inbox = s .inbox;
+          };
+      answer = plain (accepted (RU-START + length (spilledRu s bytes)));
+      sent = spilledUnit s bytes ∷ [];
+    }
+
+-- what an accepted send data has been asked
+pub record SendAsked (s : Station) (bytes : List ℕ) : Type 0 where
+  pub buffer : s .end .sending .max ≤ length (s .send)
+  pub good : recordGood (s .end) ≡ true
+  pub least : 1 ≤ length bytes
+  pub most : length bytes ≤ s .end .sending .max
+  pub sending : maySend (s .end .control) ≡ true
+  pub place : Position
+  pub walked : walk (s .end .sending .given) bytes ≡ At place
+
+pub send-cases :
+    (P : Called → Type 0) (s : Station) (bytes : List ℕ)
+    → ((q : ℕ) → eqb q 0 ≡ false → P (refusedAct s q))
+    → (SendAsked s bytes → keeps (s .end .sending) (length bytes) ≡ true → P (keptAct s bytes))
+    → (SendAsked s bytes → keeps (s .end .sending) (length bytes) ≡ false → hasCredit (s .end .sending .window) ≡ true → P (spilledAct s bytes))
+    → P (called s (Verb.sendData bytes))
+unfolding called sendData sendDecision sendRefusal sendCells bytesKept bytesSpilled
+send-cases P s bytes refuses keep spill =
+    let e = s .end in
+    let q : ℕ = sendRefusal e bytes (length (s .send)) (length (s .unit)) in
+    let ks : Bool = keeps (e .sending) (length bytes) in
+    cases (λ (d : Decision). P (sends s (record { done = doneOf d; send = sendCells e bytes (d .refusal) (s .send); unit = cellsOut (d .out) (s .unit) })))
+    (eqb q 0)
+    (λ y.
+    let t = yes (sendQuestions e bytes (length (s .send)) (length (s .unit))) tt (eqb-true q 0 y) in
+    let w = good-at (walk (e .sending .given) bytes) (t 4) in
+    let asked : SendAsked s bytes =
+    record {
+      buffer = leb-true _ _ (left (sendLent e (length (s .send))) (unitLent e (length (s .unit))) (t 0));
+      good = t 1;
+      least = leb-true _ _ (left (leb 1 (length bytes)) (leb (length bytes) (e .sending .max)) (t 2));
+      most = leb-true _ _ (right (leb 1 (length bytes)) (leb (length bytes) (e .sending .max)) (t 2));
+      sending = t 3;
+      place = w .0;
+      walked = w .1;
+    } in
+    cases (λ (d : Decision). P (sends s (record { done = doneOf d; send = sendCells e bytes (d .refusal) (s .send); unit = cellsOut (d .out) (s .unit) }))) ks
+    (λ k. rw k (keep asked k))
+    (λ k.
+    rw k
+    (subst
+    (λ (us : List UnitBytes).
+    P (record {
+      end =
+          record {
+            end = bytesSpilled (s .end) bytes (s .send) .end;
+            send = front (drop (gone (s .end)) bytes) (s .send);
+            unit = front (spilledUnit s bytes) (s .unit);
+            inbox = s .inbox;
+          };
+      answer = plain (accepted (RU-START + length (spilledRu s bytes)));
+      sent = us;
+    }))
+    (sym (unit-out (nextNumber (e .sending .number)) (dataHeader e Continues) (spilledRu s bytes) (s .unit)))
+    (spill asked k (subst (λ (b : Bool). b || hasCredit (e .sending .window) ≡ true) k (t 5))))))
+    (λ y. rw y (refuses q y))
+
+-- ---- flush, confirm, turn, end
+
+pub record CloseAsked (s : Station) (f : Follows) (c : Bool) : Type 0 where
+  pub buffer : s .end .sending .max ≤ length (s .send)
+  pub good : recordGood (s .end) ≡ true
+  pub sending : maySend (s .end .control) ≡ true
+  pub whole : not (marks (Last f c)) || isWhole (s .end .sending .given) ≡ true
+
+abbrev pub lastAct : Station → Follows → Bool → Called
+lastAct s f c =
+    unitAct s (lastMade (s .end) f c (s .send) .end) (nextNumber (s .end .sending .number)) (dataHeader (s .end) (Last f c)) (heldBytes (s .end) (s .send))
+
+pub close-cases :
+    (P : Called → Type 0) (s : Station) (f : Follows) (c : Bool)
+    → ((q : ℕ) → eqb q 0 ≡ false → P (refusedAct s q))
+    → (CloseAsked s f c → nothingGoes (s .end) f c ≡ true → P (quietAct s (s .end)))
+    → (CloseAsked s f c → nothingGoes (s .end) f c ≡ false → hasCredit (s .end .sending .window) ≡ true → P (lastAct s f c))
+    → P (called s (Verb.close f c))
+unfolding called close closeDecision closeRefusal lastMade
+close-cases P s f c refuses none goes =
+    let e = s .end in
+    let q : ℕ = closeRefusal e f c (length (s .send)) (length (s .unit)) in
+    cases (λ (d : Decision). P (makes s (made d (s .unit)))) (eqb q 0)
+    (λ y.
+    let t = yes (closeQuestions e f c (length (s .send)) (length (s .unit))) tt (eqb-true q 0 y) in
+    let asked : CloseAsked s f c =
+    record {
+      buffer = leb-true _ _ (left (sendLent e (length (s .send))) (unitLent e (length (s .unit))) (t 0));
+      good = t 1;
+      sending = t 2;
+      whole = t 3;
+    } in
+    cases (λ (d : Decision). P (makes s (made d (s .unit)))) (nothingGoes e f c)
+    (λ n. none asked n)
+    (λ n. made-unit P s (lastMade e f c (s .send) .end) (nextNumber (e .sending .number)) (dataHeader e (Last f c)) (heldBytes e (s .send))
+    (goes asked n (subst (λ (b : Bool). b || hasCredit (e .sending .window) ≡ true) n (t 4)))))
+    (λ y. made-refused P s q y (refuses q y))
+
+-- ---- confirmed
+
+pub confirmed-cases :
+    (P : Called → Type 0) (s : Station)
+    → ((q : ℕ) → eqb q 0 ≡ false → P (refusedAct s q))
+    → (recordGood (s .end) ≡ true
+    → mayConfirm (s .end .control) ≡ true
+    → P (unitAct s (withControl (confirmationMade (s .end .control)) (s .end)) (s .end .owed) Confirmation []))
+    → P (called s Verb.confirmed)
+unfolding called confirmed confirmedDecision confirmedRefusal
+confirmed-cases P s refuses goes =
+    let e = s .end in
+    let q : ℕ = confirmedRefusal e (length (s .unit)) in
+    cases (λ (d : Decision). P (makes s (made d (s .unit)))) (eqb q 0)
+    (λ y.
+    let t = yes (confirmedQuestions e (length (s .unit))) tt (eqb-true q 0 y) in
+    made-unit P s (withControl (confirmationMade (e .control)) e) (e .owed) Confirmation [] (goes (t 1) (t 2)))
+    (λ y. made-refused P s q y (refuses q y))
+
+-- ---- pace
+
+pub pace-cases :
+    (P : Called → Type 0) (s : Station)
+    → ((q : ℕ) → eqb q 0 ≡ false → P (refusedAct s q))
+    → (recordGood (s .end) ≡ true
+    → mayPace (s .end .receiving) ≡ true
+    → P (unitAct s (withReceiving (windowAnswered (s .end .receiving)) (s .end)) 0 PacingResponse []))
+    → P (called s Verb.pace)
+unfolding called pace paceDecision paceRefusal
+pace-cases P s refuses goes =
+    let e = s .end in
+    let q : ℕ = paceRefusal e (length (s .unit)) in
+    cases (λ (d : Decision). P (makes s (made d (s .unit)))) (eqb q 0)
+    (λ y.
+    let t = yes (paceQuestions e (length (s .unit))) tt (eqb-true q 0 y) in
+    made-unit P s (withReceiving (windowAnswered (e .receiving)) e) 0 PacingResponse [] (goes (t 1) (t 2)))
+    (λ y. made-refused P s q y (refuses q y))
+
+-- ---- read
+
+pub record ReadAsked (s : Station) (buffer : List ℕ) : Type 0 where
+  pub inbox : length (s .inbox) ≡ s .end .receiving .inbox
+  pub good : recordGood (s .end) ≡ true
+  pub least : 1 ≤ length buffer
+  pub rest : restGood (recordRest (s .end) (s .inbox)) ≡ true
+
+abbrev pub readCount : Station → List ℕ → ℕ
+readCount s buffer = copyCount (s .end) (s .inbox) (length buffer)
+
+abbrev pub refusedRead : Station → ℕ → List ℕ → Called
+refusedRead s q buffer = record { end = s; answer = record { answer = readRefused q; buffer = buffer }; sent = [] }
+
+abbrev pub bytesAct : Station → List ℕ → Called
+bytesAct s buffer =
+    record {
+      end =
+          record {
+            end = bytesRead (s .end) (readCount s buffer) (s .inbox) .end;
+            send = s .send;
+            unit = s .unit;
+            inbox = inboxMoved (s .end) (readCount s buffer) (s .inbox);
+          };
+      answer =
+          record { answer = bytesRead (s .end) (readCount s buffer) (s .inbox) .answer; buffer = front (take (readCount s buffer) (s .inbox)) buffer };
+      sent = [];
+    }
+
+abbrev pub markAct : Station → List ℕ → Called
+markAct s buffer =
+    record {
+      end = withEnd s (withControl (markAnswered (s .end .control)) (s .end));
+      answer = record { answer = markRead (s .end) .answer; buffer = buffer };
+      sent = [];
+    }
+
+pub read-cases :
+    (P : Called → Type 0) (s : Station) (buffer : List ℕ)
+    → ((q : ℕ) → q ≡ readRefusal (s .end) (s .inbox) (length buffer) → eqb q 0 ≡ false → P (refusedRead s q buffer))
+    → (ReadAsked s buffer → someHeld (s .end) ≡ true → P (bytesAct s buffer))
+    → (ReadAsked s buffer → someHeld (s .end) ≡ false → not (isNothing (s .end .control .mark)) ≡ true → P (markAct s buffer))
+    → P (called s (Verb.receive buffer))
+unfolding called receive readDecision readRefusal bytesRead markRead inboxMoved front
+read-cases P s buffer refuses copied marked =
+    let e = s .end in
+    let q : ℕ = readRefusal e (s .inbox) (length buffer) in
+    cases
+    (λ (d : ReadDone).
+    P (copies s (record { done = d; inbox = inboxMoved e (d .answer .copied) (s .inbox); buffer = front (take (d .answer .copied) (s .inbox)) buffer })))
+    (eqb q 0)
+    (λ y.
+    let t = yes (readQuestions e (s .inbox) (length buffer)) tt (eqb-true q 0 y) in
+    let asked : ReadAsked s buffer =
+    record { inbox = eqb-true _ _ (t 0); good = t 1; least = leb-true _ _ (t 2); rest = t 3 } in
+    cases
+    (λ (d : ReadDone).
+    P (copies s (record { done = d; inbox = inboxMoved e (d .answer .copied) (s .inbox); buffer = front (take (d .answer .copied) (s .inbox)) buffer })))
+    (someHeld e)
+    (λ h. copied asked h)
+    (λ h. marked asked h (subst (λ (b : Bool). b || not (isNothing (e .control .mark)) ≡ true) h (t 4))))
+    (λ y. refuses q refl y)
+
+-- ---- take
+
+-- an accepted take, by the kind of the unit
+abbrev pub tookKind : Station → Header → ℕ → List ℕ → Called
+tookKind s (Data d) n ru =
+    record {
+      end = record { end = dataJoined (s .end) d n ru .end; send = s .send; unit = s .unit; inbox = written (s .end .receiving .held) ru (s .inbox) };
+      answer = plain (accepted 0);
+      sent = [];
+    }
+tookKind s (Bid p) n ru =
+    let h = bidAnswer (s .end .control) in
+    record {
+      end = record { end = bidAnswered (s .end) n .end; send = s .send; unit = front (unitOf n h (fixedRu h)) (s .unit); inbox = s .inbox };
+      answer = plain (accepted (RU-START + length (fixedRu h)));
+      sent = unitOf n h (fixedRu h) ∷ [];
+    }
+tookKind s PositiveBidResponse n ru =
+    record { end = withEnd s (withControl (grantTaken (s .end .control)) (s .end)); answer = plain (accepted 0); sent = [] }
+tookKind s NegativeBidResponse n ru =
+    record { end = withEnd s (withControl (refusalTaken (s .end .control)) (s .end)); answer = plain (accepted 0); sent = [] }
+tookKind s Confirmation n ru =
+    record { end = withEnd s (withControl (confirmationTaken (s .end .control)) (s .end)); answer = plain (accepted 0); sent = [] }
+tookKind s PacingResponse n ru =
+    record { end = withEnd s (creditRaised (s .end) .end); answer = plain (accepted 0); sent = [] }
+
+-- what a take leaves by its decision
+abbrev tookOf : (List ℕ → ℕ) → Station → List ℕ → Decision → List ℕ → Called
+tookOf naming s u d inbox =
+    record {
+      end = record { end = d .end; send = s .send; unit = cellsOut (d .out) (s .unit); inbox = inbox };
+      answer = plain (answerNaming (naming u) d);
+      sent = unitsOf (answerNaming (naming u) d .unit) (cellsOut (d .out) (s .unit));
+    }
+
+took-kind :
+    (P : Called → Type 0) (naming : List ℕ → ℕ) (s : Station) (u : List ℕ) (h : Header) (n : ℕ) (ru : List ℕ)
+    → P (tookKind s h n ru)
+    → P (tookOf naming s u (kindTaken (s .end) h n ru) (cond (eqb (kindTaken (s .end) h n ru .refusal) 0) (kindJoined (s .end) h ru (s .inbox)) (s .inbox)))
+unfolding dataJoined bidAnswered creditRaised
+took-kind P naming s u (Data d) n ru p = p
+took-kind P naming s u (Bid b) n ru p =
+    let h = bidAnswer (s .end .control) in
+    subst
+    (λ (us : List UnitBytes).
+    P (record {
+      end = record { end = bidAnswered (s .end) n .end; send = s .send; unit = front (unitOf n h (fixedRu h)) (s .unit); inbox = s .inbox };
+      answer = plain (accepted (RU-START + length (fixedRu h)));
+      sent = us;
+    }))
+    (sym (unit-out n h (fixedRu h) (s .unit))) p
+took-kind P naming s u PositiveBidResponse n ru p = p
+took-kind P naming s u NegativeBidResponse n ru p = p
+took-kind P naming s u Confirmation n ru p = p
+took-kind P naming s u PacingResponse n ru p = p
+
+-- what an accepted take has been asked before the unit's kind
+pub record TakeAsked (s : Station) (u : List ℕ) : Type 0 where
+  pub inbox : length (s .inbox) ≡ s .end .receiving .inbox
+  pub good : recordGood (s .end) ≡ true
+  pub unmarked : isNothing (s .end .control .mark) ≡ true
+  pub long : RU-START ≤ length u
+  pub header : headerGood (headerIn u) ≡ true
+
+abbrev pub refusedTake : (List ℕ → ℕ) → Station → List ℕ → ℕ → Called
+refusedTake naming s u q = record { end = s; answer = plain (refusedNaming (naming u) q); sent = [] }
+
+pub take-cases :
+    (P : Called → Type 0) (naming : List ℕ → ℕ) (s : Station) (u : List ℕ)
+    → ((q : ℕ) → q ≡ takeRefusal (s .end) u (length (s .inbox)) (length (s .unit)) → eqb q 0 ≡ false → P (refusedTake naming s u q))
+    → (TakeAsked s u → firstNo (kindQuestions (s .end) (headerTaken u) (numberIn u) (ruTaken u)) ≡ 0 → P (tookKind s (headerTaken u) (numberIn u) (ruTaken u)))
+    → P (taken naming s u)
+unfolding taken receiveUnit takeDecision inboxCells takeRefusal
+take-cases P naming s u refuses takesIt =
+    let e = s .end in
+    let q : ℕ = takeRefusal e u (length (s .inbox)) (length (s .unit)) in
+    cases (λ (d : Decision). P (tookOf naming s u d (cond (eqb (d .refusal) 0) (kindJoined e (headerTaken u) (ruTaken u) (s .inbox)) (s .inbox)))) (eqb q 0)
+    (λ y.
+    let both = pass-both (headQuestions e u (length (s .inbox)) (length (s .unit))) (kindQuestions e (headerTaken u) (numberIn u) (ruTaken u)) tt (eqb-true q 0 y) in
+    let t = yes (headQuestions e u (length (s .inbox)) (length (s .unit))) tt (both .0) in
+    let asked : TakeAsked s u =
+    record {
+      inbox = eqb-true _ _ (left (inboxLent e (length (s .inbox))) (unitLent e (length (s .unit))) (t 0));
+      good = t 1;
+      unmarked = t 2;
+      long = leb-true _ _ (t 3);
+      header = t 4;
+    } in
+    took-kind P naming s u (headerTaken u) (numberIn u) (ruTaken u) (takesIt asked (both .1)))
+    (λ y. rw y (refuses q refl y))

@@ -1,0 +1,132 @@
+-- The cells that a call leaves and the unit that it makes are bytes, if those that it was lent and given are.
+-- Assumes nothing.
+use Prim.Native.Nat.{ℕ, _<_}
+use mathlib.Core.Bool.{Bool, true, false, cond}
+use mathlib.Core.List.{List, [], _∷_}
+use native.Mathlib.Omega.{arith}
+use lib.Dec.{eqb}
+use lib.ListN.{take, drop}
+use Rattle.header.specs.Header.{confirms}
+use Rattle.unit.specs.Ru.{bidRu, fixedRu}
+use Rattle.unit.specs.Unit.{RU-START, unitOf, numberIn}
+use Rattle.header.specs.declared.Follows.{Follows}
+use Rattle.header.specs.declared.ChainEnd.the-variants.{Continues, Last}
+use Rattle.header.specs.declared.Header.{Header}
+use Rattle.header.specs.declared.Header.the-variants.{Data, Bid, PositiveBidResponse, NegativeBidResponse, Confirmation, PacingResponse}
+use Rattle.pacing.specs.Pacing.{paced}
+use Rattle.transitions.specs.Transitions.{bidAnswer}
+use Rattle.sides.specs.Shared.{nextNumber}
+use Rattle.end.specs.Requests.{dataHeader}
+use Rattle.end.specs.Allocate.{bidMade}
+use Rattle.end.specs.SendData.{heldBytes, gone, bytesKept, bytesSpilled}
+use Rattle.end.specs.Close.{lastMade}
+use Rattle.end.specs.ReceiveUnit.{headerTaken, ruTaken, dataJoined, bidAnswered, creditRaised}
+use Rattle.end.specs.Receive.{inboxBytes, bytesRead, inboxMoved}
+use Rattle.bools.proofs.Cases.{cases}
+use Rattle.calls.specs.Calls.{Called, Station, Verb, called, taken}
+use Rattle.calls.specs.Laws.{AllBytes, BytesOf}
+use Rattle.calls.proofs.ByteLists.{none-bytes, take-bytes, drop-bytes, append-bytes, front-bytes-all, written-bytes-all, next-small, number-small, unit-bytes, fixed-bytes, AllUnits}
+use Rattle.calls.proofs.CallCases.{allocate-cases, bidNumber, send-cases, spilledRu, close-cases, confirmed-cases, pace-cases, read-cases, readCount, take-cases, tookKind}
+
+-- ---- the cells and units are bytes, and the number owed is one of two bytes
+
+pub record Cells (s : Station) : Type 0 where
+  pub send : AllBytes (s .send)
+  pub inbox : AllBytes (s .inbox)
+  pub owed : s .end .owed < 65536
+
+module _ (s : Station) (c : Cells s) where
+  abbrev After : Called → Type 0
+  After m = Cells (m .end) × AllUnits (m .sent)
+
+  one-unit : (n : ℕ) (h : Header) (ru : List ℕ) → n < 65536 → AllBytes ru → AllUnits (unitOf n h ru ∷ [])
+  one-unit n h ru l f = (unit-bytes n h ru l f, tt)
+
+  held-bytes : AllBytes (heldBytes (s .end) (s .send))
+  held-bytes = take-bytes (s .end .sending .held) (s .send) (c .send)
+
+  closes : (f : Follows) (b : Bool) → After (called s (Verb.close f b))
+  unfolding lastMade
+  closes f b =
+      close-cases After s f b (λ q n. (c, tt)) (λ a n. (record { send = c .send; inbox = c .inbox; owed = c .owed }, tt))
+      (λ a n k. (
+        record { send = c .send; inbox = c .inbox; owed = c .owed },
+        one-unit (nextNumber (s .end .sending .number)) (dataHeader (s .end) (Last f b)) (heldBytes (s .end) (s .send))
+            (next-small (s .end .sending .number)) held-bytes,
+      ))
+
+  gives : (bytes : List ℕ) → AllBytes bytes → After (called s (Verb.sendData bytes))
+  unfolding bytesKept bytesSpilled
+  gives bytes b =
+      let e = s .end in
+      send-cases After s bytes (λ q n. (c, tt))
+      (λ a k. (record { send = written-bytes-all (e .sending .held) bytes (s .send) b (c .send); inbox = c .inbox; owed = c .owed }, tt))
+      (λ a k h. (
+        record {
+          send = front-bytes-all (drop (gone e) bytes) (s .send) (drop-bytes (gone e) bytes b) (c .send);
+          inbox = c .inbox;
+          owed = c .owed;
+        },
+        one-unit (nextNumber (e .sending .number)) (dataHeader e Continues) (spilledRu s bytes) (next-small (e .sending .number))
+            (append-bytes (heldBytes e (s .send)) (take (gone e) bytes) held-bytes (take-bytes (gone e) bytes b)),
+      ))
+
+  moved-bytes : (k : ℕ) → AllBytes (inboxMoved (s .end) k (s .inbox))
+  unfolding inboxMoved
+  moved-bytes k =
+      let held = inboxBytes (s .end) (s .inbox) in
+      cases AllBytes (eqb k 0) (λ y. c .inbox)
+      (λ y. front-bytes-all (drop k held) (s .inbox) (drop-bytes k held (take-bytes (s .end .receiving .held) (s .inbox) (c .inbox))) (c .inbox))
+
+  pub cells-acts : (v : Verb) → BytesOf v → After (called s v)
+  unfolding called bidMade bytesRead
+  cells-acts Verb.allocate b =
+      allocate-cases After s (λ q n. (c, tt)) (λ g a w. (record { send = c .send; inbox = c .inbox; owed = c .owed }, tt))
+      (λ g a w k. (
+        record { send = c .send; inbox = c .inbox; owed = c .owed },
+        one-unit (bidNumber (s .end)) (Bid (paced (s .end .sending .window))) bidRu (next-small (s .end .sending .number))
+            (fixed-bytes (Bid (paced (s .end .sending .window)))),
+      ))
+  cells-acts Verb.confirmed b =
+      confirmed-cases After s (λ q n. (c, tt))
+      (λ g a. (record { send = c .send; inbox = c .inbox; owed = c .owed }, one-unit (s .end .owed) Confirmation [] (c .owed) none-bytes))
+  cells-acts Verb.pace b =
+      pace-cases After s (λ q n. (c, tt))
+      (λ g a. (record { send = c .send; inbox = c .inbox; owed = c .owed }, one-unit 0 PacingResponse [] (omega arith) none-bytes))
+  cells-acts (Verb.sendData bytes) b = gives bytes b
+  cells-acts (Verb.close f x) b = closes f x
+  cells-acts (Verb.receive buffer) b =
+      read-cases After s buffer (λ q w n. (c, tt))
+      (λ a h. (record { send = c .send; inbox = moved-bytes (readCount s buffer); owed = c .owed }, tt))
+      (λ a h m. (record { send = c .send; inbox = c .inbox; owed = c .owed }, tt))
+
+  abbrev Left : Called → Type 0
+  Left t = Cells (t .end) × AllUnits (t .sent)
+
+  -- the number owed is that of the unit, or as it was
+  owed-small : (b : Bool) (n : ℕ) → n < 65536 → cond b n (s .end .owed) < 65536
+  owed-small true n l = l
+  owed-small false n l = c .owed
+
+  kind-cells : (h : Header) (n : ℕ) (ru : List ℕ) → n < 65536 → AllBytes ru → Left (tookKind s h n ru)
+  unfolding dataJoined bidAnswered creditRaised
+  kind-cells (Data d) n ru l f = (
+    record {
+      send = c .send;
+      inbox = written-bytes-all (s .end .receiving .held) ru (s .inbox) f (c .inbox);
+      owed = owed-small (confirms (d .ends)) n l;
+    },
+    tt,
+  )
+  kind-cells (Bid p) n ru l f =
+      let h = bidAnswer (s .end .control) in
+      (record { send = c .send; inbox = c .inbox; owed = c .owed }, one-unit n h (fixedRu h) l (fixed-bytes h))
+  kind-cells PositiveBidResponse n ru l f = (record { send = c .send; inbox = c .inbox; owed = c .owed }, tt)
+  kind-cells NegativeBidResponse n ru l f = (record { send = c .send; inbox = c .inbox; owed = c .owed }, tt)
+  kind-cells Confirmation n ru l f = (record { send = c .send; inbox = c .inbox; owed = c .owed }, tt)
+  kind-cells PacingResponse n ru l f = (record { send = c .send; inbox = c .inbox; owed = c .owed }, tt)
+
+  pub cells-takes : (naming : List ℕ → ℕ) (u : List ℕ) → AllBytes u → Left (taken naming s u)
+  cells-takes naming u f =
+      take-cases Left naming s u (λ q w n. (c, tt))
+      (λ a k. kind-cells (headerTaken u) (numberIn u) (ruTaken u) (number-small u f) (drop-bytes RU-START u f))

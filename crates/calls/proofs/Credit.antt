@@ -1,0 +1,203 @@
+-- What each call costs or gives: a request made 1 credit, a pacing response taken W; a request taken 1 of open, pace W.
+-- Assumes nothing.
+use Prim.Native.Nat.{ℕ, _+_, _*_}
+use mathlib.Core.Path.{_≡_, refl, sym, ap, _∙_}
+use mathlib.Core.Bool.{Bool, true, false, cond, _&&_}
+use mathlib.Core.List.{List, [], _∷_}
+use native.Mathlib.Omega.{arith}
+use lib.Dec.{eqb}
+use Rattle.header.specs.declared.ChainEnd.{ChainEnd}
+use Rattle.header.specs.declared.ChainEnd.the-variants.{Continues, Last}
+use Rattle.header.specs.declared.Header.{Header}
+use Rattle.header.specs.declared.Header.the-variants.{Data, Bid, PositiveBidResponse, NegativeBidResponse, Confirmation, PacingResponse}
+use Rattle.unit.specs.Ru.{bidRu}
+use Rattle.unit.specs.Unit.{unitOf, numberIn}
+use Rattle.pacing.specs.Pacing.{hasCredit, paced, credit, advanced, answered}
+use Rattle.control.specs.Tests.{isReset, agree}
+use Rattle.control.specs.declared.Control.{Control}
+use Rattle.transitions.specs.Transitions.{bidAnswer}
+use Rattle.answers.specs.Questions.{firstNo}
+use Rattle.sides.specs.Shared.{nextNumber}
+use Rattle.sides.specs.Sending.{requestMade}
+use Rattle.sides.specs.Receiving.{requestTaken}
+use Rattle.end.specs.Record.{recordGood, creditOf, openOf}
+use Rattle.end.specs.Requests.{dataHeader}
+use Rattle.end.specs.Allocate.{bidMade}
+use Rattle.end.specs.SendData.{heldBytes, bytesKept, bytesSpilled}
+use Rattle.end.specs.Close.{lastMade}
+use Rattle.end.specs.ReceiveUnit.{kindQuestions, headerTaken, ruTaken, dataJoined, bidAnswered, creditRaised}
+use Rattle.end.specs.Receive.{bytesRead, markRead}
+use Rattle.answers.proofs.Rows.{yes}
+use Rattle.bools.proofs.Tests.{left}
+use Rattle.calls.proofs.CallCases.{allocate-cases, bidNumber, close-cases, confirmed-cases, pace-cases, read-cases, send-cases, spilledRu, take-cases, tookKind}
+use Rattle.calls.proofs.Units.{asksFor, isPacing, pacing-taken, request-taken, requests-unit}
+use Rattle.calls.specs.Calls.{Called, Station, Verb, called, refusalIn, taken}
+use Rattle.calls.specs.Laws.{CreditExact, isPace}
+use Rattle.calls.specs.Units.{count, isPacingResponse, isRequest, requestsAmong}
+use Rattle.end.proofs.Within.{facts}
+use Rattle.pacing.proofs.Windows.{request-costs, response-raises}
+
+-- ---- the units made and the credit left
+
+-- a request made costs 1, any other unit nothing
+pub request-made : (s : Station) (n : ℕ) (h : Header) (ru : List ℕ) → asksFor h ≡ true → recordGood (s .end) ≡ true → hasCredit (s .end .sending .window) ≡ true
+    → requestsAmong (unitOf n h ru ∷ []) + credit (advanced (s .end .sending .window)) ≡ credit (s .end .sending .window)
+request-made s n h ru e g k =
+    let w = s .end .sending .window in
+    let q = requests-unit n h ru ∙ ap (λ (b : Bool). count b + 0) e in
+    let c = request-costs w (facts (s .end) g .sending .window) k in
+    ap (λ (m : ℕ). m + credit (advanced w)) q ∙ (let z : 1 + 0 + credit (advanced w) ≡ credit w = omega (arith, c) in z)
+
+pub other-made : (n c : ℕ) (h : Header) (ru : List ℕ) → asksFor h ≡ false → requestsAmong (unitOf n h ru ∷ []) + c ≡ c
+other-made n c h ru e =
+    let q = requests-unit n h ru ∙ ap (λ (b : Bool). count b + 0) e in
+    ap (λ (m : ℕ). m + c) q ∙ (let z : 0 + 0 + c ≡ c = omega arith in z)
+
+pub none-made : (c : ℕ) → requestsAmong [] + c ≡ c
+unfolding requestsAmong
+none-made c = let z : 0 + c ≡ c = omega arith in z
+
+pub data-asks : (s : Station) (ends : ChainEnd) → asksFor (dataHeader (s .end) ends) ≡ true
+unfolding dataHeader
+data-asks s ends = refl
+
+pub answer-asks : (c : Control) → asksFor (bidAnswer c) ≡ false
+answer-asks c = by (isReset (c .state))
+  where
+    by : (b : Bool) → asksFor (cond b PositiveBidResponse NegativeBidResponse) ≡ false
+    by true = refl
+    by false = refl
+
+-- ---- calls that the end answers by itself
+
+module _ (s : Station) where
+  abbrev Costs : Called → Type 0
+  Costs m = requestsAmong (m .sent) + creditOf (m .end .end) ≡ creditOf (s .end)
+
+  free : requestsAmong [] + creditOf (s .end) ≡ creditOf (s .end)
+  free = none-made (creditOf (s .end))
+
+  request-costs-one : (v : Verb) → Costs (called s v)
+  unfolding called bidMade bytesKept bytesSpilled lastMade requestMade bytesRead markRead
+  request-costs-one Verb.allocate =
+      allocate-cases Costs s (λ q n. free) (λ g a w. free)
+      (λ g a w k. request-made s (bidNumber (s .end)) (Bid (paced (s .end .sending .window))) bidRu refl g k)
+  request-costs-one Verb.confirmed =
+      confirmed-cases Costs s (λ q n. free) (λ g a. other-made (s .end .owed) (creditOf (s .end)) Confirmation [] refl)
+  request-costs-one Verb.pace = pace-cases Costs s (λ q n. free) (λ g a. other-made 0 (creditOf (s .end)) PacingResponse [] refl)
+  request-costs-one (Verb.sendData bytes) =
+      send-cases Costs s bytes (λ q n. free) (λ a k. free)
+      (λ a k h.
+      request-made s (nextNumber (s .end .sending .number)) (dataHeader (s .end) Continues) (spilledRu s bytes) (data-asks s Continues) (a .good) h)
+  request-costs-one (Verb.close f b) =
+      close-cases Costs s f b (λ q n. free) (λ a n. free)
+      (λ a n k.
+      request-made s (nextNumber (s .end .sending .number)) (dataHeader (s .end) (Last f b)) (heldBytes (s .end) (s .send))
+      (data-asks s (Last f b)) (a .good) k)
+  request-costs-one (Verb.receive buffer) = read-cases Costs s buffer (λ q w n. free) (λ a h. free) (λ a h m. free)
+
+  -- open, and the window that it rises by
+  abbrev Opens : Verb → Called → Type 0
+  Opens v m = openOf (m .end .end) ≡ openOf (s .end) + s .end .receiving .window .size * count (eqb (refusalIn (m .answer)) 0 && isPace v)
+
+  same : (b : Bool) → b ≡ false → openOf (s .end) ≡ openOf (s .end) + s .end .receiving .window .size * count b
+  same true e = absurd (let z : _≡_ {A = ℕ} 0 1 = cc in omega arith)
+  same false e = omega arith
+
+  no-rise : (q : ℕ) (b : Bool) → b ≡ false → openOf (s .end) ≡ openOf (s .end) + s .end .receiving .window .size * count (eqb q 0 && b)
+  no-rise q b e = same (eqb q 0 && b) (by (eqb q 0))
+    where
+      by : (x : Bool) → x && b ≡ false
+      by true = e
+      by false = refl
+
+  unpaced : (q : ℕ) (b : Bool) → eqb q 0 ≡ false → openOf (s .end) ≡ openOf (s .end) + s .end .receiving .window .size * count (eqb q 0 && b)
+  unpaced q b n = same (eqb q 0 && b) (ap (λ (x : Bool). x && b) n)
+
+  pace-opens : (v : Verb) → Opens v (called s v)
+  unfolding called bidMade bytesKept bytesSpilled lastMade requestMade bytesRead markRead
+  pace-opens Verb.allocate =
+      allocate-cases (Opens Verb.allocate) s (λ q n. no-rise q false refl) (λ g a w. no-rise 0 false refl) (λ g a w k. no-rise 0 false refl)
+  pace-opens Verb.confirmed = confirmed-cases (Opens Verb.confirmed) s (λ q n. no-rise q false refl) (λ g a. no-rise 0 false refl)
+  pace-opens Verb.pace =
+      pace-cases (Opens Verb.pace) s (λ q n. unpaced q true n)
+      (λ g a.
+      let w = s .end .receiving .window in
+      response-raises w (left (w .pending) _ a) ∙ (let z : credit w + w .size ≡ credit w + w .size * 1 = omega arith in z))
+  pace-opens (Verb.sendData bytes) =
+      send-cases (Opens (Verb.sendData bytes)) s bytes (λ q n. no-rise q false refl) (λ a k. no-rise 0 false refl) (λ a k h. no-rise 0 false refl)
+  pace-opens (Verb.close f b) =
+      close-cases (Opens (Verb.close f b)) s f b (λ q n. no-rise q false refl) (λ a n. no-rise 0 false refl) (λ a n k. no-rise 0 false refl)
+  pace-opens (Verb.receive buffer) =
+      read-cases (Opens (Verb.receive buffer)) s buffer (λ q w n. no-rise q false refl) (λ a h. no-rise 0 false refl) (λ a h m. no-rise 0 false refl)
+
+-- ---- takes
+
+module _ (naming : List ℕ → ℕ) (s : Station) (u : List ℕ) where
+  -- what a take gives and costs, by whether the unit is a pacing response and whether it is a request
+  abbrev Raises : Bool → Called → Type 0
+  Raises b t = creditOf (t .end .end) ≡ creditOf (s .end) + s .end .sending .window .size * count (eqb (refusalIn (t .answer)) 0 && b)
+
+  abbrev Lowers : Bool → Called → Type 0
+  Lowers b t = openOf (t .end .end) + count (eqb (refusalIn (t .answer)) 0 && b) ≡ openOf (s .end)
+
+  as-was : (c z : ℕ) → c ≡ c + z * 0
+  as-was c z = omega arith
+
+  kind-raises : (h : Header) (n : ℕ) (ru : List ℕ) → firstNo (kindQuestions (s .end) h n ru) ≡ 0 → Raises (isPacing h) (tookKind s h n ru)
+  unfolding dataJoined bidAnswered creditRaised
+  kind-raises (Data d) n ru k = as-was (creditOf (s .end)) (s .end .sending .window .size)
+  kind-raises (Bid p) n ru k = as-was (creditOf (s .end)) (s .end .sending .window .size)
+  kind-raises PositiveBidResponse n ru k = as-was (creditOf (s .end)) (s .end .sending .window .size)
+  kind-raises NegativeBidResponse n ru k = as-was (creditOf (s .end)) (s .end .sending .window .size)
+  kind-raises Confirmation n ru k = as-was (creditOf (s .end)) (s .end .sending .window .size)
+  kind-raises PacingResponse n ru k =
+      let w = s .end .sending .window in
+      let t = yes (kindQuestions (s .end) PacingResponse n ru) tt k in
+      response-raises w (t 1) ∙ (let y : credit w + w .size ≡ credit w + w .size * 1 = omega arith in y)
+
+  unmoved : (c : ℕ) → c + 0 ≡ c
+  unmoved c = omega arith
+
+  kind-lowers : (h : Header) (n : ℕ) (ru : List ℕ) → recordGood (s .end) ≡ true → firstNo (kindQuestions (s .end) h n ru) ≡ 0
+      → Lowers (asksFor h) (tookKind s h n ru)
+  unfolding dataJoined bidAnswered creditRaised requestTaken
+  kind-lowers (Data d) n ru g k =
+      let w = s .end .receiving .window in
+      let t = yes (kindQuestions (s .end) (Data d) n ru) tt k in
+      request-costs w (facts (s .end) g .receiving .window) (left (hasCredit w) (agree (d .pacing) (paced w)) (t 1))
+  kind-lowers (Bid p) n ru g k =
+      let w = s .end .receiving .window in
+      let t = yes (kindQuestions (s .end) (Bid p) n ru) tt k in
+      request-costs w (facts (s .end) g .receiving .window) (left (hasCredit w) (agree p (paced w)) (t 1))
+  kind-lowers PositiveBidResponse n ru g k = unmoved (openOf (s .end))
+  kind-lowers NegativeBidResponse n ru g k = unmoved (openOf (s .end))
+  kind-lowers Confirmation n ru g k = unmoved (openOf (s .end))
+  kind-lowers PacingResponse n ru g k = unmoved (openOf (s .end))
+
+  refused-count : (q : ℕ) (b : Bool) → eqb q 0 ≡ false → count (eqb q 0 && b) ≡ 0
+  refused-count q b n = ap (λ (x : Bool). count (x && b)) n
+
+  response-raises-window : Raises (isPacingResponse u) (taken naming s u)
+  response-raises-window =
+      take-cases (Raises (isPacingResponse u)) naming s u
+      (λ q w n.
+      as-was (creditOf (s .end)) (s .end .sending .window .size)
+      ∙ ap (λ (k : ℕ). creditOf (s .end) + s .end .sending .window .size * k) (sym (refused-count q (isPacingResponse u) n)))
+      (λ a k.
+      rw (pacing-taken u (a .header)) (kind-raises (headerTaken u) (numberIn u) (ruTaken u) k))
+
+  request-lowers-one : Lowers (isRequest u) (taken naming s u)
+  request-lowers-one =
+      take-cases (Lowers (isRequest u)) naming s u
+      (λ q w n. ap (λ (k : ℕ). openOf (s .end) + k) (refused-count q (isRequest u) n) ∙ unmoved (openOf (s .end)))
+      (λ a k. rw (request-taken u (a .header)) (kind-lowers (headerTaken u) (numberIn u) (ruTaken u) (a .good) k))
+
+pub credit-exact : CreditExact
+credit-exact =
+    record {
+      made = λ s v. request-costs-one s v;
+      answered = λ naming s u. response-raises-window naming s u;
+      received = λ naming s u. request-lowers-one naming s u;
+      paced = λ s v. pace-opens s v;
+    }

@@ -1,0 +1,297 @@
+-- Every call keeps question 5: the record that it leaves is within the section 'The end's record'.
+-- Assumes nothing.
+use Prim.Native.Nat.{ℕ, _+_, _-_, _*_, _≤_, _<_}
+use mathlib.Core.Path.{_≡_, refl, sym, subst}
+use mathlib.Core.Bool.{Bool, true, false, not, cond, _&&_, _||_}
+use mathlib.Core.List.{List}
+use native.Mathlib.Omega.{arith}
+use borrow.Author.Tests.{eqb-true, eqb-false, leb-true, leb-false, le-leb, ne-eqb}
+use lib.Dec.{eqb, leb}
+use lib.ListN.{length, take}
+use Rattle.header.specs.Header.{beginsBracket}
+use Rattle.unit.specs.Ru.{marks, ruGood}
+use Rattle.unit.specs.Unit.{RU-START, numberIn}
+use Rattle.header.specs.declared.Follows.{Follows}
+use Rattle.header.specs.declared.DataHeader.{DataHeader}
+use Rattle.header.specs.declared.Header.{Header}
+use Rattle.header.specs.declared.Header.the-variants.{Data, Bid, PositiveBidResponse, NegativeBidResponse, Confirmation, PacingResponse}
+use Rattle.pacing.specs.Pacing.{sizeGood, hasCredit, paced}
+use Rattle.control.specs.Tests.{isReset, isSend, isReceive, agree}
+use Rattle.control.specs.Questions.{grantFits, refusalFits, confirmationFits}
+use Rattle.transitions.specs.Transitions.{allocated, spilled, confirmationMade, markAnswered, grantTaken, refusalTaken, confirmationTaken}
+use Rattle.control.specs.declared.Control.{Control}
+use Rattle.control.specs.declared.Role.{Role}
+use Rattle.control.specs.declared.State.{State}
+use Rattle.control.specs.declared.State.the-variants.{Reset, Send, Receive, ConfirmOwed, ConfirmAwaited}
+use Rattle.answers.specs.Questions.{firstNo}
+use Rattle.answers.specs.Answers.{accepted, refused}
+use Rattle.sides.specs.Shared.{maxGood}
+use Rattle.end.specs.Record.{recordGood}
+use Rattle.sides.specs.Sending.{requestMade}
+use Rattle.sides.specs.Receiving.{requestTaken}
+use Rattle.sides.specs.Opening.{roleOf, openingQuestions, openingRefusal}
+use Rattle.session.specs.Opening.{freshEnd, zeroEnd, opened}
+use Rattle.end.specs.Outcome.{withControl, withReceiving}
+use Rattle.end.specs.Allocate.{bidMade}
+use Rattle.end.specs.SendData.{given, gone, bytesKept, bytesSpilled}
+use Rattle.end.specs.Close.{lastMade}
+use Rattle.end.specs.ReceiveUnit.{kindQuestions, headerTaken, ruTaken, dataJoined, bidAnswered, creditRaised}
+use Rattle.end.specs.Receive.{bytesRead}
+use Rattle.sides.specs.Receiving.{windowAnswered}
+use Rattle.sides.specs.declared.Session.{Session}
+use Rattle.end.specs.declared.End.{End}
+use Rattle.end.specs.declared.Done.{Done}
+use Rattle.answers.proofs.Rows.{yes}
+use Rattle.bools.proofs.Tests.{both, join, left, right}
+use Rattle.calls.proofs.ByteLists.{drop-bytes, take-bytes}
+use Rattle.calls.proofs.CallCases.{allocate-cases, close-cases, confirmed-cases, pace-cases, read-cases, readCount, send-cases, take-cases, tookKind}
+use Rattle.calls.specs.Calls.{Called, Station, Verb, called, taken}
+use Rattle.calls.specs.Laws.{AllBytes, BytesOf}
+use Rattle.end.proofs.Within.{facts, good}
+use Rattle.pacing.proofs.Windows.{answered-good, fresh-open, fresh-window}
+use Rattle.logical_record.specs.Positions.{isPosition}
+use Rattle.logical_record.specs.Walk.{walk, placeOr}
+use Rattle.logical_record.specs.declared.Position.{Position}
+use Rattle.logical_record.specs.declared.Walked.{Walked}
+use Rattle.logical_record.specs.declared.Walked.the-variants.{At, BadLength}
+use Rattle.logical_record.proofs.Walks.{walk-position}
+use Rattle.transitions.proofs.KeptWithin.{allocated-keeps, answered-keeps, bid-keeps, closed-leaves, confirmation-keeps, confirmed-keeps, data-keeps, fresh-within, given-leaves, grant-keeps, refusal-keeps, spilled-leaves}
+use Rattle.control.specs.Within.{controlGood}
+use Rattle.control.proofs.Within.{control-facts, control-good, heldFits, within}
+use Rattle.sides.proofs.Within.{SendingWithin, ReceivingWithin, max-facts, request-made, request-taken, window-answered}
+
+-- ---- the finite part by the bytes held, and the record put together again
+
+abbrev Fits : Control → ℕ → Type 0
+Fits c held = within c (leb 1 held) (eqb held 0) ≡ true
+
+control-within : (e : End) → recordGood e ≡ true → controlGood (e .control) ≡ true
+control-within e g = control-good (e .control) (facts e g .control)
+
+fits-of : (e : End) → recordGood e ≡ true → Fits (e .control) (e .sending .held)
+fits-of e g = join (controlGood (e .control)) _ (control-within e g) (facts e g .fits)
+
+good-from : (e : End) → Fits (e .control) (e .sending .held) → SendingWithin (e .sending) → ReceivingWithin (e .receiving) → recordGood e ≡ true
+good-from e f o i =
+    let h = both (controlGood (e .control)) (heldFits (e .control) (leb 1 (e .sending .held)) (eqb (e .sending .held) 0)) f in
+    good e (record { control = control-facts (e .control) (h .0); fits = h .1; sending = o; receiving = i })
+
+-- ---- record places
+
+place-at : (p : Position) (w : Walked) (bs : List ℕ) → walk p bs ≡ w → isPosition p ≡ true → AllBytes bs → isPosition (placeOr p w) ≡ true
+place-at p (At q) bs e v b = walk-position p q bs v b e
+place-at p BadLength bs e v b = v
+
+-- the place walked to over bytes is one
+place-good : (p : Position) (bs : List ℕ) → isPosition p ≡ true → AllBytes bs → isPosition (placeOr p (walk p bs)) ≡ true
+place-good p bs v b = place-at p (walk p bs) bs refl v b
+
+-- some bytes are held
+some-held : (c : Control) (n : ℕ) → 1 ≤ n → within c true false ≡ true → Fits c n
+some-held c n h w = rw (le-leb 1 n h, ne-eqb n 0 (λ z. omega arith)) w
+
+-- ---- calls that the end answers by itself
+
+module _ (s : Station) (g : recordGood (s .end) ≡ true) where
+  abbrev After : Called → Type 0
+  After m = recordGood (m .end .end) ≡ true
+
+  -- another finite part, and all else as it was
+  control-kept : (c : Control) → Fits c (s .end .sending .held) → recordGood (withControl c (s .end)) ≡ true
+  control-kept c f = good-from (withControl c (s .end)) f (facts (s .end) g .sending) (facts (s .end) g .receiving)
+
+  allocates : After (called s Verb.allocate)
+  unfolding bidMade requestMade
+  allocates =
+      let e = s .end in
+      let n = e .sending .held in
+      let o = facts e g .sending in
+      allocate-cases After s (λ q x. g)
+      (λ x a w. control-kept (allocated (e .control)) (allocated-keeps (e .control) (leb 1 n) (eqb n 0) a (fits-of e g)))
+      (λ x a w k.
+      good-from (bidMade e .end) (allocated-keeps (e .control) (leb 1 n) (eqb n 0) a (fits-of e g))
+      (request-made (e .sending) n (e .sending .given) (o .held) (o .given) o) (facts e g .receiving))
+
+  closes : (f : Follows) (b : Bool) → After (called s (Verb.close f b))
+  unfolding lastMade requestMade
+  closes f b =
+      let e = s .end in
+      let o = facts e g .sending in
+      close-cases After s f b (λ q x. g) (λ a x. g)
+      (λ a x k.
+      good-from (lastMade e f b (s .send) .end) (closed-leaves f b (e .control) (a .sending) (control-within e g))
+      (request-made (e .sending) 0 (e .sending .given) (omega arith) (o .given) o) (facts e g .receiving))
+
+  gives : (bytes : List ℕ) → AllBytes bytes → After (called s (Verb.sendData bytes))
+  unfolding bytesKept bytesSpilled requestMade
+  gives bytes b =
+      let e = s .end in
+      let o = facts e g .sending in
+      let p = place-good (e .sending .given) bytes (o .given) b in
+      send-cases After s bytes (λ q x. g)
+      (λ a k.
+      let l = a .least in
+      let h : e .sending .held + length bytes ≤ e .sending .max = leb-true (e .sending .held + length bytes) (e .sending .max) k in
+      good-from (bytesKept e bytes .end)
+      (some-held (e .control) (e .sending .held + length bytes) (omega arith) (given-leaves (e .control) (a .sending) (control-within e g)))
+      (record { window = o .window; max = o .max; held = h; given = p }) (facts e g .receiving))
+      (λ a k c.
+      let l = a .least in
+      let m = a .most in
+      let held = o .held in
+      let h : e .sending .max < e .sending .held + length bytes = leb-false (e .sending .held + length bytes) (e .sending .max) k in
+      good-from (bytesSpilled e bytes (s .send) .end)
+      (some-held (spilled (e .control)) (length bytes - gone e) (omega arith) (spilled-leaves (e .control) (a .sending) (control-within e g)))
+      (request-made (e .sending) (length bytes - gone e) (given e bytes) (omega arith) p o) (facts e g .receiving))
+
+  reads : (buffer : List ℕ) → AllBytes (s .inbox) → After (called s (Verb.receive buffer))
+  unfolding bytesRead
+  reads buffer b =
+      let e = s .end in
+      let n = e .sending .held in
+      let i = facts e g .receiving in
+      let k = readCount s buffer in
+      let room = i .room in
+      read-cases After s buffer (λ q w x. g)
+      (λ a h.
+      good-from (bytesRead e k (s .inbox) .end) (fits-of e g) (facts e g .sending)
+      (record {
+        window = i .window;
+        max = i .max;
+        room = omega arith;
+        taken = i .taken;
+        read = place-good (e .receiving .read) (take k (s .inbox)) (i .read) (take-bytes k (s .inbox) b);
+      }))
+      (λ a h m. control-kept (markAnswered (e .control)) (answered-keeps (e .control) (leb 1 n) (eqb n 0) m (fits-of e g)))
+
+  calls : (v : Verb) → BytesOf v → AllBytes (s .inbox) → After (called s v)
+  unfolding called
+  calls Verb.allocate b i = allocates
+  calls Verb.confirmed b i =
+      let e = s .end in
+      let n = e .sending .held in
+      confirmed-cases After s (λ q x. g)
+      (λ x a. control-kept (confirmationMade (e .control)) (confirmed-keeps (e .control) (leb 1 n) (eqb n 0) a (fits-of e g)))
+  calls Verb.pace b i =
+      let e = s .end in
+      pace-cases After s (λ q x. g)
+      (λ x a.
+      good-from (withReceiving (windowAnswered (e .receiving)) e) (fits-of e g) (facts e g .sending) (window-answered (e .receiving) a (facts e g .receiving)))
+  calls (Verb.sendData bytes) b i = gives bytes b
+  calls (Verb.close f c) b i = closes f c
+  calls (Verb.receive buffer) b i = reads buffer i
+
+-- every call leaves a good record
+pub good-acts : (s : Station) (v : Verb) → BytesOf v → AllBytes (s .inbox) → recordGood (s .end) ≡ true → recordGood (called s v .end .end) ≡ true
+good-acts s v b i g = calls s g v b i
+
+-- ---- takes
+
+-- 26: data comes only outside Send
+fits-not-sending : (s : State) (b : Bool) → isReceive s || (isReset s && b) ≡ true → not (isSend s) ≡ true
+fits-not-sending Reset b e = refl
+fits-not-sending Send b e = e
+fits-not-sending Receive b e = refl
+fits-not-sending ConfirmOwed b e = refl
+fits-not-sending ConfirmAwaited b e = refl
+
+module _ (s : Station) (g : recordGood (s .end) ≡ true) where
+  abbrev Left : Called → Type 0
+  Left t = recordGood (t .end .end) ≡ true
+
+  -- 22: the RU is at most M
+  ru-most : (d : DataHeader) (ru : List ℕ) → ruGood (s .end .receiving .max) (Data d) ru ≡ true → length ru ≤ s .end .receiving .max
+  unfolding ruGood
+  ru-most d ru e =
+      let m = s .end .receiving .max in
+      leb-true (length ru) m (left (leb (length ru) m) (leb 1 (length ru) || marks (d .ends)) e)
+
+  kind-good : (h : Header) (n : ℕ) (ru : List ℕ) → AllBytes ru → firstNo (kindQuestions (s .end) h n ru) ≡ 0 → Left (tookKind s h n ru)
+  unfolding dataJoined bidAnswered creditRaised requestTaken
+  kind-good (Data d) n ru b k =
+      let e = s .end in
+      let c = e .control in
+      let r = e .receiving in
+      let t = yes (kindQuestions e (Data d) n ru) tt k in
+      let i = facts e g .receiving in
+      let most = ru-most d ru (t 0) in
+      good-from (dataJoined e d n ru .end)
+      (data-keeps (d .ends) c (leb 1 (e .sending .held)) (eqb (e .sending .held) 0)
+      (fits-not-sending (c .state) (beginsBracket (d .begins)) (t 5)) (fits-of e g))
+      (facts e g .sending)
+      (request-taken r (r .held + length ru) _ (left (hasCredit (r .window)) (agree (d .pacing) (paced (r .window))) (t 1)) (omega arith)
+      (place-good (r .taken) ru (i .taken) b) i)
+  kind-good (Bid p) n ru b k =
+      let e = s .end in
+      let c = e .control in
+      let r = e .receiving in
+      let t = yes (kindQuestions e (Bid p) n ru) tt k in
+      let i = facts e g .receiving in
+      good-from (bidAnswered e n .end) (bid-keeps c (leb 1 (e .sending .held)) (eqb (e .sending .held) 0) (fits-of e g)) (facts e g .sending)
+      (request-taken r (r .held) (r .taken) (left (hasCredit (r .window)) (agree p (paced (r .window))) (t 1)) (omega arith) (i .taken) i)
+  kind-good PositiveBidResponse n ru b k =
+      let e = s .end in
+      let t = yes (kindQuestions e PositiveBidResponse n ru) tt k in
+      control-kept s g (grantTaken (e .control))
+      (grant-keeps (e .control) (leb 1 (e .sending .held)) (eqb (e .sending .held) 0) (left (grantFits (e .control)) (eqb n (e .bidding)) (t 1)) (fits-of e g))
+  kind-good NegativeBidResponse n ru b k =
+      let e = s .end in
+      let t = yes (kindQuestions e NegativeBidResponse n ru) tt k in
+      control-kept s g (refusalTaken (e .control))
+      (refusal-keeps (e .control) (leb 1 (e .sending .held)) (eqb (e .sending .held) 0)
+      (left (refusalFits (e .control)) (eqb n (e .bidding)) (t 1)) (fits-of e g))
+  kind-good Confirmation n ru b k =
+      let e = s .end in
+      let t = yes (kindQuestions e Confirmation n ru) tt k in
+      control-kept s g (confirmationTaken (e .control))
+      (confirmation-keeps (e .control) (leb 1 (e .sending .held)) (eqb (e .sending .held) 0)
+      (left (confirmationFits (e .control)) (eqb n (e .sending .number)) (t 1)) (fits-of e g))
+  kind-good PacingResponse n ru b k =
+      let e = s .end in
+      let o = facts e g .sending in
+      good-from (creditRaised e .end) (fits-of e g)
+      (record { window = answered-good (e .sending .window) (o .window); max = o .max; held = o .held; given = o .given }) (facts e g .receiving)
+
+-- every take leaves a good record
+pub good-takes :
+    (naming : List ℕ → ℕ) (s : Station) (u : List ℕ) → AllBytes u → recordGood (s .end) ≡ true → recordGood (taken naming s u .end .end) ≡ true
+good-takes naming s u b g =
+    take-cases (Left s g) naming s u (λ q w x. g)
+    (λ a k. kind-good s g (headerTaken u) (numberIn u) (ruTaken u) (drop-bytes RU-START u b) k)
+
+-- ---- openings
+
+fresh-good : (r : Role) (s : Session) (n m k : ℕ) → firstNo (openingQuestions s n m k) ≡ 0
+    → recordGood (freshEnd r (s .outwindow) (s .outmax) (s .inwindow) (s .inmax) k) ≡ true
+fresh-good r s n m k e =
+    let t = yes (openingQuestions s n m k) tt e in
+    let inbox = right (leb (s .outmax + 5) m) _ (right (leb (s .outmax) n) _ (t 3)) in
+    good-from (freshEnd r (s .outwindow) (s .outmax) (s .inwindow) (s .inmax) k) (fresh-within r)
+    (record {
+      window = fresh-window (s .outwindow) (left (sizeGood (s .outwindow)) (sizeGood (s .inwindow)) (t 1));
+      max = max-facts (s .outmax) (left (maxGood (s .outmax)) (maxGood (s .inmax)) (t 2));
+      held = omega arith;
+      given = refl;
+    })
+    (record {
+      window = fresh-window (s .inwindow) (right (sizeGood (s .outwindow)) (sizeGood (s .inwindow)) (t 1));
+      max = max-facts (s .inmax) (right (maxGood (s .outmax)) (maxGood (s .inmax)) (t 2));
+      room =
+          subst (λ (c : ℕ). 0 + c * s .inmax ≤ k) (sym (fresh-open (s .inwindow)))
+          (let h = leb-true (s .inwindow * s .inmax) k (left (leb (s .inwindow * s .inmax) k) (leb k 65535) inbox) in omega arith);
+      taken = refl;
+      read = refl;
+    })
+
+chosen-good : (b : Bool) (x y : Done) → (b ≡ true → recordGood (x .end) ≡ true) → (b ≡ false → y .answer .refusal ≡ 0 → ⊥)
+    → cond b x y .answer .refusal ≡ 0 → recordGood (cond b x y .end) ≡ true
+chosen-good true x y f n e = f refl
+chosen-good false x y f n e = absurd (n refl e)
+
+-- an accepted opening leaves a good record
+pub good-opened : (s : Session) (n m k : ℕ) → opened s n m k .answer .refusal ≡ 0 → recordGood (opened s n m k .end) ≡ true
+unfolding opened openingRefusal
+good-opened s n m k e =
+    let q : ℕ = openingRefusal s n m k in
+    chosen-good (eqb q 0) (record { answer = accepted 0; end = freshEnd (roleOf (s .role)) (s .outwindow) (s .outmax) (s .inwindow) (s .inmax) k })
+    (record { answer = refused q; end = zeroEnd }) (λ y. fresh-good (roleOf (s .role)) s n m k (eqb-true q 0 y)) (λ y z. eqb-false q 0 y z) e

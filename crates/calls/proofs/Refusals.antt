@@ -1,0 +1,199 @@
+-- A refused call gives the number of its first question answered no, changes nothing and makes no unit; an accepted call's record was within the section
+-- 'The end's record'.
+-- Assumes nothing.
+use Prim.Native.Nat.{ℕ}
+use mathlib.Core.Path.{_≡_, refl, sym, ap, _∙_}
+use mathlib.Core.Bool.{Bool, true, false, not, cond, _&&_, _||_}
+use mathlib.Core.List.{List, [], _∷_}
+use borrow.Author.Tests.{eqb-true}
+use lib.Dec.{eqb}
+use lib.ListN.{length}
+use Rattle.unit.specs.Unit.{numberIn}
+use Rattle.header.specs.declared.Header.{Header}
+use Rattle.header.specs.declared.Header.the-variants.{Data, Bid, PositiveBidResponse, NegativeBidResponse, Confirmation, PacingResponse}
+use Rattle.control.specs.Tests.{isFirstSpeaker}
+use Rattle.transitions.specs.Transitions.{allocated}
+use Rattle.answers.specs.Questions.{firstNo}
+use Rattle.answers.specs.Answers.{accepted, refused, refusedNaming}
+use Rattle.answers.specs.declared.Answer.{Answer}
+use Rattle.sides.specs.Sending.{keeps}
+use Rattle.end.specs.Record.{recordGood}
+use Rattle.end.specs.Outcome.{nothing, lengthOut, Decision, accept, decided, answerOf, withControl}
+use Rattle.end.specs.Allocate.{allocateRefusal, bidMade, allocateDecision, allocate}
+use Rattle.end.specs.SendData.{sendRefusal, bytesKept, bytesSpilled, sendDecision, sendData}
+use Rattle.end.specs.Close.{nothingGoes, closeRefusal, lastMade, closeDecision, close}
+use Rattle.end.specs.Confirmed.{confirmedRefusal, confirmedDecision, confirmed}
+use Rattle.end.specs.ReceiveUnit.{kindQuestions, headerTaken, ruTaken, takeRefusal, dataJoined, bidAnswered, creditRaised, kindTaken, takeDecision, receiveUnit}
+use Rattle.end.specs.Receive.{someHeld, readRefusal, bytesRead, markRead, readDecision, receive}
+use Rattle.end.specs.Pace.{paceRefusal, paceDecision, pace}
+use Rattle.end.specs.declared.End.{End}
+use Rattle.end.specs.declared.ReadDone.{ReadDone}
+use Rattle.bools.proofs.Cases.{cases}
+use Rattle.bools.proofs.Tests.{join, left, never, right}
+use Rattle.calls.proofs.CallCases.{allocate-cases, close-cases, confirmed-cases, pace-cases, read-cases, send-cases, take-cases, tookKind}
+use Rattle.calls.specs.Calls.{Called, Station, Verb, called, refusalIn, taken}
+use Rattle.calls.specs.Laws.{questions, takeQuestions}
+
+-- an accepted call was not refused, and a refused one not accepted
+yes : {X : Type 0} → true ≡ false → X
+yes e = absurd (never e)
+
+no : {X : Type 0} (b : Bool) → b ≡ false → b ≡ true → X
+no b n h = absurd (never (sym h ∙ n))
+
+-- ---- the number
+
+-- the number of a decision is that of the first question answered no, whatever else a refusal says
+module _ (says : ℕ → Answer) (law : (q : ℕ) → says q .refusal ≡ q) where
+  abbrev answer : Decision → Answer
+  answer d = cond (eqb (d .refusal) 0) (accepted (lengthOut (d .out))) (says (d .refusal))
+
+  number-of : (q : ℕ) (e : End) (d : Decision) → d .refusal ≡ 0 → answer (decided q e d) .refusal ≡ q
+  number-of q e d z =
+      cases (λ (x : Decision). answer x .refusal ≡ q) (eqb q 0)
+      (λ y.
+      let o = sym (eqb-true q 0 y) in
+      cases (λ (a : Answer). a .refusal ≡ q) (eqb (d .refusal) 0) (λ x. o) (λ x. law (d .refusal) ∙ z ∙ o))
+      (λ n. cases (λ (a : Answer). a .refusal ≡ q) (eqb q 0) (λ y. sym (eqb-true q 0 y)) (λ y. law q))
+
+both-accepted : (b : Bool) (x y : Decision) → x .refusal ≡ 0 → y .refusal ≡ 0 → cond b x y .refusal ≡ 0
+both-accepted b x y e f = cases (λ (d : Decision). d .refusal ≡ 0) b (λ z. e) (λ z. f)
+
+decided-number : (q : ℕ) (e : End) (d : Decision) → d .refusal ≡ 0 → answerOf (decided q e d) .refusal ≡ q
+decided-number q e d z = number-of refused (λ n. refl) q e d z
+
+pub number-is : (s : Station) (v : Verb) → refusalIn (called s v .answer) ≡ firstNo (questions s v)
+unfolding called allocate allocateDecision allocateRefusal bidMade sendData sendDecision sendRefusal bytesKept bytesSpilled close closeDecision closeRefusal lastMade confirmed confirmedDecision confirmedRefusal pace paceDecision paceRefusal receive readDecision readRefusal bytesRead markRead
+number-is s Verb.allocate =
+    decided-number _ (s .end) _
+    (both-accepted (isFirstSpeaker (s .end .control .role)) (accept (withControl (allocated (s .end .control)) (s .end)) nothing) (bidMade (s .end)) refl refl)
+number-is s Verb.confirmed = decided-number _ (s .end) _ refl
+number-is s Verb.pace = decided-number _ (s .end) _ refl
+number-is s (Verb.sendData bytes) =
+    decided-number _ (s .end) _
+    (both-accepted (keeps (s .end .sending) (length bytes)) (bytesKept (s .end) bytes) (bytesSpilled (s .end) bytes (s .send)) refl refl)
+number-is s (Verb.close f b) =
+    decided-number _ (s .end) _ (both-accepted (nothingGoes (s .end) f b) (accept (s .end) nothing) (lastMade (s .end) f b (s .send)) refl refl)
+number-is s (Verb.receive buffer) =
+    let q : ℕ = readRefusal (s .end) (s .inbox) (length buffer) in
+    cases (λ (d : ReadDone). d .answer .answer .refusal ≡ q) (eqb q 0)
+    (λ y. cases (λ (d : ReadDone). d .answer .answer .refusal ≡ q) (someHeld (s .end)) (λ h. sym (eqb-true q 0 y)) (λ h. sym (eqb-true q 0 y)))
+    (λ n. refl)
+
+kind-accepted : (e : End) (h : Header) (n : ℕ) (ru : List ℕ) → kindTaken e h n ru .refusal ≡ 0
+unfolding dataJoined bidAnswered creditRaised
+kind-accepted e (Data d) n ru = refl
+kind-accepted e (Bid p) n ru = refl
+kind-accepted e PositiveBidResponse n ru = refl
+kind-accepted e NegativeBidResponse n ru = refl
+kind-accepted e Confirmation n ru = refl
+kind-accepted e PacingResponse n ru = refl
+
+pub take-number-is : (naming : List ℕ → ℕ) (s : Station) (u : List ℕ) → refusalIn (taken naming s u .answer) ≡ firstNo (takeQuestions s u)
+unfolding taken receiveUnit takeDecision takeRefusal
+take-number-is naming s u =
+    number-of (refusedNaming (naming u)) (λ q. refl) _ (s .end) _ (kind-accepted (s .end) (headerTaken u) (numberIn u) (ruTaken u))
+
+-- ---- 5 is no number of a call whose record is within the section
+
+-- no question that gives the number k is answered no
+abbrev passes : ℕ → List (Bool × ℕ) → Bool
+passes k [] = true
+passes k (q ∷ qs) = (not (eqb (q .1) k) || q .0) && passes k qs
+
+not-first : (qs : List (Bool × ℕ)) (k : ℕ) → eqb 0 k ≡ false → passes k qs ≡ true → eqb (firstNo qs) k ≡ false
+not-first [] k z p = z
+not-first (q ∷ qs) k z p =
+    cases (λ (n : ℕ). eqb n k ≡ false) (q .0)
+    (λ y. not-first qs k z (right (not (eqb (q .1) k) || q .0) (passes k qs) p))
+    (λ n. by (eqb (q .1) k) (q .0) n (left (not (eqb (q .1) k) || q .0) (passes k qs) p))
+  where
+    by : (a b : Bool) → b ≡ false → not a || b ≡ true → a ≡ false
+    by true b n e = absurd (never (sym e ∙ n))
+    by false b n e = refl
+
+module _ (s : Station) (g : recordGood (s .end) ≡ true) where
+  asked-5 : (v : Verb) → passes 5 (questions s v) ≡ true
+  asked-5 Verb.allocate = ap (λ (b : Bool). b && true) g
+  asked-5 Verb.confirmed = ap (λ (b : Bool). b && true) g
+  asked-5 Verb.pace = ap (λ (b : Bool). b && true) g
+  asked-5 (Verb.sendData bytes) = ap (λ (b : Bool). b && true) g
+  asked-5 (Verb.close f b) = ap (λ (b : Bool). b && true) g
+  asked-5 (Verb.receive buffer) = ap (λ (b : Bool). b && true) g
+
+  pub never-5 : (v : Verb) → eqb (refusalIn (called s v .answer)) 5 ≡ false
+  never-5 v = ap (λ (q : ℕ). eqb q 5) (number-is s v) ∙ not-first (questions s v) 5 refl (asked-5 v)
+
+  kind-5 : (h : Header) (n : ℕ) (ru : List ℕ) → passes 5 (kindQuestions (s .end) h n ru) ≡ true
+  kind-5 (Data d) n ru = refl
+  kind-5 (Bid p) n ru = refl
+  kind-5 PositiveBidResponse n ru = refl
+  kind-5 NegativeBidResponse n ru = refl
+  kind-5 Confirmation n ru = refl
+  kind-5 PacingResponse n ru = refl
+
+  pub take-never-5 : (naming : List ℕ → ℕ) (u : List ℕ) → eqb (refusalIn (taken naming s u .answer)) 5 ≡ false
+  take-never-5 naming u =
+      ap (λ (q : ℕ). eqb q 5) (take-number-is naming s u)
+      ∙ not-first (takeQuestions s u) 5 refl (join (recordGood (s .end)) _ g (kind-5 (headerTaken u) (numberIn u) (ruTaken u)))
+
+-- ---- calls that the end answers by itself
+
+module _ (s : Station) where
+  -- neither the record nor a lent cell is changed, and no unit is made
+  abbrev Nothing : Called → Type 0
+  Nothing m = eqb (refusalIn (m .answer)) 0 ≡ false → (m .end ≡ s) × (m .sent ≡ [])
+
+  pub refused-nothing : (v : Verb) → eqb (refusalIn (called s v .answer)) 0 ≡ false → (called s v .end ≡ s) × (called s v .sent ≡ [])
+  unfolding called bytesRead markRead
+  refused-nothing Verb.allocate = allocate-cases Nothing s (λ q n h. (refl, refl)) (λ g a w h. yes h) (λ g a w k h. yes h)
+  refused-nothing Verb.confirmed = confirmed-cases Nothing s (λ q n h. (refl, refl)) (λ g a h. yes h)
+  refused-nothing Verb.pace = pace-cases Nothing s (λ q n h. (refl, refl)) (λ g a h. yes h)
+  refused-nothing (Verb.sendData bytes) = send-cases Nothing s bytes (λ q n h. (refl, refl)) (λ a k h. yes h) (λ a k c h. yes h)
+  refused-nothing (Verb.close f b) = close-cases Nothing s f b (λ q n h. (refl, refl)) (λ a n h. yes h) (λ a n k h. yes h)
+  refused-nothing (Verb.receive buffer) = read-cases Nothing s buffer (λ q w n h. (refl, refl)) (λ a k h. yes h) (λ a k m h. yes h)
+
+  -- a refused read leaves the caller's buffer as it was
+  pub refused-buffer : (buffer : List ℕ) → eqb (refusalIn (called s (Verb.receive buffer) .answer)) 0 ≡ false
+      → called s (Verb.receive buffer) .answer .buffer ≡ buffer
+  unfolding bytesRead markRead
+  refused-buffer buffer =
+      read-cases (λ (m : Called). eqb (refusalIn (m .answer)) 0 ≡ false → m .answer .buffer ≡ buffer) s buffer
+      (λ q w n h. refl) (λ a k h. yes h) (λ a k m h. yes h)
+
+  abbrev Asked : Called → Type 0
+  Asked m = eqb (refusalIn (m .answer)) 0 ≡ true → recordGood (s .end) ≡ true
+
+  pub accepted-good : (v : Verb) → eqb (refusalIn (called s v .answer)) 0 ≡ true → recordGood (s .end) ≡ true
+  unfolding called bytesRead markRead
+  accepted-good Verb.allocate = allocate-cases Asked s (λ q n h. no (eqb q 0) n h) (λ g a w h. g) (λ g a w k h. g)
+  accepted-good Verb.confirmed = confirmed-cases Asked s (λ q n h. no (eqb q 0) n h) (λ g a h. g)
+  accepted-good Verb.pace = pace-cases Asked s (λ q n h. no (eqb q 0) n h) (λ g a h. g)
+  accepted-good (Verb.sendData bytes) = send-cases Asked s bytes (λ q n h. no (eqb q 0) n h) (λ a k h. a .good) (λ a k c h. a .good)
+  accepted-good (Verb.close f b) = close-cases Asked s f b (λ q n h. no (eqb q 0) n h) (λ a n h. a .good) (λ a n k h. a .good)
+  accepted-good (Verb.receive buffer) = read-cases Asked s buffer (λ q w n h. no (eqb q 0) n h) (λ a k h. a .good) (λ a k m h. a .good)
+
+-- ---- takes
+
+module _ (naming : List ℕ → ℕ) (s : Station) (u : List ℕ) where
+  abbrev Untaken : Called → Type 0
+  Untaken t = eqb (refusalIn (t .answer)) 0 ≡ false → (t .end ≡ s) × (t .sent ≡ [])
+
+  kind-untaken : (h : Header) (n : ℕ) (ru : List ℕ) → Untaken (tookKind s h n ru)
+  kind-untaken (Data d) n ru h = yes h
+  kind-untaken (Bid p) n ru h = yes h
+  kind-untaken PositiveBidResponse n ru h = yes h
+  kind-untaken NegativeBidResponse n ru h = yes h
+  kind-untaken Confirmation n ru h = yes h
+  kind-untaken PacingResponse n ru h = yes h
+
+  -- a refused take changes nothing, makes no unit, and leaves the unit on its line
+  pub refused-take-nothing : eqb (refusalIn (taken naming s u .answer)) 0 ≡ false
+      → (taken naming s u .end ≡ s) × (taken naming s u .sent ≡ [])
+  refused-take-nothing =
+      take-cases Untaken naming s u (λ q w n h. (refl, refl)) (λ a k. kind-untaken (headerTaken u) (numberIn u) (ruTaken u))
+
+  pub accepted-take-good : eqb (refusalIn (taken naming s u .answer)) 0 ≡ true → recordGood (s .end) ≡ true
+  accepted-take-good =
+      take-cases (λ (t : Called). eqb (refusalIn (t .answer)) 0 ≡ true → recordGood (s .end) ≡ true) naming s u
+      (λ q w n h. no (eqb q 0) n h) (λ a k h. a .good)

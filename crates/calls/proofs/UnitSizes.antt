@@ -1,0 +1,96 @@
+-- A unit that a call makes is at most 1,029 bytes long, and stands within the unit buffer.
+-- Assumes nothing.
+use Prim.Native.Nat.{ℕ, _+_, _≤_, zero-le}
+use mathlib.Core.Path.{_≡_}
+use mathlib.Core.Bool.{true}
+use mathlib.Core.List.{List}
+use native.Mathlib.Omega.{arith}
+use lib.ListN.{length, length-append, length-take}
+use Rattle.cells.specs.Cells.{front}
+use Rattle.unit.specs.Ru.{bidRu, fixedRu}
+use Rattle.unit.specs.Unit.{unitOf, numberIn}
+use Rattle.unit.proofs.Units.{unit-length}
+use Rattle.header.specs.declared.Header.{Header}
+use Rattle.header.specs.declared.Header.the-variants.{Data, Bid, PositiveBidResponse, NegativeBidResponse, Confirmation, PacingResponse}
+use Rattle.transitions.specs.Transitions.{bidAnswer}
+use Rattle.end.specs.Record.{recordGood}
+use Rattle.end.specs.SendData.{heldBytes}
+use Rattle.end.specs.Receive.{bytesRead, markRead}
+use Rattle.end.specs.ReceiveUnit.{headerTaken, ruTaken}
+use Rattle.end.specs.declared.End.{End}
+use Rattle.end.proofs.Within.{facts}
+use Rattle.calls.specs.Calls.{Called, Station, Verb, called, taken}
+use Rattle.calls.specs.Laws.{UnitsFit}
+use Rattle.calls.proofs.CallCases.{spilledRu, allocate-cases, send-cases, close-cases, confirmed-cases, pace-cases, read-cases, take-cases, tookKind}
+
+-- a unit of n bytes at the front of these cells, short enough
+pub record Fits (n : ℕ) (cells : List ℕ) : Type 0 where
+  pub short : n ≤ 1029
+  pub there : n ≤ length cells
+
+none : (cells : List ℕ) → Fits 0 cells
+none cells = record { short = zero-le; there = zero-le }
+
+unit-fits : (n : ℕ) (h : Header) (ru cells : List ℕ) → length ru ≤ 1024 → Fits (5 + length ru) (front (unitOf n h ru) cells)
+unfolding front
+unit-fits n h ru cells l =
+    record { short = omega arith; there = simp (length-append, unit-length) (omega arith) }
+
+held-short : (e : End) (send : List ℕ) → recordGood e ≡ true → length (heldBytes e send) ≤ 1024
+held-short e send g = simp length-take (omega (arith, facts e g .sending .held, facts e g .sending .max .most))
+
+spilled-short : (s : Station) (bytes : List ℕ) → recordGood (s .end) ≡ true → length (spilledRu s bytes) ≤ 1024
+spilled-short s bytes g = simp (length-append, length-take) (omega (arith, facts (s .end) g .sending .held, facts (s .end) g .sending .max .most))
+
+module _ (s : Station) where
+  abbrev After : Called → Type 0
+  After m = Fits (m .answer .answer .answer .unit) (m .end .unit)
+
+  pub acts-fit : (v : Verb) → After (called s v)
+  unfolding called bytesRead markRead
+  acts-fit Verb.allocate =
+      allocate-cases After s (λ q n. none (s .unit)) (λ g a w. none (s .unit)) (λ g a w k. unit-fits _ _ bidRu (s .unit) (omega arith))
+  acts-fit Verb.confirmed = confirmed-cases After s (λ q n. none (s .unit)) (λ g a. unit-fits _ _ _ (s .unit) (omega arith))
+  acts-fit Verb.pace = pace-cases After s (λ q n. none (s .unit)) (λ g a. unit-fits _ _ _ (s .unit) (omega arith))
+  acts-fit (Verb.sendData bytes) =
+      send-cases After s bytes (λ q n. none (s .unit)) (λ a k. none (s .unit))
+      (λ a k h. unit-fits _ _ (spilledRu s bytes) (s .unit) (spilled-short s bytes (a .good)))
+  acts-fit (Verb.close f c) =
+      close-cases After s f c (λ q n. none (s .unit)) (λ a n. none (s .unit))
+      (λ a n k. unit-fits _ _ (heldBytes (s .end) (s .send)) (s .unit) (held-short (s .end) (s .send) (a .good)))
+  acts-fit (Verb.receive buffer) =
+      read-cases After s buffer (λ q w n. none (s .unit)) (λ a h. none (s .unit)) (λ a h m. none (s .unit))
+
+  fixed-short : (h : Header) → length (fixedRu h) ≤ 1024
+  fixed-short (Data d) = omega arith
+  fixed-short (Bid p) = omega arith
+  fixed-short PositiveBidResponse = omega arith
+  fixed-short NegativeBidResponse = omega arith
+  fixed-short Confirmation = omega arith
+  fixed-short PacingResponse = omega arith
+
+  abbrev AfterTake : Called → Type 0
+  AfterTake t = Fits (t .answer .answer .answer .unit) (t .end .unit)
+
+  kind-fits : (h : Header) (n : ℕ) (ru : List ℕ) → AfterTake (tookKind s h n ru)
+  kind-fits (Data d) n ru = none (s .unit)
+  kind-fits (Bid p) n ru =
+      let h = bidAnswer (s .end .control) in
+      unit-fits n h (fixedRu h) (s .unit) (fixed-short h)
+  kind-fits PositiveBidResponse n ru = none (s .unit)
+  kind-fits NegativeBidResponse n ru = none (s .unit)
+  kind-fits Confirmation n ru = none (s .unit)
+  kind-fits PacingResponse n ru = none (s .unit)
+
+  pub takes-fit : (naming : List ℕ → ℕ) (u : List ℕ) → AfterTake (taken naming s u)
+  takes-fit naming u =
+      take-cases AfterTake naming s u (λ q w n. none (s .unit)) (λ a k. kind-fits (headerTaken u) (numberIn u) (ruTaken u))
+
+pub units-fit : UnitsFit
+units-fit =
+    record {
+      made = λ s v. acts-fit s v .there;
+      short = λ s v. acts-fit s v .short;
+      made-by-take = λ naming s u. takes-fit s naming u .there;
+      short-by-take = λ naming s u. takes-fit s naming u .short;
+    }

@@ -1,0 +1,107 @@
+-- What holds of each call by itself, at any record, cells and unit, forged ones too: what a refusal is and leaves, question 5, and what a request and a
+-- pacing response cost.
+-- Assumes nothing.
+use Prim.Native.Nat.{ℕ, _+_, _*_, _≤_, _<_}
+use mathlib.Core.Path.{_≡_}
+use mathlib.Core.Bool.{Bool, true, false, _&&_}
+use mathlib.Core.List.{List, [], _++_}
+use lib.Dec.{eqb}
+use lib.ListN.{length, getD}
+use Rattle.unit.specs.Unit.{numberIn}
+use Rattle.answers.specs.Questions.{firstNo}
+use Rattle.session.specs.Opening.{opened}
+use Rattle.end.specs.Record.{recordGood, creditOf, openOf}
+use Rattle.end.specs.Allocate.{allocateQuestions}
+use Rattle.end.specs.SendData.{sendQuestions}
+use Rattle.end.specs.Close.{closeQuestions}
+use Rattle.end.specs.Confirmed.{confirmedQuestions}
+use Rattle.end.specs.ReceiveUnit.{headQuestions, kindQuestions, headerTaken, ruTaken}
+use Rattle.end.specs.Receive.{readQuestions}
+use Rattle.end.specs.Pace.{paceQuestions}
+use Rattle.sides.specs.declared.Session.{Session}
+use Rattle.calls.specs.Calls.{Station, Verb, allocate, confirmed, pace, sendData, close, receive, refusalIn, called, taken}
+use Rattle.calls.specs.Units.{count, isRequest, requestsAmong, isPacingResponse}
+
+-- ---- refusals
+
+-- the questions of a call in document 01's order, each with its number
+abbrev pub questions : Station → Verb → List (Bool × ℕ)
+questions s allocate = allocateQuestions (s .end) (length (s .unit))
+questions s confirmed = confirmedQuestions (s .end) (length (s .unit))
+questions s pace = paceQuestions (s .end) (length (s .unit))
+questions s (sendData bytes) = sendQuestions (s .end) bytes (length (s .send)) (length (s .unit))
+questions s (close f b) = closeQuestions (s .end) f b (length (s .send)) (length (s .unit))
+questions s (receive buffer) = readQuestions (s .end) (s .inbox) (length buffer)
+
+abbrev pub takeQuestions : Station → List ℕ → List (Bool × ℕ)
+takeQuestions s u =
+    headQuestions (s .end) u (length (s .inbox)) (length (s .unit)) ++ kindQuestions (s .end) (headerTaken u) (numberIn u) (ruTaken u)
+
+-- A refused call gives the first number that fits, and changes neither the record nor one lent cell; `naming` is the choice of a rule that 21 leaves free.
+pub record Refusals : Type 0 where
+  -- the first "no" gives the number
+  pub number : (s : Station) (v : Verb) → refusalIn (called s v .answer) ≡ firstNo (questions s v)
+  pub number-of-take : (naming : List ℕ → ℕ) (s : Station) (u : List ℕ) → refusalIn (taken naming s u .answer) ≡ firstNo (takeQuestions s u)
+  -- the record and the cells lent at opening are as before, and no unit is made
+  pub changes-nothing : (s : Station) (v : Verb) → (refusalIn (called s v .answer) ≡ 0 → ⊥) → (called s v .end ≡ s) × (called s v .sent ≡ [])
+  -- the buffer lent to a read too
+  pub leaves-buffer : (s : Station) (buffer : List ℕ) → (refusalIn (called s (receive buffer) .answer) ≡ 0 → ⊥)
+      → called s (receive buffer) .answer .buffer ≡ buffer
+  -- so does a take
+  pub takes-nothing : (naming : List ℕ → ℕ) (s : Station) (u : List ℕ) → (refusalIn (taken naming s u .answer) ≡ 0 → ⊥)
+      → (taken naming s u .end ≡ s) × (taken naming s u .sent ≡ [])
+
+-- ---- question 5
+
+-- each of the list is a byte
+abbrev pub AllBytes : List ℕ → Type 0
+AllBytes bs = (k : ℕ) → getD bs k 0 < 256
+
+-- the bytes that a call gives are bytes
+abbrev pub BytesOf : Verb → Type 0
+BytesOf allocate = Unit {0}
+BytesOf confirmed = Unit {0}
+BytesOf pace = Unit {0}
+BytesOf (sendData bytes) = AllBytes bytes
+BytesOf (close f b) = Unit {0}
+BytesOf (receive buffer) = Unit {0}
+
+-- An accepted call's record was within the section 'The end's record', and the record that it leaves is; so is that of an accepted opening.
+pub record StaysGood : Type 0 where
+  pub was : (s : Station) (v : Verb) → refusalIn (called s v .answer) ≡ 0 → recordGood (s .end) ≡ true
+  pub was-at-take : (naming : List ℕ → ℕ) (s : Station) (u : List ℕ) → refusalIn (taken naming s u .answer) ≡ 0 → recordGood (s .end) ≡ true
+  pub is : (s : Station) (v : Verb) → BytesOf v → AllBytes (s .inbox) → refusalIn (called s v .answer) ≡ 0 → recordGood (called s v .end .end) ≡ true
+  pub is-after-take : (naming : List ℕ → ℕ) (s : Station) (u : List ℕ) → AllBytes u → refusalIn (taken naming s u .answer) ≡ 0
+      → recordGood (taken naming s u .end .end) ≡ true
+  pub is-opened : (s : Session) (send unit inbox : ℕ) → opened s send unit inbox .answer .refusal ≡ 0 → recordGood (opened s send unit inbox .end) ≡ true
+
+-- ---- credit and open
+
+abbrev pub isPace : Verb → Bool
+isPace allocate = false
+isPace confirmed = false
+isPace pace = true
+isPace (sendData bytes) = false
+isPace (close f b) = false
+isPace (receive buffer) = false
+
+-- A request made costs exactly 1 credit and a pacing answer taken raises it by exactly W; a request taken lowers open by exactly 1 and pace raises it by
+-- exactly W; nothing else moves them.
+pub record CreditExact : Type 0 where
+  pub made : (s : Station) (v : Verb) → requestsAmong (called s v .sent) + creditOf (called s v .end .end) ≡ creditOf (s .end)
+  pub answered : (naming : List ℕ → ℕ) (s : Station) (u : List ℕ)
+      → creditOf (taken naming s u .end .end)
+      ≡ creditOf (s .end) + s .end .sending .window .size * count (eqb (refusalIn (taken naming s u .answer)) 0 && isPacingResponse u)
+  pub received : (naming : List ℕ → ℕ) (s : Station) (u : List ℕ)
+      → openOf (taken naming s u .end .end) + count (eqb (refusalIn (taken naming s u .answer)) 0 && isRequest u) ≡ openOf (s .end)
+  pub paced : (s : Station) (v : Verb)
+      → openOf (called s v .end .end) ≡ openOf (s .end) + s .end .receiving .window .size * count (eqb (refusalIn (called s v .answer)) 0 && isPace v)
+
+-- ---- units
+
+-- A unit made stands at the front of the unit buffer, and has at most 1,024 bytes beside its heading.
+pub record UnitsFit : Type 0 where
+  pub made : (s : Station) (v : Verb) → called s v .answer .answer .answer .unit ≤ length (called s v .end .unit)
+  pub short : (s : Station) (v : Verb) → called s v .answer .answer .answer .unit ≤ 1029
+  pub made-by-take : (naming : List ℕ → ℕ) (s : Station) (u : List ℕ) → taken naming s u .answer .answer .answer .unit ≤ length (taken naming s u .end .unit)
+  pub short-by-take : (naming : List ℕ → ℕ) (s : Station) (u : List ℕ) → taken naming s u .answer .answer .answer .unit ≤ 1029

@@ -1,0 +1,28 @@
+-- What is counted of a unit, by its bytes.
+-- Assumes nothing.
+use Prim.Native.Nat.{ℕ, _+_}
+use mathlib.Core.Bool.{Bool, not, cond}
+use mathlib.Core.List.{List, [], _∷_}
+use lib.ListN.{drop}
+use Rattle.header.specs.Weights.{on}
+use Rattle.header.specs.Rules.{isData, bytes, sameHeader}
+use Rattle.unit.specs.Unit.{RU-START, headerIn}
+
+abbrev pub count : Bool → ℕ
+count b = cond b 1 0
+
+-- on the line the data RUs, oldest first
+abbrev pub dataRu : List ℕ → List ℕ
+dataRu u = cond (isData (headerIn u)) (drop RU-START u) []
+
+-- a unit without weight 80 in header byte 0
+abbrev pub isRequest : List ℕ → Bool
+isRequest u = not (on 0x80 (headerIn u .b0))
+
+unfoldable pub requestsAmong : List (List ℕ) → ℕ
+requestsAmong [] = 0
+requestsAmong (u ∷ us) = count (isRequest u) + requestsAmong us
+
+-- the accepted takes of pacing answers, on any lane
+abbrev pub isPacingResponse : List ℕ → Bool
+isPacingResponse u = sameHeader (headerIn u) (bytes 0x83 0x01 0x00)

@@ -1,0 +1,24 @@
+// The calls of an end as one function each of the end and the cells lent to it, and the laws that hold of each call by itself, at any
+// record, cells and unit, forged ones too. The functions do nothing; their contracts are the laws, so that a check prints their names
+// and fails if a proof goes.
+ghost use Rattle.calls.specs.Laws.{Refusals, StaysGood, CreditExact, UnitsFit};
+
+// A refused call gives the first number that fits and changes nothing.
+pub fn refused_calls()
+    ensures { λ _. ⌜ Refusals ⌝ }
+{}
+
+// An accepted call's record was within its section, and so is the one that it leaves.
+pub fn stays_good()
+    ensures { λ _. ⌜ StaysGood ⌝ }
+{}
+
+// What a request costs and a pacing response gives, exactly.
+pub fn credit_exact()
+    ensures { λ _. ⌜ CreditExact ⌝ }
+{}
+
+// A unit made stands within the unit buffer, and is no longer than the longest RU allows.
+pub fn units_fit()
+    ensures { λ _. ⌜ UnitsFit ⌝ }
+{}

@@ -1,0 +1,81 @@
+-- A test at every value of the finite part of a record, which antt computes.
+-- Assumes nothing.
+use mathlib.Core.Path.{_≡_, refl}
+use mathlib.Core.Bool.{Bool, true, false, _&&_}
+use Rattle.bools.proofs.Finite.{Finite, halves, pairs, covered, bools}
+use Rattle.header.specs.declared.Follows.{Follows}
+use Rattle.header.specs.declared.Follows.the-variants.{Stay, ChangeDirection, EndBracket}
+use Rattle.control.specs.declared.Role.{Role}
+use Rattle.control.specs.declared.Role.the-variants.{FirstSpeaker, Bidder}
+use Rattle.control.specs.declared.State.{State}
+use Rattle.control.specs.declared.State.the-variants.{Reset, Send, Receive, ConfirmOwed, ConfirmAwaited}
+use Rattle.control.specs.declared.WhatReceived.{WhatReceived}
+use Rattle.control.specs.declared.WhatReceived.the-variants as mark
+use Rattle.control.specs.declared.Control.{Control}
+
+pub at-role : (f : Role → Bool) → f FirstSpeaker && f Bidder ≡ true → (r : Role) → f r ≡ true
+at-role f t FirstSpeaker = search halves
+at-role f t Bidder = search halves
+
+abbrev pub roles : Finite Role
+roles = record { all = λ f. f FirstSpeaker && f Bidder; at = at-role }
+
+abbrev pub allStates : (State → Bool) → Bool
+allStates f = f Reset && (f Send && (f Receive && (f ConfirmOwed && f ConfirmAwaited)))
+
+pub at-state : (f : State → Bool) → allStates f ≡ true → (s : State) → f s ≡ true
+at-state f t Reset = search halves
+at-state f t Send = search halves
+at-state f t Receive = search halves
+at-state f t ConfirmOwed = search halves
+at-state f t ConfirmAwaited = search halves
+
+abbrev pub states : Finite State
+states = record { all = allStates; at = at-state }
+
+abbrev pub allFollows : (Follows → Bool) → Bool
+allFollows f = f Stay && (f ChangeDirection && f EndBracket)
+
+pub at-follows : (f : Follows → Bool) → allFollows f ≡ true → (w : Follows) → f w ≡ true
+at-follows f t Stay = search halves
+at-follows f t ChangeDirection = search halves
+at-follows f t EndBracket = search halves
+
+abbrev pub follows : Finite Follows
+follows = record { all = allFollows; at = at-follows }
+
+abbrev pub allMarks : (WhatReceived → Bool) → Bool
+allMarks f = f mark.Nothing && (f mark.Turn && (f mark.End && (f mark.Confirm && (f mark.ConfirmTurn && f mark.ConfirmEnd))))
+
+pub at-mark : (f : WhatReceived → Bool) → allMarks f ≡ true → (m : WhatReceived) → f m ≡ true
+at-mark f t mark.Nothing = search halves depth 8
+at-mark f t mark.Turn = search halves depth 8
+at-mark f t mark.End = search halves depth 8
+at-mark f t mark.Confirm = search halves depth 8
+at-mark f t mark.ConfirmTurn = search halves depth 8
+at-mark f t mark.ConfirmEnd = search halves depth 8
+
+abbrev pub marks : Finite WhatReceived
+marks = record { all = allMarks; at = at-mark }
+
+abbrev pub Fields : Type 0
+Fields = Role × (State × (Follows × (WhatReceived × (Bool × (Bool × (Bool × Bool))))))
+
+abbrev pub ofFields : Fields → Control
+ofFields p =
+    record {
+      role = p .0;
+      state = p .1 .0;
+      follows = p .1 .1 .0;
+      mark = p .1 .1 .1 .0;
+      due = p .1 .1 .1 .1 .0;
+      bid = p .1 .1 .1 .1 .1 .0;
+      outchain = p .1 .1 .1 .1 .1 .1 .0;
+      inchain = p .1 .1 .1 .1 .1 .1 .1;
+    }
+
+abbrev pub fieldsOf : Control → Fields
+fieldsOf c = (c .role, (c .state, (c .follows, (c .mark, (c .due, (c .bid, (c .outchain, c .inchain)))))))
+
+abbrev pub controls : Finite Control
+controls = covered (pairs roles (pairs states (pairs follows (pairs marks (pairs bools (pairs bools (pairs bools bools))))))) ofFields fieldsOf (λ c. refl)

@@ -1,0 +1,38 @@
+-- Question 5 of the finite part, as facts: taken apart and put together.
+-- Assumes nothing.
+use mathlib.Core.Path.{_≡_}
+use mathlib.Core.Bool.{Bool, true, false, not, _&&_, _||_}
+use Rattle.bools.proofs.Tests.{both, join, off}
+use Rattle.control.specs.Tests.{isSend}
+use Rattle.control.specs.Within.{markInReceive, dueInSend, bidAtBidder, chainInSend, controlGood}
+use Rattle.control.specs.declared.Control.{Control}
+
+pub record ControlWithin (c : Control) : Type 0 where
+  pub mark : markInReceive c ≡ true
+  pub due : dueInSend c ≡ true
+  pub bid : bidAtBidder c ≡ true
+  pub chain : chainInSend c ≡ true
+
+pub control-facts : (c : Control) → controlGood c ≡ true → ControlWithin c
+unfolding controlGood
+control-facts c g =
+    let a = both (markInReceive c) (dueInSend c && (bidAtBidder c && chainInSend c)) g in
+    let b = both (dueInSend c) (bidAtBidder c && chainInSend c) (a .1) in
+    let d = both (bidAtBidder c) (chainInSend c) (b .1) in
+    record { mark = a .0; due = b .0; bid = d .0; chain = d .1 }
+
+pub control-good : (c : Control) → ControlWithin c → controlGood c ≡ true
+unfolding controlGood
+control-good c w = join (markInReceive c) _ (w .mark) (join (dueInSend c) _ (w .due) (join (bidAtBidder c) (chainInSend c) (w .bid) (w .chain)))
+
+-- outside Send the sending chain is closed
+pub closed-outside-send : (c : Control) → ControlWithin c → isSend (c .state) ≡ false → c .outchain ≡ false
+closed-outside-send c w s = off (c .outchain) (isSend (c .state)) (w .chain) s
+
+-- ---- with the bytes held: `some` is whether there is one at least, `none` whether there is none
+
+abbrev pub heldFits : Control → Bool → Bool → Bool
+heldFits c some none = (not (c .outchain) || some) && (isSend (c .state) || none)
+
+abbrev pub within : Control → Bool → Bool → Bool
+within c some none = controlGood c && heldFits c some none

@@ -1,0 +1,18 @@
+use Rattle.end.specs.Receive.{copyCount, bytesRead}
+use borrow.Author.Needs.{needs}
+use Rattle.end.proofs.End.bytes_decision.Statement.{statement}
+use Rattle.end.proofs.End.bytes_decision.Tie as tie
+
+returns : tie.Need-returns
+unfolding bytesRead copyCount
+returns c = rw (
+  c .with-receiving .ensures,
+  c .before .bytes-read .ensures,
+  c .before .before .is-between .ensures,
+  c .before .before .before .after-read .ensures,
+  c .before .before .before .before .copy-count .ensures,
+  c .before .before .before .before .before .before .pre .0,
+)
+
+pub bytes-decision-spec : {M : Type 1} → statement M
+bytes-decision-spec = tie.close (tie.spec (search needs) (search needs) (search needs) (search needs) (search needs) returns)

@@ -1,0 +1,22 @@
+use mathlib.Core.Path.{sym, _∙_}
+use borrow.Author.Tests.{eq-eqb, ne-eqb}
+use Rattle.end.specs.Confirmed.{confirmedDecision}
+use borrow.Author.Needs.{needs}
+use Rattle.end.proofs.End.confirmed_decision.Statement.{statement}
+use Rattle.end.proofs.End.confirmed_decision.Tie as tie
+
+returns : tie.Need-returns
+unfolding confirmedDecision
+returns c = rw (c .refused .ensures, ← c .before .before .confirmed-refusal .ensures, ne-eqb _ _ (c .before .if1 .taken), ne-eqb _ _ (c .before .if1 .taken))
+
+returns-2 : tie.Need-returns-2
+unfolding confirmedDecision
+returns-2 c = rw (
+  c .fixed-made .ensures,
+  c .before .with-control .ensures,
+  c .before .before .confirmation-made .ensures,
+  eq-eqb _ _ (sym (c .before .before .before .before .confirmed-refusal .ensures) ∙ c .before .before .before .if1 .left),
+)
+
+pub confirmed-decision-spec : {M : Type 1} → statement M
+confirmed-decision-spec = tie.close (tie.spec (search needs) (search needs) returns (search needs) (search needs) (search needs) returns-2)

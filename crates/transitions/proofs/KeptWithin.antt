@@ -1,0 +1,170 @@
+-- Every transition keeps what question 5 says of the finite part and of the bytes held, checked by computation at every value of it.
+-- Assumes nothing.
+use mathlib.Core.Path.{_≡_, refl, sym}
+use mathlib.Core.Bool.{Bool, true, false, not, cond, _&&_, _||_}
+use Rattle.bools.proofs.Tests.{never, left, right, join}
+use Rattle.bools.proofs.Finite.{at-bool, bools}
+use Rattle.header.specs.declared.Follows.{Follows}
+use Rattle.header.specs.declared.Follows.the-variants.{Stay, ChangeDirection, EndBracket}
+use Rattle.header.specs.declared.ChainEnd.{ChainEnd}
+use Rattle.header.specs.declared.ChainEnd.the-variants.{Continues, Last}
+use Rattle.control.specs.Tests.{isSend, isNothing}
+use Rattle.control.specs.Questions.{mayAllocate, maySend, mayConfirm, grantFits, refusalFits, confirmationFits}
+use Rattle.control.specs.Within.{controlGood}
+use Rattle.control.specs.declared.Role.{Role}
+use Rattle.control.specs.declared.Role.the-variants.{FirstSpeaker, Bidder}
+use Rattle.control.specs.declared.Control.{Control}
+use Rattle.control.proofs.Finite.{controls}
+use Rattle.control.proofs.Within.{heldFits, within}
+use Rattle.transitions.specs.Transitions.{fresh, allocated, spilled, closed, confirmationMade, markAnswered, dataTaken, bidTaken, grantTaken, refusalTaken, confirmationTaken}
+
+abbrev implies : Bool → Bool → Bool
+implies a b = cond a b true
+
+implied : (a b : Bool) → implies a b ≡ true → a ≡ true → b ≡ true
+implied true b e h = e
+implied false b e h = absurd (never (sym h))
+
+-- where a question is answered yes, the transition keeps it, the bytes held being as they were
+keeps : (Control → Bool) → (Control → Control) → Bool
+keeps asked next =
+    controls .all (λ c. implies (asked c && controlGood c) (bools .all (λ some. bools .all (λ none. implies (heldFits c some none) (within (next c) some none)))))
+
+kept : (asked : Control → Bool) (next : Control → Control) → keeps asked next ≡ true
+    → (c : Control) (some none : Bool) → asked c ≡ true → within c some none ≡ true → within (next c) some none ≡ true
+unfolding keeps
+kept asked next t c some none a w =
+    let inner : Bool → Bool → Bool = λ some none. implies (heldFits c some none) (within (next c) some none) in
+    let t₁ =
+    implied (asked c && controlGood c) (bools .all (λ some. bools .all (λ none. inner some none)))
+    (controls .at
+    (λ c. implies (asked c && controlGood c) (bools .all (λ some. bools .all (λ none. implies (heldFits c some none) (within (next c) some none)))))
+    t c)
+    (join (asked c) (controlGood c) a (left (controlGood c) (heldFits c some none) w)) in
+    implied (heldFits c some none) (within (next c) some none)
+    (at-bool (λ none. inner some none) (at-bool (λ some. bools .all (λ none. inner some none)) t₁ some) none)
+    (right (controlGood c) (heldFits c some none) w)
+
+-- where bytes are given or go out, the bytes held are others
+leaves : (Control → Bool) → (Control → Control) → Bool → Bool → Bool
+leaves asked next some none = controls .all (λ c. implies (asked c && controlGood c) (within (next c) some none))
+
+left-so : (asked : Control → Bool) (next : Control → Control) (some none : Bool) → leaves asked next some none ≡ true
+    → (c : Control) → asked c ≡ true → controlGood c ≡ true → within (next c) some none ≡ true
+unfolding leaves
+left-so asked next some none t c a g =
+    implied (asked c && controlGood c) (within (next c) some none)
+    (controls .at (λ c. implies (asked c && controlGood c) (within (next c) some none)) t c) (join (asked c) (controlGood c) a g)
+
+-- ---- every transition
+
+allocated-checked : keeps mayAllocate allocated ≡ true
+unfolding keeps controlGood allocated
+allocated-checked = refl
+
+pub allocated-keeps : (c : Control) (some none : Bool) → mayAllocate c ≡ true → within c some none ≡ true → within (allocated c) some none ≡ true
+allocated-keeps = kept mayAllocate allocated allocated-checked
+
+confirmed-checked : keeps mayConfirm confirmationMade ≡ true
+unfolding keeps controlGood confirmationMade
+confirmed-checked = refl
+
+pub confirmed-keeps : (c : Control) (some none : Bool) → mayConfirm c ≡ true → within c some none ≡ true → within (confirmationMade c) some none ≡ true
+confirmed-keeps = kept mayConfirm confirmationMade confirmed-checked
+
+abbrev marked : Control → Bool
+marked c = not (isNothing (c .mark))
+
+answered-checked : keeps marked markAnswered ≡ true
+unfolding keeps controlGood markAnswered
+answered-checked = refl
+
+pub answered-keeps : (c : Control) (some none : Bool) → not (isNothing (c .mark)) ≡ true → within c some none ≡ true → within (markAnswered c) some none ≡ true
+answered-keeps = kept marked markAnswered answered-checked
+
+abbrev any : Control → Bool
+any c = true
+
+bid-checked : keeps any bidTaken ≡ true
+unfolding keeps controlGood bidTaken
+bid-checked = refl
+
+pub bid-keeps : (c : Control) (some none : Bool) → within c some none ≡ true → within (bidTaken c) some none ≡ true
+bid-keeps c some none w = kept any bidTaken bid-checked c some none refl w
+
+grant-checked : keeps grantFits grantTaken ≡ true
+unfolding keeps controlGood grantTaken
+grant-checked = refl
+
+pub grant-keeps : (c : Control) (some none : Bool) → grantFits c ≡ true → within c some none ≡ true → within (grantTaken c) some none ≡ true
+grant-keeps = kept grantFits grantTaken grant-checked
+
+refusal-checked : keeps refusalFits refusalTaken ≡ true
+unfolding keeps controlGood refusalTaken
+refusal-checked = refl
+
+pub refusal-keeps : (c : Control) (some none : Bool) → refusalFits c ≡ true → within c some none ≡ true → within (refusalTaken c) some none ≡ true
+refusal-keeps = kept refusalFits refusalTaken refusal-checked
+
+confirmation-checked : keeps confirmationFits confirmationTaken ≡ true
+unfolding keeps controlGood confirmationTaken
+confirmation-checked = refl
+
+pub confirmation-keeps :
+    (c : Control) (some none : Bool) → confirmationFits c ≡ true → within c some none ≡ true → within (confirmationTaken c) some none ≡ true
+confirmation-keeps = kept confirmationFits confirmationTaken confirmation-checked
+
+-- data comes only outside Send
+abbrev pub notSending : Control → Bool
+notSending c = not (isSend (c .state))
+
+data-checked : (ends : ChainEnd) → keeps notSending (dataTaken ends) ≡ true
+unfolding keeps controlGood dataTaken
+data-checked Continues = refl
+data-checked (Last Stay true) = refl
+data-checked (Last Stay false) = refl
+data-checked (Last ChangeDirection true) = refl
+data-checked (Last ChangeDirection false) = refl
+data-checked (Last EndBracket true) = refl
+data-checked (Last EndBracket false) = refl
+
+pub data-keeps :
+    (ends : ChainEnd) (c : Control) (some none : Bool) → notSending c ≡ true → within c some none ≡ true → within (dataTaken ends c) some none ≡ true
+data-keeps ends = kept notSending (dataTaken ends) (data-checked ends)
+
+-- bytes given: some are held then
+abbrev same : Control → Control
+same c = c
+
+given-checked : leaves maySend same true false ≡ true
+unfolding leaves controlGood
+given-checked = refl
+
+pub given-leaves : (c : Control) → maySend c ≡ true → controlGood c ≡ true → within c true false ≡ true
+given-leaves = left-so maySend same true false given-checked
+
+spilled-checked : leaves maySend spilled true false ≡ true
+unfolding leaves controlGood spilled
+spilled-checked = refl
+
+pub spilled-leaves : (c : Control) → maySend c ≡ true → controlGood c ≡ true → within (spilled c) true false ≡ true
+spilled-leaves = left-so maySend spilled true false spilled-checked
+
+-- after a last unit none is held
+closed-checked : (f : Follows) (b : Bool) → leaves maySend (closed f b) false true ≡ true
+unfolding leaves controlGood closed
+closed-checked Stay true = refl
+closed-checked Stay false = refl
+closed-checked ChangeDirection true = refl
+closed-checked ChangeDirection false = refl
+closed-checked EndBracket true = refl
+closed-checked EndBracket false = refl
+
+pub closed-leaves : (f : Follows) (b : Bool) (c : Control) → maySend c ≡ true → controlGood c ≡ true → within (closed f b c) false true ≡ true
+closed-leaves f b = left-so maySend (closed f b) false true (closed-checked f b)
+
+-- as opened none is held
+pub fresh-within : (r : Role) → within (fresh r) false true ≡ true
+unfolding controlGood
+fresh-within FirstSpeaker = refl
+fresh-within Bidder = refl
