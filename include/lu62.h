@@ -1,4 +1,11 @@
-/* One end of a basic conversation of LU type 6.2, for hosts in C. Link with liblu62.a; the library needs nothing else.
+/* One end of a basic conversation of LU type 6.2, for hosts in C and C++.
+ *
+ * Platform   x86-64 Linux, gcc or clang; the archive liblu62.a needs nothing else, not even the C library.
+ * Compile    gcc -std=c11 -Iinclude program.c target/staticlib/liblu62.a
+ *            (from an unpacked package: gcc -std=c11 -Iinclude program.c lib/liblu62.a, or what pkg-config says of lu62)
+ * Threads    the library keeps nothing between calls and has no memory of its own. Calls on different images may be made at the
+ *            same time by different threads; calls on one image, or that are lent one buffer, must come one after the other.
+ *            Nothing is allocated and no call waits.
  *
  * The end's record lies in an image of LU62_IMAGE bytes that the host keeps. Every call reads the image, does its work and
  * writes the new record back. The host also lends the buffers that the call uses:
@@ -11,7 +18,9 @@
  * Between calls nobody else may write to image, send or inbox. The unit buffer is free as soon as its unit has been copied away.
  *
  * Every pointer must point to as many bytes as the length after it says, and must not be null, even where the length is 0.
- * No two buffers of one call may overlap, and none may overlap `answer`.
+ * No two buffers of one call may overlap, and none may overlap `answer`: a call with send == unit, say, is accepted, and its
+ * unit carries wrong bytes. lu62_end.h has an end with its buffers in one struct, calls with one argument, and assertions that
+ * the buffers lie apart.
  *
  * A call returns its refusal number, LU62_ACCEPTED or one of the numbers below, and writes the whole answer to `answer`.
  * A refused call changes nothing but `answer`; lu62_open alone writes an image of zeros when it refuses. If several refusals
@@ -19,7 +28,7 @@
  * all else, an image of a wrong length (LU62_BAD_BUFFER) and an image with a code or flag that no record has (LU62_BAD_RECORD).
  *
  * If `answer->unit` is not 0, a unit of that many bytes stands at the front of the unit buffer. The host must carry it to the
- * partner, after all units made before it and before all made later. Nothing is allocated and no call waits. */
+ * partner, after all units made before it and before all made later. */
 #ifndef LU62_H
 #define LU62_H
 
@@ -29,6 +38,9 @@
 #ifdef __cplusplus
 extern "C" {
 #endif
+
+/* The version of this interface, and of archive and crate that belong to it. */
+#define LU62_VERSION "0.2.0"
 
 /* Sizes, in bytes. W is a window, 1 to 63; M is a maximum RU, 8 to 1,024. */
 #define LU62_IMAGE 41
@@ -120,6 +132,9 @@ uint32_t lu62_allocate(uint8_t *image, size_t image_length, uint8_t *unit, size_
 
 /* Gives 1 to M bytes of logical records to be sent. They need not begin or end where a record does. They are kept in `send` until
  * it is over-full; then one unit of M bytes is made.
+ * A record's length is asked when its second byte is given. So a first LL byte of 80 to FF, given as the last byte of a call, is
+ * accepted, though no second byte can follow it: from then on send data is refused with BAD_LL whatever is given, and confirm,
+ * prepare_to_receive and deallocate with UNFINISHED_RECORD. A host that cuts records anywhere must see to it that LL is in range.
  * Lent: the bytes (only read), send, unit. Refusals: BAD_BUFFER, BAD_RECORD, BAD_LENGTH, WRONG_STATE, BAD_LL, NO_CREDIT (only
  * where a unit must go; give the same bytes again when a pacing response has been taken). */
 uint32_t lu62_send_data(uint8_t *image, size_t image_length, const uint8_t *bytes, size_t bytes_length,
@@ -171,10 +186,88 @@ uint32_t lu62_receive_unit(uint8_t *image, size_t image_length, const uint8_t *t
 uint32_t lu62_receive(uint8_t *image, size_t image_length, uint8_t *inbox, size_t inbox_length,
                       uint8_t *buffer, size_t buffer_length, struct lu62_answer *answer);
 
-/* The state in an image of LU62_IMAGE bytes, LU62_RESET to LU62_CONFIRM_AWAITED. */
+/* What may be asked of an image that an accepted call has left. */
+
+/* The state, LU62_RESET to LU62_CONFIRM_AWAITED. */
 static inline uint32_t lu62_state(const uint8_t *image)
 {
     return image[1];
+}
+
+/* 1 while a bid of this end, always a bidder, has not been answered, else 0. */
+static inline uint32_t lu62_bid_pending(const uint8_t *image)
+{
+    return image[5];
+}
+
+/* How many bytes the send buffer holds: given, and not yet in a unit. */
+static inline uint32_t lu62_send_held(const uint8_t *image)
+{
+    return image[13] + 256u * image[14];
+}
+
+/* How many bytes the inbox holds: taken, and not yet read. */
+static inline uint32_t lu62_inbox_held(const uint8_t *image)
+{
+    return image[27] + 256u * image[28];
+}
+
+/* Refusals, states and marks in words, the one table of them for programs and messages. */
+
+static inline const char *lu62_refusal_text(uint32_t refusal)
+{
+    switch (refusal) {
+    case LU62_ACCEPTED: return "accepted";
+    case LU62_BAD_ROLE: return "the role is neither first speaker nor bidder";
+    case LU62_BAD_WINDOW: return "a window is out of range";
+    case LU62_BAD_MAXIMUM: return "a maximum RU is out of range";
+    case LU62_BAD_BUFFER: return "a buffer has a wrong length";
+    case LU62_BAD_RECORD: return "the end's record is not one that calls can leave";
+    case LU62_BAD_LENGTH: return "no bytes, or too many";
+    case LU62_WRONG_STATE: return "the state does not allow the call";
+    case LU62_BAD_LL: return "a logical record's length is out of range";
+    case LU62_UNFINISHED_RECORD: return "the last record given is not whole";
+    case LU62_NO_CREDIT: return "no credit for a request";
+    case LU62_NOTHING_TO_PACE: return "no pacing response is due";
+    case LU62_NOTHING_TO_READ: return "nothing to read";
+    case LU62_UNREAD_MARK: return "a mark has not been read";
+    case LU62_SHORT_UNIT: return "the unit is too short";
+    case LU62_BAD_HEADER: return "the header breaks a rule";
+    case LU62_BAD_RU: return "the RU does not fit";
+    case LU62_BAD_NUMBER: return "the sequence number is not the next";
+    case LU62_BAD_CHAIN: return "the unit does not fit the chain";
+    case LU62_BAD_BRACKET: return "the unit does not fit the bracket";
+    case LU62_BAD_STATE: return "data came where this end does not receive";
+    case LU62_BAD_PACING: return "the unit does not fit the pacing window";
+    case LU62_BAD_RESPONSE: return "a response to nothing asked";
+    case LU62_BAD_RECORDS: return "a bad record length, or a record not whole at its end";
+    default: return "no refusal has this number";
+    }
+}
+
+static inline const char *lu62_state_name(uint32_t state)
+{
+    switch (state) {
+    case LU62_RESET: return "Reset";
+    case LU62_SEND: return "Send";
+    case LU62_RECEIVE: return "Receive";
+    case LU62_CONFIRM_OWED: return "ConfirmOwed";
+    case LU62_CONFIRM_AWAITED: return "ConfirmAwaited";
+    default: return "no state has this number";
+    }
+}
+
+static inline const char *lu62_mark_name(uint32_t mark)
+{
+    switch (mark) {
+    case LU62_MARK_NONE: return "none";
+    case LU62_MARK_TURN: return "turn";
+    case LU62_MARK_END: return "end";
+    case LU62_MARK_CONFIRM: return "confirm";
+    case LU62_MARK_CONFIRM_TURN: return "confirm-turn";
+    case LU62_MARK_CONFIRM_END: return "confirm-end";
+    default: return "no mark has this number";
+    }
 }
 
 #ifdef __cplusplus
