@@ -1,5 +1,4 @@
 /* The laboratory: answers queries with tables of batches, and sends revised figures when it has them. It is the first speaker. */
-#include "programs.h"
 #include "session.h"
 
 #include <stdio.h>
@@ -78,29 +77,36 @@ struct laboratory {
     bool done;
 };
 
-static void set_revision(struct laboratory *lab)
+static bool set_revision(struct laboratory *lab)
 {
+    char count[16];
     if (lab->revisions_sent < REVISED)
-        outgoing_set(&lab->record, RECORD_REVISED, revised[lab->revisions_sent]);
-    else
-        outgoing_set(&lab->record, RECORD_LAST_REVISED, "");
+        return session_set(&lab->session, &lab->record, RECORD_REVISED, text_of(revised[lab->revisions_sent]));
+    (void)snprintf(count, sizeof count, "%d", (int)REVISED);
+    return session_set(&lab->session, &lab->record, RECORD_LAST_REVISED, text_of(count));
 }
 
-static void set_columns(struct laboratory *lab)
+/* Puts the columns behind the number of rows that stands in `text`. */
+static bool set_columns(struct laboratory *lab)
 {
     char text[WIDEST_ROW];
-    size_t length = 0, offset = 0;
-    text[0] = '\0';
+    size_t offset = 0;
+    int length = snprintf(text, sizeof text, "%zu", lab->table->batch_count);
     for (size_t i = 0; i < MOST_COLUMNS && lab->table->columns[i].name != NULL; i++) {
         const struct column *column = &lab->table->columns[i];
-        int written = snprintf(text + length, sizeof text - length, "%s %zu %zu ", column->name, offset, column->width);
-        if (written > 0)
-            length += (size_t)written;
+        size_t room = sizeof text - (size_t)length;
+        int written = snprintf(text + length, room, " %s %zu %zu", column->name, offset, column->width);
+        if (written < 0 || (size_t)written >= room) {
+            session_fail(&lab->session, "the columns of a table do not fit");
+            return false;
+        }
+        length += written;
         offset += column->width;
     }
-    outgoing_set(&lab->record, RECORD_COLUMNS, text);
+    return session_set(&lab->session, &lab->record, RECORD_COLUMNS, text_of(text));
 }
 
+/* The value of a column that the blender asks for, or NULL for one of those that it does not. */
 static const char *value_of(const struct batch *batch, const char *column)
 {
     if (strcmp(column, "batch") == 0)
@@ -109,25 +115,51 @@ static const char *value_of(const struct batch *batch, const char *column)
         return batch->viscosity;
     if (strcmp(column, "sulphur") == 0)
         return batch->sulphur;
-    return "sample drawn at the loading arm, two flasks, kept for ninety days; method as agreed with the blending line; "
-           "bath checked against the reference oil before and after; no water seen; analyst on shift";
+    return NULL;
 }
 
-static void set_row(struct laboratory *lab)
+/* Fills a column of remarks with as much of the laboratory's usual words as it has room for. */
+static void fill_remarks(char *place, size_t width)
+{
+    static const char words[] = "sample drawn at the loading arm, two flasks, kept for ninety days; method as agreed with the "
+                                "blending line; bath checked against the reference oil before and after; no water seen; ";
+    for (size_t i = 0; i < width; i++)
+        place[i] = words[i % (sizeof words - 1)];
+}
+
+/* Puts a value at the front of its column, which is blank. A figure that does not fit is not cut. */
+static bool put_value(struct laboratory *lab, char *place, const struct column *column)
+{
+    const char *value = value_of(&lab->table->batches[lab->row], column->name);
+    if (value == NULL) {
+        fill_remarks(place, column->width);
+        return true;
+    }
+    if (strlen(value) > column->width) {
+        session_fail(&lab->session, "a figure for it does not fit its column");
+        return false;
+    }
+    memcpy(place, value, strlen(value));
+    return true;
+}
+
+static bool set_row(struct laboratory *lab)
 {
     char text[WIDEST_ROW];
     size_t offset = 0;
-    const struct batch *batch = &lab->table->batches[lab->row];
     memset(text, ' ', sizeof text);
     for (size_t i = 0; i < MOST_COLUMNS && lab->table->columns[i].name != NULL; i++) {
         const struct column *column = &lab->table->columns[i];
-        const char *value = value_of(batch, column->name);
-        size_t length = strlen(value);
-        memcpy(text + offset, value, length < column->width ? length : column->width);
+        if (column->width >= sizeof text - offset) {
+            session_fail(&lab->session, "a row for it does not fit");
+            return false;
+        }
+        if (!put_value(lab, text + offset, column))
+            return false;
         offset += column->width;
     }
     text[offset] = '\0';
-    outgoing_set(&lab->record, RECORD_ROW, text);
+    return session_set(&lab->session, &lab->record, RECORD_ROW, text_of(text));
 }
 
 static bool misbehaves_now(const struct laboratory *lab, enum fault fault)
@@ -140,22 +172,25 @@ static bool send_nonsense(struct laboratory *lab, const char *bytes, size_t leng
 {
     if (session_flush(&lab->session) != LU62_ACCEPTED)
         return false;
-    (void)line_put(&lab->session.line, (const uint8_t *)bytes, length);
+    if (!line_put(&lab->session.line, (const uint8_t *)bytes, length))
+        session_fail(&lab->session, "the line takes no more units");
     lab->done = true;
     return true;
 }
 
 static void take_query(struct laboratory *lab)
 {
-    const struct record *record = &lab->session.record;
-    const char *text = (const char *)record->bytes + RECORD_TEXT_AT;
-    if (record->length <= RECORD_TEXT_AT || record->bytes[2] != RECORD_QUERY) {
+    struct text text = record_text(&lab->session.record);
+    if (record_kind(&lab->session.record) != RECORD_QUERY) {
         session_fail(&lab->session, "its record is no query");
         return;
     }
-    size_t length = record->length - RECORD_TEXT_AT;
+    if (lab->table != NULL) {
+        session_fail(&lab->session, "it asks twice in one conversation");
+        return;
+    }
     for (size_t i = 0; i < sizeof tables / sizeof tables[0]; i++)
-        if (strlen(tables[i].campaign) == length && memcmp(tables[i].campaign, text, length) == 0) {
+        if (text_is(text, tables[i].campaign)) {
             lab->table = &tables[i];
             return;
         }
@@ -165,28 +200,27 @@ static void take_query(struct laboratory *lab)
 /* The blender gives the turn after its query. */
 static void take_mark(struct laboratory *lab)
 {
-    uint32_t mark = lab->session.answer.mark;
+    uint32_t mark = lab->session.end.answer.mark;
     if (mark == LU62_MARK_CONFIRM_TURN)
         (void)session_confirmed(&lab->session);
     else if (mark != LU62_MARK_TURN) {
-        session_fail(&lab->session, "it has ended or asked for a confirmation where it should give the turn");
+        session_fail(&lab->session, "it sends the mark %s where it should give the turn", lu62_mark_name(mark));
         return;
     }
     if (lab->table == NULL) {
         session_fail(&lab->session, "it has given the turn and asked nothing");
         return;
     }
-    set_columns(lab);
-    lab->stage = COLUMNS;
+    if (set_columns(lab))
+        lab->stage = COLUMNS;
 }
 
 static bool begin_revision(struct laboratory *lab)
 {
     if (lab->revisions_sent >= lab->revisions_due || session_allocate(&lab->session) != LU62_ACCEPTED)
         return false;
-    set_revision(lab);
     lab->stage = REVISION;
-    return true;
+    return set_revision(lab);
 }
 
 /* Gives the row at hand; true when it has been given whole and the next is to come. */
@@ -196,6 +230,11 @@ static bool give_row(struct laboratory *lab)
         return send_nonsense(lab, "garbage", 7);
     if (misbehaves_now(lab, FAULT_SHORT))
         return send_nonsense(lab, "\0\1\3", 3);
+    if (misbehaves_now(lab, FAULT_SILENT)) {
+        /* The rows before are sent when credit allows; no byte more is given. */
+        (void)session_flush(&lab->session);
+        return false;
+    }
     if (misbehaves_now(lab, FAULT_GONE)) {
         /* The figures of this row are in the part given; the record goes on after them. */
         lab->record.length = 100;
@@ -209,9 +248,8 @@ static bool give_row(struct laboratory *lab)
     if (lab->row % 2 == 0)
         (void)session_flush(&lab->session);
     if (lab->row < lab->table->batch_count)
-        set_row(lab);
-    else
-        lab->stage = TABLE;
+        return set_row(lab);
+    lab->stage = TABLE;
     return true;
 }
 
@@ -231,13 +269,24 @@ static bool leave(struct laboratory *lab)
 static bool settle(struct laboratory *lab)
 {
     bool ended = lab->stage == REVISION_ENDED || lab->stage == TABLE_ENDED;
-    if (!ended || lu62_state(lab->session.image) == LU62_CONFIRM_AWAITED)
+    if (!ended || lu62_end_state(&lab->session.end) == LU62_CONFIRM_AWAITED)
         return false;
     if (lab->stage == TABLE_ENDED)
         lab->revisions_due++;
     lab->table = NULL;
     lab->stage = IDLE;
     return true;
+}
+
+/* The second table is confirmed when it ends. */
+static bool end_table(struct laboratory *lab)
+{
+    bool confirm = lab->table == &tables[MISBEHAVING_TABLE];
+    if (session_end(&lab->session, confirm) != LU62_ACCEPTED)
+        return false;
+    lab->session.lose_confirmation = confirm && lab->fault == FAULT_DROPPED;
+    lab->stage = TABLE_ENDED;
+    return settle(lab);
 }
 
 static bool speak(struct laboratory *lab)
@@ -258,22 +307,17 @@ static bool speak(struct laboratory *lab)
         lab->stage = COLUMNS_ASKED;
         return true;
     case COLUMNS_ASKED:
-        if (lu62_state(session->image) != LU62_SEND)
+        if (lu62_end_state(&session->end) != LU62_SEND)
             return false;
         lab->row = 0;
-        set_row(lab);
         lab->stage = ROWS;
-        return true;
+        return set_row(lab);
     case ROWS:
         return give_row(lab);
     case LEAVING:
         return leave(lab);
     case TABLE:
-        /* Every other table is confirmed when it ends. */
-        if (session_end(session, lab->table == &tables[1]) != LU62_ACCEPTED)
-            return false;
-        lab->stage = TABLE_ENDED;
-        return settle(lab);
+        return end_table(lab);
     case REVISION_ENDED:
     case TABLE_ENDED:
         return false;
@@ -299,22 +343,32 @@ static bool step(void *program)
     return moved;
 }
 
-int laboratory(int socket, enum fault fault, bool counts)
+/* A laboratory that shows a fault by which nothing gets on waits twice as long as the blender, so that the blender is seen to give
+ * the conversation up. */
+static bool open_laboratory(struct laboratory *lab, int socket, const struct options *options)
 {
-    static struct laboratory lab;
-    if (!session_open_laboratory(&lab.session, socket))
+    struct options own = *options;
+    if (own.fault == FAULT_SILENT || own.fault == FAULT_DROPPED)
+        own.limit_ms *= 2;
+    lab->fault = own.fault;
+    lab->revisions_due = 1;
+    return session_open_laboratory(&lab->session, socket, &own);
+}
+
+int laboratory(int socket, const struct options *options)
+{
+    struct laboratory lab = {0};
+    if (!open_laboratory(&lab, socket, options))
         return EXIT_FAILURE;
-    lab.fault = fault;
-    lab.revisions_due = 1;
     /* A revised figure is there from the start. The laboratory begins before it looks at the line, so the blender's bid, already
      * under way, crosses its first unit. */
     (void)begin_revision(&lab);
     bool good = session_run(&lab.session, step, &lab, &lab.done);
-    if (good && fault == FAULT_NONE && lab.revisions_sent <= REVISED) {
+    if (good && lab.fault == FAULT_NONE && lab.revisions_sent <= REVISED) {
         session_fail(&lab.session, "it has gone before it had everything");
         good = false;
     }
-    if (counts)
+    if (options->counts)
         session_print_counts(&lab.session);
     return good ? EXIT_SUCCESS : EXIT_FAILURE;
 }

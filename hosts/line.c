@@ -2,17 +2,19 @@
 
 #include <errno.h>
 #include <fcntl.h>
+#include <limits.h>
 #include <poll.h>
 #include <string.h>
 #include <sys/socket.h>
 
-void line_open(struct line *line, int socket)
+bool line_open(struct line *line, int socket)
 {
     int flags = fcntl(socket, F_GETFL);
     line->socket = socket;
-    line->closed = flags < 0 || fcntl(socket, F_SETFL, flags | O_NONBLOCK) < 0;
+    line->closed = false;
     line->in_held = 0;
     line->out_held = 0;
+    return flags >= 0 && fcntl(socket, F_SETFL, flags | O_NONBLOCK) >= 0;
 }
 
 static bool not_now(void)
@@ -86,11 +88,12 @@ void line_send(struct line *line)
     }
 }
 
-void line_wait(struct line *line)
+bool line_wait(struct line *line, int64_t milliseconds)
 {
     struct pollfd one = {.fd = line->socket, .events = POLLIN, .revents = 0};
     if (line->out_held > 0)
         one.events |= POLLOUT;
+    int most = milliseconds < 0 ? 0 : milliseconds > INT_MAX ? INT_MAX : (int)milliseconds;
     /* An interrupted wait is no fault: the caller looks at the line again. */
-    (void)poll(&one, 1, -1);
+    return poll(&one, 1, most) >= 0 || errno == EINTR;
 }

@@ -1,4 +1,4 @@
-/* Units over a stream socket: each unit has its length in front, two bytes, high byte first. Nothing here waits. */
+/* Units over a stream socket: each unit has its length in front, two bytes, high byte first. Only line_wait waits. */
 #ifndef LINE_H
 #define LINE_H
 
@@ -23,7 +23,8 @@ struct line {
     size_t out_held;
 };
 
-void line_open(struct line *line, int socket);
+/* False if the socket cannot be used. */
+bool line_open(struct line *line, int socket);
 
 /* Receives what has come. True if anything has. */
 bool line_receive(struct line *line);
@@ -38,7 +39,8 @@ bool line_put(struct line *line, const uint8_t *unit, size_t length);
 /* Sends what the socket takes now. */
 void line_send(struct line *line);
 
-/* Waits until something has come, or until the socket takes what waits to be sent. */
-void line_wait(struct line *line);
+/* Waits until something has come, until the socket takes what waits to be sent, or until so many milliseconds have passed. False
+ * if the socket cannot be waited for. */
+bool line_wait(struct line *line, int64_t milliseconds);
 
 #endif

@@ -1,14 +1,21 @@
-/* The two programs, and the records that they exchange. Every record is LL, one byte that says its kind, and text.
+/* The two programs, and the records that they exchange. Every record is LL, one byte that says its kind, text of printable ASCII
+ * characters, and the CRC-32 of kind and text as eight hexadecimal digits; what does not fit is refused, never cut.
  *
  *   Q  blender: asks for the table of a campaign; the text is its name
- *   H  laboratory: the columns of the rows that follow: name, offset and width of each, the offset counted from the row's text
+ *   H  laboratory, once before a table's rows: how many rows follow, then the columns: name, offset and width of each, the offset
+ *      counted from the row's text
  *   R  laboratory: one row of a table
  *   N  laboratory: a figure that has been revised
- *   Z  laboratory: there will be no more revised figures */
+ *   Z  laboratory: there will be no more revised figures; the text is how many there were
+ *
+ * Numbers are decimal; words are parted by blanks. CRC and counts are there because units carry neither: a unit that is cut on the
+ * line may join the front of one record to the back of the next, and one taken for the last of its conversation may leave fewer
+ * records than were sent. */
 #ifndef PROGRAMS_H
 #define PROGRAMS_H
 
 #include <stdbool.h>
+#include <stdint.h>
 
 enum {
     RECORD_QUERY = 'Q',
@@ -17,19 +24,31 @@ enum {
     RECORD_REVISED = 'N',
     RECORD_LAST_REVISED = 'Z',
     /* LL and the kind. */
-    RECORD_TEXT_AT = 3
+    RECORD_TEXT_AT = 3,
+    RECORD_CHECK_DIGITS = 8
 };
 
-/* How the laboratory misbehaves, in the middle of its second table. */
+/* How the laboratory misbehaves, in the middle of its second table; `--dropped` at its end. */
 enum fault {
     FAULT_NONE,
     FAULT_GARBAGE, /* it sends bytes that are no unit */
     FAULT_SHORT,   /* it sends a unit of three bytes */
-    FAULT_GONE     /* it goes away in the middle of a record */
+    FAULT_GONE,    /* it goes away in the middle of a record */
+    FAULT_SILENT,  /* it stays, and says nothing more */
+    FAULT_DROPPED  /* the blender's confirmation of the table is lost on the line */
+};
+
+enum { DEFAULT_LIMIT_MS = 10000, DEFAULT_PAUSE_MS = 20, LONGEST_MS = 86400000 };
+
+struct options {
+    enum fault fault;
+    bool counts;      /* print what was counted to standard error */
+    int64_t limit_ms; /* how long a conversation may stand still before it is given up */
+    int64_t pause_ms; /* how long after a refused bid no other is made */
 };
 
 /* Each runs on its side of the socket pair, and gives the exit status. */
-int laboratory(int socket, enum fault fault, bool counts);
-int blender(int socket, bool counts);
+int laboratory(int socket, const struct options *options);
+int blender(int socket, const struct options *options);
 
 #endif

@@ -1,81 +1,81 @@
 #include "session.h"
 
+#include "clock.h"
+
 #include <inttypes.h>
+#include <stdarg.h>
 #include <stdio.h>
 #include <string.h>
 
-static const char *words(uint32_t refusal)
+/* The text of a message is made first and written in one piece: both programs write to one standard error. */
+static void tell(const struct session *session, const char *what)
 {
-    switch (refusal) {
-    case LU62_BAD_ROLE: return "the role is neither first speaker nor bidder";
-    case LU62_BAD_WINDOW: return "a window is out of range";
-    case LU62_BAD_MAXIMUM: return "a maximum RU is out of range";
-    case LU62_BAD_BUFFER: return "a buffer has a wrong length";
-    case LU62_BAD_RECORD: return "the end's record is damaged";
-    case LU62_BAD_LENGTH: return "no bytes, or too many";
-    case LU62_WRONG_STATE: return "the state does not allow the call";
-    case LU62_BAD_LL: return "a record's length is out of range";
-    case LU62_UNFINISHED_RECORD: return "the last record given is not whole";
-    case LU62_NO_CREDIT: return "no credit";
-    case LU62_NOTHING_TO_PACE: return "no pacing response is due";
-    case LU62_NOTHING_TO_READ: return "nothing more to read";
-    case LU62_UNREAD_MARK: return "a mark has not been read";
-    case LU62_SHORT_UNIT: return "the unit is too short";
-    case LU62_BAD_HEADER: return "the header breaks a rule";
-    case LU62_BAD_RU: return "the RU does not fit";
-    case LU62_BAD_NUMBER: return "the sequence number is not the next";
-    case LU62_BAD_CHAIN: return "the unit does not fit the chain";
-    case LU62_BAD_BRACKET: return "the unit does not fit the bracket";
-    case LU62_BAD_STATE: return "data came where this end does not receive";
-    case LU62_BAD_PACING: return "the unit does not fit the pacing window";
-    case LU62_BAD_RESPONSE: return "a response to nothing asked";
-    case LU62_BAD_RECORDS: return "a bad record length, or a record not whole at its end";
-    default: return "refused";
-    }
+    fprintf(stderr, "%s: conversation with the %s ended: %s\n", session->name, session->partner, what);
 }
 
-void session_fail(struct session *session, const char *what)
+void session_fail(struct session *session, const char *format, ...)
 {
-    const struct lu62_answer *answer = &session->answer;
+    char what[256];
+    va_list values;
     if (session->failed)
         return;
     session->failed = true;
-    fprintf(stderr, "%s: conversation with the %s ended: %s", session->name, session->partner, what);
-    if (answer->refusal != LU62_ACCEPTED) {
-        fprintf(stderr, ": refusal %" PRIu32 " (%s), sense %08" PRIX32, answer->refusal, words(answer->refusal), answer->sense);
-        if (answer->rule != 0)
-            fprintf(stderr, ", rule H%" PRIu32, answer->rule);
-    }
-    fprintf(stderr, "\n");
+    va_start(values, format);
+    (void)vsnprintf(what, sizeof what, format, values);
+    va_end(values);
+    tell(session, what);
 }
 
-static bool open_end(struct session *session, int socket, uint8_t role, uint8_t out_window, uint8_t in_window, uint32_t out_max,
-                     uint32_t in_max)
+void session_refused(struct session *session, const char *what, const struct lu62_answer *answer)
 {
-    line_open(&session->line, socket);
-    session->inbox_length = LU62_INBOX((size_t)in_window, in_max);
-    if (lu62_open(role, out_window, in_window, out_max, in_max, sizeof session->send, sizeof session->unit, session->inbox_length,
-                  session->image, sizeof session->image, &session->answer) != LU62_ACCEPTED) {
-        session_fail(session, "the session cannot be opened");
-        return false;
-    }
-    return true;
+    char rule[24] = "";
+    if (answer->rule != 0)
+        (void)snprintf(rule, sizeof rule, ", rule H%" PRIu32, answer->rule);
+    session_fail(session, "%s: refusal %" PRIu32 " (%s), sense %08" PRIX32 "%s", what, answer->refusal,
+                 lu62_refusal_text(answer->refusal), answer->sense, rule);
 }
 
-bool session_open_laboratory(struct session *session, int socket)
+static bool open_end(struct session *session, int socket, const struct options *options, const struct lu62_session *terms)
 {
+    size_t inbox_length = LU62_INBOX((size_t)terms->in_window, terms->in_max);
+    session->limit_ms = options->limit_ms;
+    session->pause_ms = options->pause_ms;
+    session->moved_at = clock_ms();
+    lu62_end_lend(&session->end, session->send, sizeof session->send, session->unit, sizeof session->unit, session->inbox,
+                  inbox_length);
+    if (!line_open(&session->line, socket))
+        session_fail(session, "the line cannot be used");
+    else if (lu62_end_open(&session->end, terms) != LU62_ACCEPTED)
+        session_refused(session, "the session cannot be opened", &session->end.answer);
+    return !session->failed;
+}
+
+bool session_open_laboratory(struct session *session, int socket, const struct options *options)
+{
+    static const struct lu62_session terms = {
+        LU62_FIRST_SPEAKER, LABORATORY_WINDOW, BLENDER_WINDOW, LABORATORY_MAXIMUM, BLENDER_MAXIMUM};
     memset(session, 0, sizeof *session);
     session->name = "laboratory";
     session->partner = "blender";
-    return open_end(session, socket, LU62_FIRST_SPEAKER, LABORATORY_WINDOW, BLENDER_WINDOW, LABORATORY_MAXIMUM, BLENDER_MAXIMUM);
+    return open_end(session, socket, options, &terms);
 }
 
-bool session_open_blender(struct session *session, int socket)
+bool session_open_blender(struct session *session, int socket, const struct options *options)
 {
+    static const struct lu62_session terms = {
+        LU62_BIDDER, BLENDER_WINDOW, LABORATORY_WINDOW, BLENDER_MAXIMUM, LABORATORY_MAXIMUM};
     memset(session, 0, sizeof *session);
     session->name = "blender";
     session->partner = "laboratory";
-    return open_end(session, socket, LU62_BIDDER, BLENDER_WINDOW, LABORATORY_WINDOW, BLENDER_MAXIMUM, LABORATORY_MAXIMUM);
+    return open_end(session, socket, options, &terms);
+}
+
+/* Notes that the conversation got on: bytes were given or read, or the turn or the end was given or read. Bids, their refusals
+ * and pacing responses are not that, nor is a confirmation asked for again and again: they could go round for ever. */
+static void got_on(struct session *session)
+{
+    session->moved_at = clock_ms();
+    session->bids_in_vain = 0;
 }
 
 /* Puts the unit that a call made, if any, on the line. */
@@ -84,63 +84,87 @@ static uint32_t carried(struct session *session, uint32_t refusal)
     if (refusal == LU62_NO_CREDIT)
         session->waits_for_credit++;
     if (refusal != LU62_ACCEPTED && refusal != LU62_WRONG_STATE && refusal != LU62_NO_CREDIT)
-        session_fail(session, "a call was refused");
-    if (session->answer.unit > 0) {
+        session_refused(session, "a call was refused", &session->end.answer);
+    if (session->end.answer.unit > 0) {
         session->units_made++;
-        if (!line_put(&session->line, session->unit, session->answer.unit))
+        if (!line_put(&session->line, session->end.unit, session->end.answer.unit))
             session_fail(session, "the line takes no more units");
     }
     return refusal;
 }
 
+/* The same for a call that moves the conversation on. */
+static uint32_t moved_on(struct session *session, uint32_t refusal)
+{
+    if (refusal == LU62_ACCEPTED)
+        got_on(session);
+    return carried(session, refusal);
+}
+
 uint32_t session_allocate(struct session *session)
 {
-    return carried(session, lu62_allocate(session->image, sizeof session->image, session->unit, sizeof session->unit,
-                                          &session->answer));
+    if (clock_ms() < session->bid_from)
+        return LU62_WRONG_STATE;
+    return carried(session, lu62_end_allocate(&session->end));
 }
 
 uint32_t session_flush(struct session *session)
 {
-    return carried(session, lu62_flush(session->image, sizeof session->image, session->send, sizeof session->send,
-                                       session->unit, sizeof session->unit, &session->answer));
+    return carried(session, lu62_end_flush(&session->end));
 }
 
 uint32_t session_confirm(struct session *session)
 {
-    return carried(session, lu62_confirm(session->image, sizeof session->image, session->send, sizeof session->send,
-                                         session->unit, sizeof session->unit, &session->answer));
+    return moved_on(session, lu62_end_confirm(&session->end));
 }
 
 uint32_t session_turn(struct session *session, bool confirm)
 {
-    return carried(session, lu62_prepare_to_receive(session->image, sizeof session->image, confirm, session->send,
-                                                    sizeof session->send, session->unit, sizeof session->unit, &session->answer));
+    return moved_on(session, lu62_end_prepare_to_receive(&session->end, confirm));
 }
 
 uint32_t session_end(struct session *session, bool confirm)
 {
-    return carried(session, lu62_deallocate(session->image, sizeof session->image, confirm, session->send, sizeof session->send,
-                                            session->unit, sizeof session->unit, &session->answer));
+    return moved_on(session, lu62_end_deallocate(&session->end, confirm));
 }
 
 uint32_t session_confirmed(struct session *session)
 {
-    return carried(session, lu62_confirmed(session->image, sizeof session->image, session->unit, sizeof session->unit,
-                                           &session->answer));
+    return carried(session, lu62_end_confirmed(&session->end));
 }
 
-void outgoing_set(struct outgoing *record, char kind, const char *text)
+/* Kind and text, which stand between LL and the check. */
+static uint32_t check_of(const uint8_t *bytes, size_t length)
 {
-    size_t room = sizeof record->bytes - 3;
-    size_t length = strlen(text);
-    if (length > room)
-        length = room;
-    record->length = 3 + length;
+    struct text checked = {bytes + RECORD_TEXT_AT - 1, length - (RECORD_TEXT_AT - 1) - RECORD_CHECK_DIGITS};
+    return text_crc(checked);
+}
+
+bool session_set(struct session *session, struct outgoing *record, char kind, struct text text)
+{
+    char check[RECORD_CHECK_DIGITS + 1];
+    if (text.length > sizeof record->bytes - RECORD_TEXT_AT - RECORD_CHECK_DIGITS) {
+        session_fail(session, "a record for it is too long");
+        return false;
+    }
+    record->length = RECORD_TEXT_AT + text.length + RECORD_CHECK_DIGITS;
     record->given = 0;
     record->bytes[0] = (uint8_t)(record->length / 256);
     record->bytes[1] = (uint8_t)(record->length % 256);
     record->bytes[2] = (uint8_t)kind;
-    memcpy(record->bytes + 3, text, length);
+    memcpy(record->bytes + RECORD_TEXT_AT, text.bytes, text.length);
+    (void)snprintf(check, sizeof check, "%08" PRIX32, check_of(record->bytes, record->length));
+    memcpy(record->bytes + RECORD_TEXT_AT + text.length, check, RECORD_CHECK_DIGITS);
+    return true;
+}
+
+static bool check_fits(const struct record *record)
+{
+    char check[RECORD_CHECK_DIGITS + 1];
+    if (record->length < RECORD_TEXT_AT + RECORD_CHECK_DIGITS)
+        return false;
+    (void)snprintf(check, sizeof check, "%08" PRIX32, check_of(record->bytes, record->length));
+    return memcmp(record->bytes + record->length - RECORD_CHECK_DIGITS, check, RECORD_CHECK_DIGITS) == 0;
 }
 
 bool session_give(struct session *session, struct outgoing *record)
@@ -150,9 +174,7 @@ bool session_give(struct session *session, struct outgoing *record)
         size_t part = 1 + session->parts * 7 % SMALLEST_MAXIMUM;
         if (part > record->length - record->given)
             part = record->length - record->given;
-        if (carried(session, lu62_send_data(session->image, sizeof session->image, record->bytes + record->given, part,
-                                            session->send, sizeof session->send, session->unit, sizeof session->unit,
-                                            &session->answer)) != LU62_ACCEPTED)
+        if (moved_on(session, lu62_end_send_data(&session->end, record->bytes + record->given, part)) != LU62_ACCEPTED)
             return false;
         record->given += part;
         session->parts++;
@@ -160,25 +182,10 @@ bool session_give(struct session *session, struct outgoing *record)
     return true;
 }
 
-enum reading session_read(struct session *session)
+/* Puts the bytes just read behind those of the record read before. */
+static enum reading joined(struct session *session, const uint8_t *part, size_t copied)
 {
     struct record *record = &session->record;
-    uint8_t part[17];
-    if (session->record_whole) {
-        record->length = 0;
-        session->record_whole = false;
-    }
-    uint32_t refusal = lu62_receive(session->image, sizeof session->image, session->inbox, session->inbox_length,
-                                    part, sizeof part, &session->answer);
-    if (refusal == LU62_NOTHING_TO_READ)
-        return READ_NOTHING;
-    if (refusal != LU62_ACCEPTED) {
-        session_fail(session, "a read was refused");
-        return READ_NOTHING;
-    }
-    if (session->answer.mark != LU62_MARK_NONE)
-        return READ_MARK;
-    size_t copied = session->answer.copied;
     /* No record is longer than the buffer; the test keeps that true even if this program has a fault. */
     if (copied > sizeof record->bytes - record->length) {
         session_fail(session, "a record is too long");
@@ -186,40 +193,103 @@ enum reading session_read(struct session *session)
     }
     memcpy(record->bytes + record->length, part, copied);
     record->length += copied;
-    session->record_whole = session->answer.complete != 0;
+    session->record_whole = session->end.answer.complete != 0;
+    if (session->record_whole && !check_fits(record)) {
+        session_fail(session, "it sends a record whose check does not fit it");
+        return READ_NOTHING;
+    }
     return session->record_whole ? READ_RECORD : READ_PART;
 }
 
-bool session_exchange(struct session *session)
+enum reading session_read(struct session *session)
+{
+    uint8_t part[17];
+    if (session->record_whole) {
+        session->record.length = 0;
+        session->record_whole = false;
+    }
+    uint32_t refusal = lu62_end_receive(&session->end, part, sizeof part);
+    if (refusal == LU62_NOTHING_TO_READ)
+        return READ_NOTHING;
+    if (refusal != LU62_ACCEPTED) {
+        session_refused(session, "a read was refused", &session->end.answer);
+        return READ_NOTHING;
+    }
+    if (session->end.answer.mark != LU62_MARK_CONFIRM)
+        got_on(session);
+    return session->end.answer.mark != LU62_MARK_NONE ? READ_MARK : joined(session, part, session->end.answer.copied);
+}
+
+uint8_t record_kind(const struct record *record)
+{
+    return record->bytes[RECORD_TEXT_AT - 1];
+}
+
+struct text record_text(const struct record *record)
+{
+    struct text text = {record->bytes + RECORD_TEXT_AT, record->length - RECORD_TEXT_AT - RECORD_CHECK_DIGITS};
+    return text;
+}
+
+static bool is_confirmation(const uint8_t *unit, size_t length)
+{
+    return length == LU62_UNIT(0) && unit[2] == 0x83 && unit[3] == 0x20;
+}
+
+/* What the unit just taken says of bids: it may hold a bid that this end refuses, or the refusal of this end's own. */
+static void note_bids(struct session *session, bool bid_before)
+{
+    /* The only units that a take makes are answers to a bid; a bid refused has the longer one. */
+    if (session->end.answer.unit > LU62_UNIT(1))
+        session->bids_refused++;
+    if (bid_before && !lu62_end_bid_pending(&session->end) && lu62_end_state(&session->end) != LU62_SEND) {
+        session->bids_in_vain++;
+        session->bid_from = clock_ms() + session->pause_ms;
+    }
+}
+
+/* Takes the oldest unit on the line. False if there is none, or if it must stay there. */
+static bool take_unit(struct session *session)
+{
+    size_t length;
+    const uint8_t *unit = line_front(&session->line, &length);
+    if (unit == NULL)
+        return false;
+    if (session->lose_confirmation && is_confirmation(unit, length)) {
+        session->lose_confirmation = false;
+        line_drop(&session->line);
+        return true;
+    }
+    bool bid_before = lu62_end_bid_pending(&session->end);
+    uint32_t refusal = lu62_end_receive_unit(&session->end, unit, length);
+    /* The unit waits on the line until the mark before it has been read. */
+    if (refusal == LU62_UNREAD_MARK)
+        return false;
+    if (refusal != LU62_ACCEPTED) {
+        session->breach = true;
+        session->breach_answer = session->end.answer;
+        return false;
+    }
+    session->units_taken++;
+    note_bids(session, bid_before);
+    line_drop(&session->line);
+    (void)carried(session, refusal);
+    return true;
+}
+
+/* Takes every unit that has come and may be taken, and makes a pacing response if one is due. True if anything was done. */
+static bool exchange(struct session *session)
 {
     if (session->breach)
         return false;
     bool moved = line_receive(&session->line);
-    size_t length;
-    const uint8_t *unit;
-    while (!session->failed && (unit = line_front(&session->line, &length)) != NULL) {
-        uint32_t refusal = lu62_receive_unit(session->image, sizeof session->image, unit, length, session->inbox,
-                                             session->inbox_length, session->unit, sizeof session->unit, &session->answer);
-        /* The unit waits on the line until the mark before it has been read. */
-        if (refusal == LU62_UNREAD_MARK)
-            break;
-        if (refusal != LU62_ACCEPTED) {
-            session->breach = true;
-            session->breach_answer = session->answer;
-            return true;
-        }
-        /* The only units that a take makes are answers to a bid; a bid refused has the longer one. */
-        if (session->answer.unit > LU62_UNIT(1))
-            session->bids_refused++;
-        session->units_taken++;
-        line_drop(&session->line);
-        carried(session, refusal);
+    while (!session->failed && !session->breach && take_unit(session))
         moved = true;
-    }
-    if (!session->failed && lu62_send_pacing_response(session->image, sizeof session->image, session->unit, sizeof session->unit,
-                                                      &session->answer) == LU62_ACCEPTED) {
+    if (session->failed || session->breach)
+        return true;
+    if (lu62_end_send_pacing_response(&session->end) == LU62_ACCEPTED) {
         session->pacing_responses++;
-        carried(session, LU62_ACCEPTED);
+        (void)carried(session, LU62_ACCEPTED);
         moved = true;
     }
     return moved;
@@ -228,42 +298,74 @@ bool session_exchange(struct session *session)
 /* The partner has gone. Whether that is a fault depends on what it left unfinished. */
 static void partner_gone(struct session *session)
 {
-    bool in_unit = session->line.in_held > 0;
-    bool in_record = session->record.length > 0 && !session->record_whole;
-    if (lu62_state(session->image) == LU62_RESET && !in_unit && !in_record)
-        return;
-    /* The program has read all there is, so this read is refused, and the message names that refusal. */
-    (void)session_read(session);
-    if (in_record)
+    if (session->record.length > 0 && !session->record_whole)
         session_fail(session, "it has gone in the middle of a record, which is dropped");
-    else
+    else if (session->line.in_held > 0)
+        session_fail(session, "it has gone in the middle of a unit, which is dropped");
+    else if (lu62_end_state(&session->end) != LU62_RESET)
         session_fail(session, "it has gone in the middle of the conversation");
+}
+
+/* The conversation has stood still for the time limit: says what there was of it last. */
+static void out_of_time(struct session *session)
+{
+    const char *state = lu62_state_name(lu62_end_state(&session->end));
+    size_t length;
+    if (session->line.in_held > 0 && line_front(&session->line, &length) == NULL)
+        session_fail(session, "time limit: only part of a unit has come, and nothing got on for %" PRId64 " ms", session->limit_ms);
+    else if (session->bids_in_vain > 0)
+        session_fail(session, "time limit: it has refused %lu bids, and nothing got on for %" PRId64 " ms", session->bids_in_vain,
+                     session->limit_ms);
+    else if (session->line.out_held > 0)
+        session_fail(session, "time limit: it takes nothing of what is sent, and nothing got on for %" PRId64 " ms",
+                     session->limit_ms);
+    else
+        session_fail(session, "time limit: nothing got on for %" PRId64 " ms, in state %s", session->limit_ms, state);
+}
+
+/* Waits for the line, at longest until the next bid may be made or the time limit is over. */
+static void wait_for_line(struct session *session)
+{
+    int64_t now = clock_ms();
+    int64_t until = session->moved_at + session->limit_ms;
+    if (session->bid_from > now && session->bid_from < until)
+        until = session->bid_from;
+    if (!line_wait(&session->line, until - now))
+        session_fail(session, "the line cannot be waited for");
+}
+
+/* One round of a program: units taken, the program's step, units sent. True if anything was done. */
+static bool run_once(struct session *session, session_step *step, void *program)
+{
+    bool moved = exchange(session);
+    if (!session->failed)
+        moved |= step(program);
+    line_send(&session->line);
+    /* By now the program has read all that came before the unit at fault. */
+    if (session->breach)
+        session_refused(session, "a unit from it was refused", &session->breach_answer);
+    return moved;
 }
 
 bool session_run(struct session *session, session_step *step, void *program, const bool *done)
 {
-    for (;;) {
-        bool moved = session_exchange(session);
-        if (!session->failed)
-            moved |= step(program);
-        line_send(&session->line);
-        /* By now the program has read all that came before the unit at fault. */
-        if (session->breach && !session->failed) {
-            session->answer = session->breach_answer;
-            session_fail(session, "a unit from it was refused");
-        }
+    got_on(session);
+    while (!session->failed) {
+        bool moved = run_once(session, step, program);
         if (session->failed)
-            return false;
+            break;
         if (*done && (session->line.out_held == 0 || session->line.closed))
             return true;
-        if (moved)
-            continue;
-        if (session->line.closed) {
+        if (clock_ms() - session->moved_at >= session->limit_ms) {
+            out_of_time(session);
+        } else if (!moved && session->line.closed) {
             partner_gone(session);
             return !session->failed;
+        } else if (!moved) {
+            wait_for_line(session);
         }
-        line_wait(&session->line);
     }
+    return false;
 }
 
 void session_print_counts(const struct session *session)

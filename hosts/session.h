@@ -1,9 +1,11 @@
-/* One end of the session with the buffers lent to it and its line: what laboratory and blender have in common. */
+/* One end of the session with the buffers lent to it, its line and its time limit: what laboratory and blender have in common. */
 #ifndef SESSION_H
 #define SESSION_H
 
 #include "line.h"
-#include "lu62.h"
+#include "lu62_end.h"
+#include "programs.h"
+#include "text.h"
 
 enum {
     /* What the laboratory sends: little units, so that most records are cut. */
@@ -41,24 +43,28 @@ struct session {
     struct lu62_answer breach_answer;
     struct line line;
     struct record record;
-    bool record_whole;         /* the record has been read to its end */
-    struct lu62_answer answer; /* of the last call */
-    size_t parts;              /* parts given so far; makes the lengths of parts differ */
+    bool record_whole; /* the record has been read to its end */
+    size_t parts;      /* parts given so far; makes the lengths of parts differ */
+    int64_t limit_ms, pause_ms;
+    int64_t moved_at;          /* when the conversation last got on */
+    int64_t bid_from;          /* when the next bid may be made */
+    unsigned long bids_in_vain; /* bids of this end refused since the conversation last got on */
+    bool lose_confirmation;    /* a fault to be shown: the next confirmation is lost on the line */
     /* Counts for --counts. */
     unsigned long units_made, units_taken, bids_refused, waits_for_credit, pacing_responses;
-    uint8_t image[LU62_IMAGE];
+    struct lu62_end end;
     uint8_t send[LARGEST_MAXIMUM];
     uint8_t unit[LU62_UNIT(LARGEST_MAXIMUM)];
     uint8_t inbox[LARGEST_INBOX];
-    size_t inbox_length;
 };
 
 /* Opens the session of one program on its side of the socket pair. False, with a message, if that fails. */
-bool session_open_laboratory(struct session *session, int socket);
-bool session_open_blender(struct session *session, int socket);
+bool session_open_laboratory(struct session *session, int socket, const struct options *options);
+bool session_open_blender(struct session *session, int socket, const struct options *options);
 
 /* The calls that make units. Each puts its unit on the line and gives the refusal number. WRONG_STATE and NO_CREDIT mean 'not
- * now'; for any other refusal the conversation is ended with a message. */
+ * now'; for any other refusal the conversation is ended with a message. An allocate within the pause after a refused bid is
+ * answered WRONG_STATE without a call. */
 uint32_t session_allocate(struct session *session);
 uint32_t session_flush(struct session *session);
 uint32_t session_confirm(struct session *session);
@@ -66,27 +72,33 @@ uint32_t session_turn(struct session *session, bool confirm);
 uint32_t session_end(struct session *session, bool confirm);
 uint32_t session_confirmed(struct session *session);
 
-/* Begins a record of this kind and text: LL, one byte for the kind, the text. */
-void outgoing_set(struct outgoing *record, char kind, const char *text);
+/* Begins a record of this kind and text, with LL before and the check behind them. False, with a message, if the text does not
+ * fit. */
+bool session_set(struct session *session, struct outgoing *record, char kind, struct text text);
 
 /* Gives as much of the record as credit allows. True if all of it has been given. */
 bool session_give(struct session *session, struct outgoing *record);
 
-/* Reads once. With READ_RECORD, session->record holds a whole record, and the next read begins another; with READ_MARK,
- * session->answer.mark is the mark. */
+/* Reads once. With READ_RECORD, session->record holds a whole record with a check that fits, and the next read begins another; with
+ * READ_MARK, session->end.answer.mark is the mark. */
 enum reading session_read(struct session *session);
 
-/* Takes every unit that has come and may be taken, and makes a pacing response if one is due. True if anything was done. */
-bool session_exchange(struct session *session);
+/* The kind of the record that has been read, and its text. */
+uint8_t record_kind(const struct record *record);
+struct text record_text(const struct record *record);
 
 /* What a program does when it has its turn to run. True if it did anything: then it is run again before the line is waited for. */
 typedef bool session_step(void *program);
 
-/* Runs a program until `*done`, until a fault, or until the partner closes the line. True if there was no fault. */
+/* Runs a program until `*done`, until a fault, until the partner closes the line, or until nothing has got on for the time limit.
+ * True if there was no fault. */
 bool session_run(struct session *session, session_step *step, void *program, const bool *done);
 
-/* Ends the conversation for a fault: says what it was, with the last answer's refusal number and sense. */
-void session_fail(struct session *session, const char *what);
+/* Ends the conversation for a fault and says what it was. Only the first fault of a session is told. */
+__attribute__((format(printf, 2, 3))) void session_fail(struct session *session, const char *format, ...);
+
+/* The same for a call that was refused: with its refusal number, its sense and, for a header, the rule. */
+void session_refused(struct session *session, const char *what, const struct lu62_answer *answer);
 
 void session_print_counts(const struct session *session);
 
