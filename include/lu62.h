@@ -23,9 +23,10 @@
  * the buffers lie apart.
  *
  * A call returns its refusal number, LU62_ACCEPTED or one of the numbers below, and writes the whole answer to `answer`.
- * A refused call changes nothing but `answer`; lu62_open alone writes an image of zeros when it refuses. If several refusals
- * fit, the answer is the first in the order in which they are listed at the call. Every call but lu62_open also refuses, before
- * all else, an image of a wrong length (LU62_BAD_BUFFER) and an image with a code or flag that no record has (LU62_BAD_RECORD).
+ * A refused call changes nothing but `answer`; lu62_open alone writes an image when it refuses: LU62_FORMAT and zeros, which
+ * every call refuses. If several refusals fit, the answer is the first in the order in which they are listed at the call. Every
+ * call but lu62_open also refuses, before all else, an image of a wrong length (LU62_BAD_BUFFER), then one of another format or
+ * with a code or flag that no record has (LU62_BAD_RECORD).
  *
  * If `answer->unit` is not 0, a unit of that many bytes stands at the front of the unit buffer. The host must carry it to the
  * partner, after all units made before it and before all made later. */
@@ -39,11 +40,14 @@
 extern "C" {
 #endif
 
-/* The version of this interface, and of archive and crate that belong to it. */
+/* The version of this interface, and of archive and crate that belong to it; and an image's first byte, which is raised with each
+ * change of what an image holds. An image kept by a library of another format is refused, and not misread: with BAD_BUFFER if
+ * its length is another too, else with BAD_RECORD. */
 #define LU62_VERSION "0.2.0"
+#define LU62_FORMAT 2
 
 /* Sizes, in bytes. W is a window, 1 to 63; M is a maximum RU, 8 to 1,024. */
-#define LU62_IMAGE 41
+#define LU62_IMAGE 42
 #define LU62_UNIT(m) ((m) + 5)
 #define LU62_INBOX(w, m) ((w) * (m))
 #define LU62_INBOX_MOST 65535
@@ -191,25 +195,25 @@ uint32_t lu62_receive(uint8_t *image, size_t image_length, uint8_t *inbox, size_
 /* The state, LU62_RESET to LU62_CONFIRM_AWAITED. */
 static inline uint32_t lu62_state(const uint8_t *image)
 {
-    return image[1];
+    return image[2];
 }
 
 /* 1 while a bid of this end, always a bidder, has not been answered, else 0. */
 static inline uint32_t lu62_bid_pending(const uint8_t *image)
 {
-    return image[5];
+    return image[6];
 }
 
 /* How many bytes the send buffer holds: given, and not yet in a unit. */
 static inline uint32_t lu62_send_held(const uint8_t *image)
 {
-    return image[13] + 256u * image[14];
+    return image[14] + 256u * image[15];
 }
 
 /* How many bytes the inbox holds: taken, and not yet read. */
 static inline uint32_t lu62_inbox_held(const uint8_t *image)
 {
-    return image[27] + 256u * image[28];
+    return image[28] + 256u * image[29];
 }
 
 /* Refusals, states and marks in words, the one table of them for programs and messages. */

@@ -6,16 +6,50 @@
 //!
 //! The same buffers must be lent to the calls of one end, and nobody else may write to them between the calls: the bytes given
 //! and not yet sent lie in the send buffer, the bytes taken and not yet read in the inbox.
-#![deny(missing_docs)]
+//!
+//! One record from one end to the other:
+//!
+//! ```
+//! use lu62::{inbox_length, unit_length, End, Mark, Refusal, Role, Session};
+//!
+//! const W: u8 = 3;
+//! const M: usize = 64;
+//!
+//! # fn main() -> Result<(), Refusal> {
+//! let terms = |role| Session { role, out_window: W, in_window: W, out_max: M as u32, in_max: M as u32 };
+//! let (mut send, mut unit, inbox) = ([0; M], [0; unit_length(M)], [0; inbox_length(W as usize, M)]);
+//! let mut laboratory = End::open(terms(Role::FirstSpeaker), &send, &unit, &inbox)?;
+//! let (far_send, mut far_unit, mut far_inbox) = ([0; M], [0; unit_length(M)], [0; inbox_length(W as usize, M)]);
+//! let mut blender = End::open(terms(Role::Bidder), &far_send, &far_unit, &far_inbox)?;
+//!
+//! // The laboratory gives a record, its length in front, and ends the conversation: the record goes out as one unit.
+//! let record = b"\x00\x07V46.1";
+//! assert_eq!(laboratory.allocate(&mut unit)?.unit, 0);
+//! assert_eq!(laboratory.send_data(record, &mut send, &mut unit)?.unit, 0);
+//! let made = laboratory.deallocate(false, &send, &mut unit)?.unit;
+//!
+//! // The blender takes the unit, and reads the record and that the conversation is over.
+//! assert_eq!(blender.receive_unit(&unit[..made], &mut far_inbox, &mut far_unit)?.unit, 0);
+//! let mut buffer = [0; 100];
+//! let read = blender.receive(&mut far_inbox, &mut buffer)?;
+//! assert_eq!((&buffer[..read.copied], read.complete), (&record[..], true));
+//! assert_eq!(blender.receive(&mut far_inbox, &mut buffer)?.mark, Some(Mark::End));
+//! # Ok(())
+//! # }
+//! ```
+#![deny(missing_docs, unsafe_code)]
 
-use std::error::Error;
-use std::fmt;
-
-#[allow(missing_docs)]
+#[allow(missing_docs, unsafe_code)]
 pub mod raw;
+mod refusal;
+
+pub use refusal::{Reason, Refusal};
 
 /// The length of an end's record as bytes.
-pub const IMAGE: usize = 41;
+pub const IMAGE: usize = 42;
+
+/// The first of those bytes, raised with each change of what they hold.
+pub const FORMAT: u8 = 2;
 
 /// The largest inbox.
 pub const INBOX_MOST: usize = 65_535;
@@ -28,34 +62,6 @@ pub const fn unit_length(max: usize) -> usize {
 /// The least length of the inbox of an end with this receiving window and maximum.
 pub const fn inbox_length(window: usize, max: usize) -> usize {
     window * max
-}
-
-/// The numbers of refusals.
-pub mod number {
-    #![allow(missing_docs)]
-    pub const BAD_ROLE: u32 = 1;
-    pub const BAD_WINDOW: u32 = 2;
-    pub const BAD_MAXIMUM: u32 = 3;
-    pub const BAD_BUFFER: u32 = 4;
-    pub const BAD_RECORD: u32 = 5;
-    pub const BAD_LENGTH: u32 = 6;
-    pub const WRONG_STATE: u32 = 7;
-    pub const BAD_LL: u32 = 8;
-    pub const UNFINISHED_RECORD: u32 = 9;
-    pub const NO_CREDIT: u32 = 10;
-    pub const NOTHING_TO_PACE: u32 = 11;
-    pub const NOTHING_TO_READ: u32 = 12;
-    pub const UNREAD_MARK: u32 = 13;
-    pub const SHORT_UNIT: u32 = 20;
-    pub const BAD_HEADER: u32 = 21;
-    pub const BAD_RU: u32 = 22;
-    pub const BAD_NUMBER: u32 = 23;
-    pub const BAD_CHAIN: u32 = 24;
-    pub const BAD_BRACKET: u32 = 25;
-    pub const BAD_STATE: u32 = 26;
-    pub const BAD_PACING: u32 = 27;
-    pub const BAD_RESPONSE: u32 = 28;
-    pub const BAD_RECORDS: u32 = 29;
 }
 
 /// Which end of the session this is.
@@ -100,8 +106,6 @@ pub enum State {
 /// What a unit says after its bytes, answered by a read when all bytes before it have been read.
 #[derive(Clone, Copy, Debug, PartialEq, Eq)]
 pub enum Mark {
-    /// No mark.
-    None,
     /// This end sends now.
     Turn,
     /// The conversation is over.
@@ -113,66 +117,6 @@ pub enum Mark {
     /// A confirmation is due; then the conversation is over.
     ConfirmEnd,
 }
-
-/// A refused call: it changed nothing.
-#[derive(Clone, Copy, Debug, PartialEq, Eq)]
-pub struct Refusal {
-    /// One of the numbers in [`number`].
-    pub number: u32,
-    /// Sense data, 0 where the refusal has none.
-    pub sense: u32,
-    /// The header rule broken, 1 to 6, with [`number::BAD_HEADER`]; else 0.
-    pub rule: u32,
-}
-
-impl Refusal {
-    /// Whether the partner broke the protocol.
-    pub fn is_breach(&self) -> bool {
-        self.number >= number::SHORT_UNIT
-    }
-
-    /// The refusal in a few words.
-    pub fn words(&self) -> &'static str {
-        match self.number {
-            number::BAD_ROLE => "the role is neither first speaker nor bidder",
-            number::BAD_WINDOW => "a window is out of range",
-            number::BAD_MAXIMUM => "a maximum RU is out of range",
-            number::BAD_BUFFER => "a buffer has a wrong length",
-            number::BAD_RECORD => "the end's record is not one that calls can leave",
-            number::BAD_LENGTH => "no bytes, or too many",
-            number::WRONG_STATE => "the state does not allow the call",
-            number::BAD_LL => "a logical record's length is out of range",
-            number::UNFINISHED_RECORD => "the last record given is not whole",
-            number::NO_CREDIT => "no credit for a request",
-            number::NOTHING_TO_PACE => "no pacing response is due",
-            number::NOTHING_TO_READ => "nothing to read",
-            number::UNREAD_MARK => "a mark has not been read",
-            number::SHORT_UNIT => "the unit is too short",
-            number::BAD_HEADER => "the header breaks a rule",
-            number::BAD_RU => "the RU does not fit",
-            number::BAD_NUMBER => "the sequence number is not the next",
-            number::BAD_CHAIN => "the unit does not fit the chain",
-            number::BAD_BRACKET => "the unit does not fit the bracket",
-            number::BAD_STATE => "data came where this end does not receive",
-            number::BAD_PACING => "the unit does not fit the pacing window",
-            number::BAD_RESPONSE => "a response to nothing asked",
-            number::BAD_RECORDS => "a bad record length, or a record not whole at its end",
-            _ => "refused",
-        }
-    }
-}
-
-impl fmt::Display for Refusal {
-    fn fmt(&self, f: &mut fmt::Formatter<'_>) -> fmt::Result {
-        write!(f, "refusal {}: {}, sense {:08X}", self.number, self.words(), self.sense)?;
-        if self.rule != 0 {
-            write!(f, ", rule H{}", self.rule)?;
-        }
-        Ok(())
-    }
-}
-
-impl Error for Refusal {}
 
 /// An accepted call.
 #[derive(Clone, Copy, Debug, PartialEq, Eq)]
@@ -190,15 +134,26 @@ pub struct ReadAnswer {
     pub copied: usize,
     /// Whether the last of them ends a logical record.
     pub complete: bool,
-    /// The mark answered. Then no byte was copied.
-    pub mark: Mark,
+    /// The mark answered, if any. Then no byte was copied.
+    pub mark: Option<Mark>,
 }
 
 fn outcome(raw: raw::Answer) -> Result<Answer, Refusal> {
     if raw.refusal == 0 {
-        Ok(Answer { unit: raw.unit as usize })
-    } else {
-        Err(Refusal { number: raw.refusal, sense: raw.sense, rule: raw.rule })
+        return Ok(Answer { unit: raw.unit as usize });
+    }
+    let reason = Reason::from_number(raw.refusal).expect("the library refuses with the numbers of lu62.h");
+    Err(Refusal { reason, sense: raw.sense, rule: raw.rule })
+}
+
+fn mark(number: u32) -> Option<Mark> {
+    match number {
+        1 => Some(Mark::Turn),
+        2 => Some(Mark::End),
+        3 => Some(Mark::Confirm),
+        4 => Some(Mark::ConfirmTurn),
+        5 => Some(Mark::ConfirmEnd),
+        _ => None,
     }
 }
 
@@ -216,28 +171,24 @@ impl End {
             Role::Bidder => 1,
         };
         let mut end = End { image: [0; IMAGE] };
-        let mut raw = raw::Answer::default();
-        // SAFETY: image is borrowed mutably and IMAGE bytes long; the answer is a local of the library's layout.
-        unsafe {
-            raw::lu62_open(
-                role,
-                session.out_window,
-                session.in_window,
-                session.out_max,
-                session.in_max,
-                send.len(),
-                unit.len(),
-                inbox.len(),
-                end.image.as_mut_ptr(),
-                end.image.len(),
-                &mut raw,
-            );
-        }
+        let raw = raw::open(
+            role,
+            session.out_window,
+            session.in_window,
+            session.out_max,
+            session.in_max,
+            send.len(),
+            unit.len(),
+            inbox.len(),
+            &mut end.image,
+        );
         outcome(raw).map(|_| end)
     }
 
-    /// The end whose record was kept as these bytes. Any bytes may be given: if no call can have left them, every call is refused
-    /// with [`number::BAD_RECORD`] or [`number::BAD_BUFFER`].
+    /// The end whose record was kept as these bytes. Any bytes may be given. If they are no record within document 01's section on
+    /// the end's record, or of another [`FORMAT`], every call is refused with [`Reason::BadRecord`] or [`Reason::BadBuffer`]. Bytes
+    /// that were changed and are still such a record are accepted as that record: whoever keeps an image must see to it that it is
+    /// not changed.
     pub fn from_image(image: [u8; IMAGE]) -> End {
         End { image }
     }
@@ -249,7 +200,7 @@ impl End {
 
     /// The state, or `None` for an image that no call has left.
     pub fn state(&self) -> Option<State> {
-        match self.image[1] {
+        match self.image[2] {
             0 => Some(State::Reset),
             1 => Some(State::Send),
             2 => Some(State::Receive),
@@ -259,153 +210,72 @@ impl End {
         }
     }
 
-    /// Makes one of the library's calls that are lent the unit buffer alone.
-    fn by_unit(&mut self, call: raw::ByUnit, unit: &mut [u8]) -> Result<Answer, Refusal> {
-        let mut raw = raw::Answer::default();
-        // SAFETY: both slices are borrowed mutably, so they do not overlap; the answer is a local of the library's layout.
-        unsafe {
-            call(self.image.as_mut_ptr(), self.image.len(), unit.as_mut_ptr(), unit.len(), &mut raw);
-        }
-        outcome(raw)
+    /// Whether a bid of this end has not been answered.
+    pub fn bid_pending(&self) -> bool {
+        self.image[6] == 1
     }
 
-    /// Makes one of the library's calls that send the bytes kept.
-    fn by_send(&mut self, call: raw::BySend, send: &[u8], unit: &mut [u8]) -> Result<Answer, Refusal> {
-        let mut raw = raw::Answer::default();
-        let image = &mut self.image;
-        // SAFETY: the slices written are borrowed mutably and `send` beside them, so none overlap; the library only reads `send`.
-        unsafe {
-            call(image.as_mut_ptr(), image.len(), send.as_ptr(), send.len(), unit.as_mut_ptr(), unit.len(), &mut raw);
-        }
-        outcome(raw)
+    /// How many bytes the send buffer holds: given, and not yet in a unit.
+    pub fn send_held(&self) -> usize {
+        usize::from(u16::from_le_bytes([self.image[14], self.image[15]]))
     }
 
-    /// Makes one of the library's calls that send the bytes kept, with or without confirmation.
-    fn by_send_confirmed(
-        &mut self,
-        call: raw::BySendConfirmed,
-        confirm: bool,
-        send: &[u8],
-        unit: &mut [u8],
-    ) -> Result<Answer, Refusal> {
-        let mut raw = raw::Answer::default();
-        // SAFETY: the slices written are borrowed mutably and `send` beside them, so none overlap; the library only reads `send`.
-        unsafe {
-            call(
-                self.image.as_mut_ptr(),
-                self.image.len(),
-                u8::from(confirm),
-                send.as_ptr(),
-                send.len(),
-                unit.as_mut_ptr(),
-                unit.len(),
-                &mut raw,
-            );
-        }
-        outcome(raw)
+    /// How many bytes the inbox holds: taken, and not yet read.
+    pub fn inbox_held(&self) -> usize {
+        usize::from(u16::from_le_bytes([self.image[28], self.image[29]]))
     }
 
     /// Begins a conversation: a first speaker sends at once, a bidder makes a bid and waits for its answer.
     pub fn allocate(&mut self, unit: &mut [u8]) -> Result<Answer, Refusal> {
-        self.by_unit(raw::lu62_allocate, unit)
+        outcome(raw::allocate(&mut self.image, unit))
     }
 
     /// Gives bytes of logical records, cut anywhere, to be sent.
+    ///
+    /// A record's length is asked when its second byte is given. So a first LL byte of 80 to FF, given as the last byte of a call, is
+    /// accepted, though no second byte can follow it: from then on send data is refused with [`Reason::BadLl`].
     pub fn send_data(&mut self, bytes: &[u8], send: &mut [u8], unit: &mut [u8]) -> Result<Answer, Refusal> {
-        let mut raw = raw::Answer::default();
-        // SAFETY: the slices written are borrowed mutably and `bytes` beside them, so none overlap; the library only reads `bytes`.
-        unsafe {
-            raw::lu62_send_data(
-                self.image.as_mut_ptr(),
-                self.image.len(),
-                bytes.as_ptr(),
-                bytes.len(),
-                send.as_mut_ptr(),
-                send.len(),
-                unit.as_mut_ptr(),
-                unit.len(),
-                &mut raw,
-            );
-        }
-        outcome(raw)
+        outcome(raw::send_data(&mut self.image, bytes, send, unit))
     }
 
     /// Sends the bytes kept, if any.
     pub fn flush(&mut self, send: &[u8], unit: &mut [u8]) -> Result<Answer, Refusal> {
-        self.by_send(raw::lu62_flush, send, unit)
+        outcome(raw::flush(&mut self.image, send, unit))
     }
 
     /// Sends the bytes kept and asks for a confirmation.
     pub fn confirm(&mut self, send: &[u8], unit: &mut [u8]) -> Result<Answer, Refusal> {
-        self.by_send(raw::lu62_confirm, send, unit)
+        outcome(raw::confirm(&mut self.image, send, unit))
     }
 
     /// Sends the bytes kept and gives the turn to the partner, with or without confirmation.
     pub fn prepare_to_receive(&mut self, confirm: bool, send: &[u8], unit: &mut [u8]) -> Result<Answer, Refusal> {
-        self.by_send_confirmed(raw::lu62_prepare_to_receive, confirm, send, unit)
+        outcome(raw::prepare_to_receive(&mut self.image, confirm, send, unit))
     }
 
     /// Sends the bytes kept and ends the conversation, with or without confirmation.
     pub fn deallocate(&mut self, confirm: bool, send: &[u8], unit: &mut [u8]) -> Result<Answer, Refusal> {
-        self.by_send_confirmed(raw::lu62_deallocate, confirm, send, unit)
+        outcome(raw::deallocate(&mut self.image, confirm, send, unit))
     }
 
     /// Makes the confirmation that is owed.
     pub fn confirmed(&mut self, unit: &mut [u8]) -> Result<Answer, Refusal> {
-        self.by_unit(raw::lu62_confirmed, unit)
+        outcome(raw::confirmed(&mut self.image, unit))
     }
 
     /// Makes a pacing response, if one is owed and the inbox has room for a window.
     pub fn send_pacing_response(&mut self, unit: &mut [u8]) -> Result<Answer, Refusal> {
-        self.by_unit(raw::lu62_send_pacing_response, unit)
+        outcome(raw::send_pacing_response(&mut self.image, unit))
     }
 
-    /// Takes the oldest unit that the partner made. Refused with [`number::UNREAD_MARK`], it must be taken again after a read.
+    /// Takes the oldest unit that the partner made. Refused with [`Reason::UnreadMark`], it must be taken again after a read.
     pub fn receive_unit(&mut self, taken: &[u8], inbox: &mut [u8], unit: &mut [u8]) -> Result<Answer, Refusal> {
-        let mut raw = raw::Answer::default();
-        // SAFETY: the slices written are borrowed mutably and `taken` beside them, so none overlap; the library only reads `taken`.
-        unsafe {
-            raw::lu62_receive_unit(
-                self.image.as_mut_ptr(),
-                self.image.len(),
-                taken.as_ptr(),
-                taken.len(),
-                inbox.as_mut_ptr(),
-                inbox.len(),
-                unit.as_mut_ptr(),
-                unit.len(),
-                &mut raw,
-            );
-        }
-        outcome(raw)
+        outcome(raw::receive_unit(&mut self.image, taken, inbox, unit))
     }
 
     /// Reads bytes of the current record, never past its end; or, with all bytes read, the mark.
     pub fn receive(&mut self, inbox: &mut [u8], buffer: &mut [u8]) -> Result<ReadAnswer, Refusal> {
-        let mut raw = raw::Answer::default();
-        // SAFETY: the three slices are borrowed mutably, so none overlap; the answer is a local of the library's layout.
-        unsafe {
-            raw::lu62_receive(
-                self.image.as_mut_ptr(),
-                self.image.len(),
-                inbox.as_mut_ptr(),
-                inbox.len(),
-                buffer.as_mut_ptr(),
-                buffer.len(),
-                &mut raw,
-            );
-        }
-        outcome(raw).map(|_| ReadAnswer {
-            copied: raw.copied as usize,
-            complete: raw.complete != 0,
-            mark: match raw.mark {
-                1 => Mark::Turn,
-                2 => Mark::End,
-                3 => Mark::Confirm,
-                4 => Mark::ConfirmTurn,
-                5 => Mark::ConfirmEnd,
-                _ => Mark::None,
-            },
-        })
+        let raw = raw::receive(&mut self.image, inbox, buffer);
+        outcome(raw).map(|_| ReadAnswer { copied: raw.copied as usize, complete: raw.complete != 0, mark: mark(raw.mark) })
     }
 }

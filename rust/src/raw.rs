@@ -1,4 +1,5 @@
-//! The library's functions as they are: a slice crosses as a pointer and a length. include/lu62.h says what each does.
+//! The library's functions as they are: a slice crosses as a pointer and a length. include/lu62.h says what each does. Behind them
+//! stand the same calls on slices, which are safe: every use of a pointer in this crate is in this file.
 
 /// What a call answers, as the library writes it.
 #[repr(C)]
@@ -124,4 +125,149 @@ extern "C" {
         buffer_length: usize,
         answer: *mut Answer,
     ) -> u32;
+}
+
+/// Opens a session: writes its record to the image.
+#[allow(clippy::too_many_arguments)]
+pub fn open(
+    role: u8,
+    out_window: u8,
+    in_window: u8,
+    out_max: u32,
+    in_max: u32,
+    send_length: usize,
+    unit_length: usize,
+    inbox_length: usize,
+    image: &mut [u8],
+) -> Answer {
+    let mut answer = Answer::default();
+    // SAFETY: the image is borrowed mutably and as long as said; the answer is a local of the library's layout.
+    unsafe {
+        lu62_open(
+            role,
+            out_window,
+            in_window,
+            out_max,
+            in_max,
+            send_length,
+            unit_length,
+            inbox_length,
+            image.as_mut_ptr(),
+            image.len(),
+            &mut answer,
+        );
+    }
+    answer
+}
+
+fn by_unit(call: ByUnit, image: &mut [u8], unit: &mut [u8]) -> Answer {
+    let mut answer = Answer::default();
+    // SAFETY: both slices are borrowed mutably, so they do not overlap; the answer is a local of the library's layout. `call` is one
+    // of this file's, which touch nothing else.
+    unsafe {
+        call(image.as_mut_ptr(), image.len(), unit.as_mut_ptr(), unit.len(), &mut answer);
+    }
+    answer
+}
+
+fn by_send(call: BySend, image: &mut [u8], send: &[u8], unit: &mut [u8]) -> Answer {
+    let mut answer = Answer::default();
+    // SAFETY: the slices written are borrowed mutably and `send` beside them, so none overlap; the library only reads `send`.
+    unsafe {
+        call(image.as_mut_ptr(), image.len(), send.as_ptr(), send.len(), unit.as_mut_ptr(), unit.len(), &mut answer);
+    }
+    answer
+}
+
+fn by_send_confirmed(call: BySendConfirmed, image: &mut [u8], confirm: bool, send: &[u8], unit: &mut [u8]) -> Answer {
+    let mut answer = Answer::default();
+    let confirm = u8::from(confirm);
+    // SAFETY: the slices written are borrowed mutably and `send` beside them, so none overlap; the library only reads `send`.
+    unsafe {
+        call(image.as_mut_ptr(), image.len(), confirm, send.as_ptr(), send.len(), unit.as_mut_ptr(), unit.len(), &mut answer);
+    }
+    answer
+}
+
+pub fn allocate(image: &mut [u8], unit: &mut [u8]) -> Answer {
+    by_unit(lu62_allocate, image, unit)
+}
+
+pub fn send_data(image: &mut [u8], bytes: &[u8], send: &mut [u8], unit: &mut [u8]) -> Answer {
+    let mut answer = Answer::default();
+    // SAFETY: the slices written are borrowed mutably and `bytes` beside them, so none overlap; the library only reads `bytes`.
+    unsafe {
+        lu62_send_data(
+            image.as_mut_ptr(),
+            image.len(),
+            bytes.as_ptr(),
+            bytes.len(),
+            send.as_mut_ptr(),
+            send.len(),
+            unit.as_mut_ptr(),
+            unit.len(),
+            &mut answer,
+        );
+    }
+    answer
+}
+
+pub fn flush(image: &mut [u8], send: &[u8], unit: &mut [u8]) -> Answer {
+    by_send(lu62_flush, image, send, unit)
+}
+
+pub fn confirm(image: &mut [u8], send: &[u8], unit: &mut [u8]) -> Answer {
+    by_send(lu62_confirm, image, send, unit)
+}
+
+pub fn prepare_to_receive(image: &mut [u8], confirm: bool, send: &[u8], unit: &mut [u8]) -> Answer {
+    by_send_confirmed(lu62_prepare_to_receive, image, confirm, send, unit)
+}
+
+pub fn deallocate(image: &mut [u8], confirm: bool, send: &[u8], unit: &mut [u8]) -> Answer {
+    by_send_confirmed(lu62_deallocate, image, confirm, send, unit)
+}
+
+pub fn confirmed(image: &mut [u8], unit: &mut [u8]) -> Answer {
+    by_unit(lu62_confirmed, image, unit)
+}
+
+pub fn send_pacing_response(image: &mut [u8], unit: &mut [u8]) -> Answer {
+    by_unit(lu62_send_pacing_response, image, unit)
+}
+
+pub fn receive_unit(image: &mut [u8], taken: &[u8], inbox: &mut [u8], unit: &mut [u8]) -> Answer {
+    let mut answer = Answer::default();
+    // SAFETY: the slices written are borrowed mutably and `taken` beside them, so none overlap; the library only reads `taken`.
+    unsafe {
+        lu62_receive_unit(
+            image.as_mut_ptr(),
+            image.len(),
+            taken.as_ptr(),
+            taken.len(),
+            inbox.as_mut_ptr(),
+            inbox.len(),
+            unit.as_mut_ptr(),
+            unit.len(),
+            &mut answer,
+        );
+    }
+    answer
+}
+
+pub fn receive(image: &mut [u8], inbox: &mut [u8], buffer: &mut [u8]) -> Answer {
+    let mut answer = Answer::default();
+    // SAFETY: the three slices are borrowed mutably, so none overlap; the answer is a local of the library's layout.
+    unsafe {
+        lu62_receive(
+            image.as_mut_ptr(),
+            image.len(),
+            inbox.as_mut_ptr(),
+            inbox.len(),
+            buffer.as_mut_ptr(),
+            buffer.len(),
+            &mut answer,
+        );
+    }
+    answer
 }

@@ -1,5 +1,5 @@
 //! The safe calls as a program uses them: one record from one end to the other, a turn, a confirmation and the end.
-use lu62::{inbox_length, number, unit_length, End, Mark, Role, Session, State};
+use lu62::{inbox_length, unit_length, End, Mark, Reason, Role, Session, State, FORMAT};
 
 const WINDOW: u8 = 3;
 const MAX: usize = 8;
@@ -20,13 +20,13 @@ fn host(role: Role) -> Host {
 }
 
 // Reads until a record is whole or a mark is answered.
-fn read(host: &mut Host) -> (Vec<u8>, Mark) {
+fn read(host: &mut Host) -> (Vec<u8>, Option<Mark>) {
     let mut record = Vec::new();
     loop {
         let mut buffer = [0; 3];
         let answer = host.end.receive(&mut host.inbox, &mut buffer).expect("there is something to read");
         record.extend(&buffer[..answer.copied]);
-        if answer.complete || answer.mark != Mark::None {
+        if answer.complete || answer.mark.is_some() {
             return (record, answer.mark);
         }
     }
@@ -49,13 +49,15 @@ fn a_conversation() {
     let made = laboratory.end.prepare_to_receive(true, &laboratory.send, &mut laboratory.unit).expect("a whole record");
     units.push(laboratory.unit[..made.unit].to_vec());
     assert_eq!(laboratory.end.state(), Some(State::ConfirmAwaited));
+    assert_eq!(laboratory.end.send_held(), 0);
 
     for unit in units.iter().filter(|unit| !unit.is_empty()) {
         let answer = blender.end.receive_unit(unit, &mut blender.inbox, &mut blender.unit).expect("units in order");
         assert_eq!(answer.unit, 0);
     }
-    assert_eq!(read(&mut blender), (record.to_vec(), Mark::None));
-    assert_eq!(read(&mut blender), (Vec::new(), Mark::ConfirmTurn));
+    assert_eq!(blender.end.inbox_held(), record.len());
+    assert_eq!(read(&mut blender), (record.to_vec(), None));
+    assert_eq!(read(&mut blender), (Vec::new(), Some(Mark::ConfirmTurn)));
     let made = blender.end.confirmed(&mut blender.unit).expect("a confirmation is owed");
     let confirmation = blender.unit[..made.unit].to_vec();
     assert_eq!(confirmation, [0x00, 0x02, 0x83, 0x20, 0x00]);
@@ -71,15 +73,15 @@ fn refusals_say_what_was_wrong() {
     let mut blender = host(Role::Bidder);
     let before = blender.end.clone();
     let refusal = blender.end.receive_unit(&[0, 1, 3, 0x90, 0x21], &mut blender.inbox, &mut blender.unit).unwrap_err();
-    assert_eq!((refusal.number, refusal.sense, refusal.rule), (number::BAD_HEADER, 0, 5));
-    assert!(refusal.is_breach());
-    assert_eq!(refusal.to_string(), "refusal 21: the header breaks a rule, sense 00000000, rule H5");
+    assert_eq!((refusal.reason, refusal.sense, refusal.rule), (Reason::BadHeader, 0, 5));
+    assert!(refusal.reason.is_breach());
+    assert_eq!(refusal.to_string(), "refusal 21 (the header breaks a rule), sense 00000000, rule H5");
     let refusal = blender.end.receive_unit(&[0, 1], &mut blender.inbox, &mut blender.unit).unwrap_err();
-    assert_eq!(refusal.to_string(), "refusal 20: the unit is too short, sense 40050000");
+    assert_eq!(refusal.to_string(), "refusal 20 (the unit is too short), sense 40050000");
     assert_eq!(blender.end, before);
     let refusal = blender.end.receive(&mut blender.inbox, &mut [0; 4]).unwrap_err();
-    assert_eq!(refusal.number, number::NOTHING_TO_READ);
-    assert!(!refusal.is_breach());
+    assert_eq!(refusal.reason, Reason::NothingToRead);
+    assert!(!refusal.reason.is_breach());
 }
 
 #[test]
@@ -92,5 +94,26 @@ fn an_image_is_kept_and_taken_up_again() {
     assert_eq!(again, blender.end);
     let mut forged = End::from_image([0xFF; lu62::IMAGE]);
     assert_eq!(forged.state(), None);
-    assert_eq!(forged.allocate(&mut unit).unwrap_err().number, number::BAD_RECORD);
+    assert_eq!(forged.allocate(&mut unit).unwrap_err().reason, Reason::BadRecord);
+}
+
+#[test]
+fn a_changed_image_is_refused_or_another_record() {
+    let blender = host(Role::Bidder);
+    let mut unit = blender.unit;
+    // Of another format: refused.
+    let mut image = *blender.end.image();
+    image[0] = FORMAT + 1;
+    assert_eq!(End::from_image(image).allocate(&mut unit).unwrap_err().reason, Reason::BadRecord);
+    // Out of document 01's section on the record: a place past the end of the window.
+    let mut image = *blender.end.image();
+    image[10] = WINDOW;
+    assert_eq!(End::from_image(image).allocate(&mut unit).unwrap_err().reason, Reason::BadRecord);
+    // Within it: the last number sent, changed, is taken as it is.
+    let mut image = *blender.end.image();
+    image[16] = 6;
+    let mut changed = End::from_image(image);
+    let made = changed.allocate(&mut unit).expect("a record within the section is accepted");
+    assert_eq!((made.unit, &unit[..2]), (10, &[0x00, 0x07][..]));
+    assert!(changed.bid_pending() && !blender.end.bid_pending());
 }

@@ -1,11 +1,15 @@
-//! Calls on forged images, units and lengths. The buffers of a call lie in one block of memory with cells between them, and the
-//! whole block is compared after the call: a refusal changed nothing anywhere, an accepted call wrote only where it may, and the
-//! answer is one that the call can give. Besides, every answer and every cell is compared with what the plain end gives.
+//! Calls on forged images, units and lengths.
+//!
+//! The buffers of a call lie in one block of memory with cells between them, and the whole block is compared after the call: a
+//! refusal changed nothing anywhere, an accepted call wrote only where it may, and the answer is one that the call can give.
+//! Besides, every answer and every cell is compared with what the plain end gives; and the call is made once more with every buffer
+//! against a page that cannot be touched, right before its first byte or right behind its last, and must come to the same.
 mod common;
 
+use common::pages::Area;
 use common::{at, put_word, word, Random};
 use lu62::raw;
-use lu62::IMAGE;
+use lu62::{FORMAT, IMAGE};
 use plain::{Follow, Mark, Place, State, Window};
 use std::ops::Range;
 
@@ -14,6 +18,8 @@ const CALLS: usize = 1_500_000;
 // Cells before, between and after the buffers.
 const GUARD: usize = 40;
 const ANSWER_GUARD: u32 = 0xA5A5_5A5A;
+// No buffer of these tests is longer.
+const LARGEST_BUFFER: usize = 4 * 65_536;
 
 #[derive(Clone, Copy, Debug, PartialEq, Eq)]
 enum Call {
@@ -129,19 +135,31 @@ struct Opening {
     inbox: usize,
 }
 
-// The library's call on the block. Gives what it returned beside the answer.
-fn library(call: Call, block: &mut Block, opening: &Opening, confirm: u8, answer: &mut raw::Answer) -> u32 {
-    let start = block.cells.as_mut_ptr();
-    let (il, sl, ul, xl) = (block.image.len(), block.send.len(), block.unit.len(), block.inbox.len());
-    let (gl, bl) = (block.gift.len(), block.buffer.len());
-    // SAFETY: every range lies within the block and no two overlap; the block is borrowed mutably for the whole call.
+// Where the buffers of a call lie.
+struct Lent {
+    image: (*mut u8, usize),
+    send: (*mut u8, usize),
+    unit: (*mut u8, usize),
+    inbox: (*mut u8, usize),
+    gift: (*mut u8, usize),
+    buffer: (*mut u8, usize),
+    answer: *mut raw::Answer,
+}
+
+// The library's call on these buffers. Gives what it returned beside the answer.
+//
+// # Safety
+// Every pointer is good for as many bytes as stand beside it, and nothing that two of them reach is the same.
+unsafe fn made(call: Call, lent: &Lent, opening: &Opening, confirm: u8) -> u32 {
+    let (image, il) = lent.image;
+    let (send, sl) = lent.send;
+    let (unit, ul) = lent.unit;
+    let (inbox, xl) = lent.inbox;
+    let (gift, gl) = lent.gift;
+    let (buffer, bl) = lent.buffer;
+    let answer = lent.answer;
+    // SAFETY: as this function asks of its caller.
     unsafe {
-        let image = start.add(block.image.start);
-        let send = start.add(block.send.start);
-        let unit = start.add(block.unit.start);
-        let inbox = start.add(block.inbox.start);
-        let gift = start.add(block.gift.start);
-        let buffer = start.add(block.buffer.start);
         match call {
             Call::Open => raw::lu62_open(
                 opening.role,
@@ -170,6 +188,63 @@ fn library(call: Call, block: &mut Block, opening: &Opening, confirm: u8, answer
     }
 }
 
+// The library's call on the block.
+fn library(call: Call, block: &mut Block, opening: &Opening, confirm: u8, answer: &mut raw::Answer) -> u32 {
+    let start = block.cells.as_mut_ptr();
+    // SAFETY: every range lies within the block and no two overlap; the block is borrowed mutably for the whole call.
+    unsafe {
+        let place = |range: &Range<usize>| (start.add(range.start), range.len());
+        let lent = Lent {
+            image: place(&block.image),
+            send: place(&block.send),
+            unit: place(&block.unit),
+            inbox: place(&block.inbox),
+            gift: place(&block.gift),
+            buffer: place(&block.buffer),
+            answer,
+        };
+        made(call, &lent, opening, confirm)
+    }
+}
+
+// Areas of memory for the buffers of a call, each with a page on either side that cannot be touched.
+struct Pages {
+    buffers: [Area; 6],
+    answer: Area,
+}
+
+impl Pages {
+    fn new() -> Pages {
+        Pages {
+            buffers: std::array::from_fn(|_| Area::new(LARGEST_BUFFER)),
+            answer: Area::new(std::mem::size_of::<raw::Answer>()),
+        }
+    }
+
+    // The call with every buffer at one side of its area. Gives the answer, with the buffers copied back to the block.
+    fn library(&mut self, call: Call, block: &mut Block, opening: &Opening, confirm: u8, at_end: bool) -> raw::Answer {
+        let ranges = [&block.image, &block.send, &block.unit, &block.inbox, &block.gift, &block.buffer].map(Range::clone);
+        let mut places = [(std::ptr::null_mut(), 0); 6];
+        for (i, range) in ranges.iter().enumerate() {
+            let room = self.buffers[i].place(range.len(), at_end);
+            room.copy_from_slice(&block.cells[range.clone()]);
+            places[i] = (room.as_mut_ptr(), room.len());
+        }
+        let answer = self.answer.place(std::mem::size_of::<raw::Answer>(), at_end).as_mut_ptr().cast::<raw::Answer>();
+        let [image, send, unit, inbox, gift, buffer] = places;
+        let lent = Lent { image, send, unit, inbox, gift, buffer, answer };
+        // SAFETY: the places are in areas of their own, as long as said; the answer's has its size and lies at a multiple of four.
+        let answer = unsafe {
+            made(call, &lent, opening, confirm);
+            answer.read()
+        };
+        for (i, range) in ranges.iter().enumerate() {
+            block.cells[range.clone()].copy_from_slice(self.buffers[i].place(range.len(), at_end));
+        }
+        answer
+    }
+}
+
 fn flag(byte: u8) -> Option<bool> {
     match byte {
         0 => Some(false),
@@ -194,6 +269,9 @@ fn place(image: &[u8], at: usize) -> Option<Place> {
 
 // The record in an image, or none if a code, flag or place is one that no record has.
 fn decoded(image: &[u8]) -> Option<plain::End> {
+    if image[at::FORMAT] != FORMAT {
+        return None;
+    }
     Some(plain::End {
         bidder: flag(image[at::ROLE])?,
         state: match image[at::STATE] {
@@ -257,6 +335,7 @@ fn put_place(image: &mut [u8], at: usize, place: Place) {
 }
 
 fn encode(end: &plain::End, image: &mut [u8]) {
+    image[at::FORMAT] = FORMAT;
     image[at::ROLE] = u8::from(end.bidder);
     image[at::STATE] = end.state as u8;
     image[at::FOLLOW] = end.follow as u8;
@@ -306,6 +385,7 @@ fn by_plain(call: Call, block: &mut Block, opening: &Opening, confirm: u8) -> pl
             }
             Err(number) => {
                 image.fill(0);
+                image[at::FORMAT] = FORMAT;
                 only(number)
             }
         };
@@ -583,6 +663,30 @@ fn random_opening(random: &mut Random) -> Opening {
     opening
 }
 
+// Writes the record's image, in some with a place that no record has, in some with a cell or two forged.
+fn put_image(random: &mut Random, mut end: plain::End, image: &mut [u8]) {
+    if random.chance(1, 16) {
+        // With no byte left, or with more than the longest record leaves.
+        let forged = Place::Left(random.pick(&[0, 32766, 32767, 32768, 65535]));
+        match random.below(3) {
+            0 => end.given = forged,
+            1 => end.taken = forged,
+            _ => end.read = forged,
+        }
+    }
+    encode(&end, image);
+    if random.chance(1, 4) {
+        for _ in 0..random.range(1, 2) {
+            let cell = &mut image[random.below(IMAGE)];
+            *cell = match random.below(3) {
+                0 => random.byte(),
+                1 => cell.wrapping_add(1),
+                _ => random.below(7) as u8,
+            };
+        }
+    }
+}
+
 // Lays out and fills a block for one call.
 fn prepare(random: &mut Random, call: Call, block: &mut Block) {
     let end = random_end(random);
@@ -630,17 +734,7 @@ fn prepare(random: &mut Random, call: Call, block: &mut Block) {
     // Else the image is random cells.
     if image == IMAGE && random.chance(15, 16) {
         let range = block.image.clone();
-        encode(&end, &mut block.cells[range.clone()]);
-        if random.chance(1, 4) {
-            for _ in 0..random.range(1, 2) {
-                let cell = &mut block.cells[range.start + random.below(IMAGE)];
-                *cell = match random.below(3) {
-                    0 => random.byte(),
-                    1 => cell.wrapping_add(1),
-                    _ => random.below(7) as u8,
-                };
-            }
-        }
+        put_image(random, end, &mut block.cells[range]);
     }
 }
 
@@ -674,7 +768,8 @@ fn check(call: Call, before: &Block, after: &Block, answer: &raw::Answer, openin
         }
         assert_eq!((answer.unit, tail), (0, [0, 0, 0]), "a refusal has zeros");
         if call == Call::Open && before.image.len() == IMAGE {
-            assert!(after.cells[after.image.clone()].iter().all(|&cell| cell == 0), "a refused opening leaves zeros");
+            let (format, zeros) = after.cells[after.image.clone()].split_at(1);
+            assert!(format == [FORMAT] && zeros.iter().all(|&cell| cell == 0), "a refused opening leaves the format and zeros");
             assert!(unchanged_outside(before, after, std::slice::from_ref(&before.image)), "opening wrote outside the image");
         } else {
             assert!(before.cells == after.cells, "{call:?} refused with {} changed a cell", answer.refusal);
@@ -723,22 +818,24 @@ fn check(call: Call, before: &Block, after: &Block, answer: &raw::Answer, openin
     assert!(unchanged_outside(before, after, &may), "{call:?} wrote outside what it may");
 }
 
-#[test]
-fn forged_calls() {
-    let mut random = Random(SEED);
-    let mut block = Block::new();
-    let mut before = Block::new();
-    let mut expected = Block::new();
-    let mut seen = [[0usize; 30]; 11];
-    for i in 0..CALLS {
-        // Takes have the most questions.
-        let which = if random.chance(1, 4) { 9 } else { random.below(ALL.len()) };
-        let call = ALL[which];
-        prepare(&mut random, call, &mut block);
-        copy_block(&block, &mut before);
-        copy_block(&block, &mut expected);
-        let opening = random_opening(&mut random);
-        let confirm = random.pick(&[0, 0, 1, 1, 2, 255]);
+// What the calls are tried with: the block as it was before, as the plain end leaves it, and the areas with pages beside them.
+struct Bench {
+    before: Block,
+    expected: Block,
+    paged: Block,
+    pages: Pages,
+}
+
+impl Bench {
+    fn new() -> Bench {
+        Bench { before: Block::new(), expected: Block::new(), paged: Block::new(), pages: Pages::new() }
+    }
+
+    // Makes the call on the block in each way, and compares. `i` tells the call in a message, and which side the pages are on.
+    fn tried(&mut self, i: usize, call: Call, block: &mut Block, opening: &Opening, confirm: u8) -> raw::Answer {
+        copy_block(block, &mut self.before);
+        copy_block(block, &mut self.expected);
+        copy_block(block, &mut self.paged);
         let guard = raw::Answer {
             refusal: ANSWER_GUARD,
             sense: ANSWER_GUARD,
@@ -749,13 +846,20 @@ fn forged_calls() {
             mark: ANSWER_GUARD,
         };
         let mut guarded = [guard; 3];
-        let returned = library(call, &mut block, &opening, confirm, &mut guarded[1]);
+        let returned = library(call, block, opening, confirm, &mut guarded[1]);
         let answer = guarded[1];
         assert_eq!((guarded[0], guarded[2]), (guard, guard), "call {i}, {call:?}: the cells beside the answer");
         assert_eq!(returned, answer.refusal, "call {i}, {call:?}: the number returned is that of the answer");
-        check(call, &before, &block, &answer, &opening);
+        check(call, &self.before, block, &answer, opening);
+        self.compare_plain(i, call, block, opening, confirm, &answer);
+        let again = self.pages.library(call, &mut self.paged, opening, confirm, i & 1 == 0);
+        assert_eq!(again, answer, "call {i}, {call:?}: another answer against a page that cannot be touched");
+        assert!(self.paged.cells == block.cells, "call {i}, {call:?}: other cells against a page that cannot be touched");
+        answer
+    }
 
-        let other = by_plain(call, &mut expected, &opening, confirm);
+    fn compare_plain(&mut self, i: usize, call: Call, block: &Block, opening: &Opening, confirm: u8, answer: &raw::Answer) {
+        let other = by_plain(call, &mut self.expected, opening, confirm);
         let told = plain::Answer {
             refusal: answer.refusal,
             sense: answer.sense,
@@ -767,10 +871,27 @@ fn forged_calls() {
             mark: answer.mark,
         };
         assert_eq!(told, other, "call {i}, {call:?}: the plain end answers otherwise");
-        assert!(block.cells == expected.cells, "call {i}, {call:?}: the plain end leaves other cells");
+        assert!(block.cells == self.expected.cells, "call {i}, {call:?}: the plain end leaves other cells");
+    }
+}
+
+#[test]
+fn forged_calls() {
+    let mut random = Random(SEED);
+    let mut block = Block::new();
+    let mut bench = Bench::new();
+    let mut seen = [[0usize; 30]; 11];
+    for i in 0..CALLS {
+        // Takes have the most questions.
+        let which = if random.chance(1, 4) { 9 } else { random.below(ALL.len()) };
+        let call = ALL[which];
+        prepare(&mut random, call, &mut block);
+        let opening = random_opening(&mut random);
+        let confirm = random.pick(&[0, 0, 1, 1, 2, 255]);
+        let answer = bench.tried(i, call, &mut block, &opening, confirm);
         seen[which][answer.refusal as usize] += 1;
     }
-    println!("forged: seed {SEED:#x}, {CALLS} calls");
+    println!("forged: seed {SEED:#x}, {CALLS} calls, each against pages that cannot be touched too");
     for (call, counts) in ALL.iter().zip(&seen) {
         let told: Vec<String> = (0..30).filter(|&n| counts[n] > 0).map(|n| format!("{n}: {}", counts[n])).collect();
         println!("forged: {call:?}: {}", told.join(", "));
@@ -778,5 +899,161 @@ fn forged_calls() {
         for &n in allowed(*call) {
             assert!(counts[n as usize] >= 50, "{call:?} was hardly ever refused with {n}");
         }
+    }
+}
+
+// ---- calls at the bounds of the rules, one by one
+
+const MAX: u16 = 16;
+const WINDOW: u8 = 3;
+const INBOX: u16 = WINDOW as u16 * MAX;
+
+// An end on which each call is accepted, lent the right buffers, with these bytes given or taken.
+fn accepting(call: Call) -> (plain::End, Vec<u8>) {
+    let window = Window { size: WINDOW, place: 0, pending: false };
+    let end = plain::End {
+        bidder: false,
+        state: match call {
+            Call::Allocate => State::Reset,
+            Call::Confirmed => State::Owes,
+            Call::Take | Call::Read | Call::Pace => State::Receive,
+            _ => State::Send,
+        },
+        follow: Follow::Stay,
+        mark: Mark::None,
+        due: false,
+        bid: false,
+        out_chain: false,
+        in_chain: false,
+        out: window,
+        out_max: MAX,
+        out_held: 0,
+        out_number: 1,
+        given: Place::Between,
+        // For a pacing response a whole window has been taken; for a read its first unit, whose bytes are in the inbox.
+        into: Window { place: u8::from(call == Call::Read), pending: matches!(call, Call::Pace | Call::Read), ..window },
+        in_max: MAX,
+        inbox: INBOX,
+        in_held: if call == Call::Read { 4 } else { 0 },
+        in_number: 1,
+        taken: Place::Between,
+        read: Place::Between,
+        bid_number: 0,
+        owed_number: 1,
+    };
+    let gift = match call {
+        Call::Take => vec![0x00, 0x02, 0x02, 0x91, 0x00, 0x00, 0x04, 0x41, 0x42],
+        _ => vec![0x00, 0x04, 0x41, 0x42],
+    };
+    (end, gift)
+}
+
+const SMALL_READ: usize = 8;
+
+// The block for a call on this end. `longer` is added to the lengths of send, unit, inbox and the caller's buffer.
+fn laid(end: &plain::End, gift: &[u8], inbox: &[u8], longer: [usize; 4]) -> Block {
+    let mut block = Block::new();
+    let max = usize::from(MAX);
+    let lengths =
+        [IMAGE, max + longer[0], max + 5 + longer[1], usize::from(INBOX) + longer[2], gift.len(), SMALL_READ + longer[3]];
+    block.lay(lengths);
+    encode(end, &mut block.cells[block.image.clone()]);
+    block.cells[block.gift.clone()].copy_from_slice(gift);
+    block.cells[block.inbox.start..block.inbox.start + inbox.len()].copy_from_slice(inbox);
+    block
+}
+
+const GOOD_INBOX: [u8; 4] = [0x00, 0x04, 0x41, 0x42];
+const AN_OPENING: Opening = Opening {
+    role: 0,
+    out_window: WINDOW,
+    in_window: WINDOW,
+    out_max: MAX as u32,
+    in_max: MAX as u32,
+    send: MAX as usize,
+    unit: MAX as usize + 5,
+    inbox: INBOX as usize,
+};
+
+fn later_calls() -> impl Iterator<Item = Call> {
+    ALL.into_iter().filter(|&call| call != Call::Open)
+}
+
+#[test]
+fn record_places_at_their_bounds() {
+    let mut bench = Bench::new();
+    for call in later_calls() {
+        for which in 0..3 {
+            for left in [0, 1, 2, 32764, 32765, 32766, 32767, 32768, 65535] {
+                let (mut end, gift) = accepting(call);
+                let place = Place::Left(left);
+                match which {
+                    0 => end.given = place,
+                    1 => end.taken = place,
+                    _ => end.read = place,
+                }
+                let mut block = laid(&end, &gift, &GOOD_INBOX, [0; 4]);
+                let answer = bench.tried(0, call, &mut block, &AN_OPENING, 0);
+                let outside = !(1..=32765).contains(&left);
+                assert_eq!(answer.refusal == 5, outside, "{call:?} with {left} bytes left at place {which}: {}", answer.refusal);
+            }
+        }
+    }
+}
+
+#[test]
+fn record_lengths_at_their_bounds() {
+    let mut bench = Bench::new();
+    for ll in [0u16, 1, 2, 3, 255, 256, 32766, 32767, 32768, 32769, 65534, 65535] {
+        let good = (2..=32767).contains(&ll);
+        let [high, low] = ll.to_be_bytes();
+        // Both bytes at once, or the second alone after a first that was accepted before.
+        for (place, bytes) in [(Place::Between, vec![high, low]), (Place::AfterFirst(high), vec![low])] {
+            for call in [Call::SendData, Call::Take, Call::Read] {
+                let (mut end, _) = accepting(call);
+                let mut gift = bytes.clone();
+                match call {
+                    Call::SendData => end.given = place,
+                    Call::Take => {
+                        end.taken = place;
+                        gift = [&[0x00, 0x02, 0x02, 0x91, 0x00], &bytes[..]].concat();
+                    }
+                    _ => {
+                        end.read = place;
+                        end.in_held = bytes.len() as u16;
+                    }
+                }
+                let mut block = laid(&end, &gift, &bytes, [0; 4]);
+                let answer = bench.tried(1, call, &mut block, &AN_OPENING, 0);
+                let bad = if call == Call::Take { 29 } else { 8 };
+                assert_eq!(answer.refusal, if good { 0 } else { bad }, "{call:?} of LL {ll}, {} bytes of it", bytes.len());
+            }
+        }
+    }
+}
+
+#[test]
+fn lent_lengths_past_65535() {
+    let mut bench = Bench::new();
+    for call in later_calls() {
+        for which in 0..4 {
+            for more in [65_535, 65_536, 65_537, 2 * 65_536] {
+                let (end, gift) = accepting(call);
+                let mut longer = [0; 4];
+                longer[which] = more;
+                let mut block = laid(&end, &gift, &GOOD_INBOX, longer);
+                let answer = bench.tried(more, call, &mut block, &AN_OPENING, 0);
+                // Longer send and unit buffers are as good; an inbox has the length of opening.
+                let refused = which == 2 && matches!(call, Call::Take | Call::Read);
+                assert_eq!(answer.refusal, if refused { 4 } else { 0 }, "{call:?} with {more} cells more in buffer {which}");
+            }
+        }
+    }
+    // Bytes given, and a unit taken, that are longer by 2^16 than good ones.
+    for (call, refusal) in [(Call::SendData, 6), (Call::Take, 22)] {
+        let (end, mut gift) = accepting(call);
+        gift.resize(gift.len() + 65_536, 0);
+        let mut block = laid(&end, &gift, &GOOD_INBOX, [0; 4]);
+        assert_eq!(bench.tried(2, call, &mut block, &AN_OPENING, 0).refusal, refusal, "{call:?} of {} bytes", gift.len());
     }
 }

@@ -1,11 +1,20 @@
-//! Two joined ends, called in any order with anything their callers choose, units crossing on the line. After every call each
-//! sentence about joined ends is checked: never both in Send; no take refused as a breach; bytes accepted are those read, then in
-//! the inbox, on the line and in the send buffer; the credit count; and, for a part of the runs, the same outcome when the same
-//! calls of each end are made in another order between the ends.
+//! Two joined ends, called in any order with anything their callers choose, units crossing on the line.
+//!
+//! After every call: the ends are not both in Send; a take was not refused as a breach; the number of bytes accepted and not yet read
+//! is that of the bytes in the inbox, on the line and in the send buffer; requests made and credit left are the windows allowed.
+//! At every read: each byte is the next of those accepted at the other end, none past the end of a record, and what is complete and
+//! which cells change is right. At every send data: 8 is answered for a bad LL and for nothing else.
+//!
+//! At times: the bytes in the inbox, on the line and in the send buffer are compared with those accepted, one by one. That is after
+//! every call while fewer than 256 bytes are under way; with more, once in as many calls as there are 256s of them; and at the end
+//! of every run.
+//!
+//! For every fourth of the shorter runs, at its end: each end's calls are made again, in up to three other orders between the ends,
+//! and records, lent cells, lines and answers are compared. An order is counted as compared only if it differs from the first.
 mod common;
 
 use common::{at, credit, word, Random};
-use lu62::{number, Answer, End, Mark, ReadAnswer, Refusal, Role, Session};
+use lu62::{Answer, End, ReadAnswer, Reason, Refusal, Role, Session};
 use plain::{walk, Place};
 use std::collections::VecDeque;
 
@@ -74,6 +83,7 @@ struct Seen {
     units_a_record: usize,
     whole_checks: usize,
     compared: usize,
+    alike: usize,
     wrapped: usize,
 }
 
@@ -192,10 +202,10 @@ impl Pair {
             _ => None,
         };
         if let Some(refusal) = refusal {
-            assert!(!refusal.is_breach(), "a take between joined ends was refused: {refusal}");
-            assert_ne!(refusal.number, number::BAD_BUFFER, "the buffers are those of opening");
-            assert_ne!(refusal.number, number::BAD_RECORD, "calls left a record out of range");
-            seen.refused[refusal.number as usize] += 1;
+            assert!(!refusal.reason.is_breach(), "a take between joined ends was refused: {refusal}");
+            assert_ne!(refusal.reason, Reason::BadBuffer, "the buffers are those of opening");
+            assert_ne!(refusal.reason, Reason::BadRecord, "calls left a record out of range");
+            seen.refused[refusal.reason.number() as usize] += 1;
         } else {
             seen.accepted[place] += 1;
         }
@@ -212,7 +222,7 @@ impl Pair {
                         let image = side.end.image();
                         let fits = (1..=word(image, at::OUT_MAX)).contains(&bytes.len());
                         assert_eq!(
-                            refusal.number == number::BAD_LL,
+                            refusal.reason == Reason::BadLl,
                             fits && image[at::STATE] == 1 && after.is_none(),
                             "8 is for a bad LL given in Send: {refusal}"
                         );
@@ -234,15 +244,15 @@ impl Pair {
                         assert!(last || place != Place::Between, "a read went past the end of a record");
                     }
                     assert_eq!(answer.complete, copied > 0 && reader.read == Place::Between);
-                    assert_eq!(answer.mark != Mark::None, copied == 0);
+                    assert_eq!(answer.mark.is_some(), copied == 0);
                     if answer.complete {
                         reader.records_read += 1;
                         seen.records += 1;
                     }
-                    seen.marks[answer.mark as usize] += 1;
+                    seen.marks[answer.mark.map_or(0, |mark| mark as usize + 1)] += 1;
                 } else {
                     assert_eq!(buffer, cells);
-                    assert!(matches!(result, Err(r) if r.number == number::NOTHING_TO_READ || r.number == number::BAD_LENGTH));
+                    assert!(matches!(result, Err(r) if r.reason == Reason::NothingToRead || r.reason == Reason::BadLength));
                 }
             }
             (Call::Take, Outcome::Called(Ok(answer))) if answer.unit > 0 => match self.sides[who].unit[2] {
@@ -475,10 +485,18 @@ fn same_outcome(first: &Pair, second: &Pair, answers: &[Vec<Outcome>; 2], others
     }
 }
 
-// The same calls of each end in another order between the ends. A take waits until there is a unit.
-fn replay(random: &mut Random, sizes: &Sizes, cells: u64, calls: &[Vec<Call>; 2], stay: usize) -> (Pair, [Vec<Outcome>; 2]) {
+// The pair after a row of calls, the answers of each end, and which end was called at each.
+struct Replayed {
+    pair: Pair,
+    answers: [Vec<Outcome>; 2],
+    order: Vec<usize>,
+}
+
+// The same calls of each end in an order of their own between the ends. A take waits until there is a unit.
+fn replay(random: &mut Random, sizes: &Sizes, cells: u64, calls: &[Vec<Call>; 2], stay: usize) -> Replayed {
     let mut pair = Pair::open(sizes, cells);
     let mut answers = [Vec::new(), Vec::new()];
+    let mut order = Vec::new();
     let mut who = random.below(2);
     loop {
         let ready = |w: usize| match calls[w].get(answers[w].len()) {
@@ -497,11 +515,12 @@ fn replay(random: &mut Random, sizes: &Sizes, cells: u64, calls: &[Vec<Call>; 2]
         }
         let outcome = pair.call(who, &calls[who][answers[who].len()]);
         answers[who].push(outcome);
+        order.push(who);
     }
     for w in 0..2 {
         assert_eq!(answers[w].len(), calls[w].len(), "another order of the same calls stands still");
     }
-    (pair, answers)
+    Replayed { pair, answers, order }
 }
 
 fn run(random: &mut Random, sizes: &Sizes, habits: &Habits, calls: usize, compare: bool, seen: &mut Seen) {
@@ -509,6 +528,7 @@ fn run(random: &mut Random, sizes: &Sizes, habits: &Habits, calls: usize, compar
     let mut pair = Pair::open(sizes, cells);
     let mut lists: [Vec<Call>; 2] = [Vec::new(), Vec::new()];
     let mut answers: [Vec<Outcome>; 2] = [Vec::new(), Vec::new()];
+    let mut order = Vec::new();
     let mut who = 0;
     let mut until_whole = 0;
     for _ in 0..calls {
@@ -534,6 +554,7 @@ fn run(random: &mut Random, sizes: &Sizes, habits: &Habits, calls: usize, compar
         if compare {
             lists[who].push(call);
             answers[who].push(outcome);
+            order.push(who);
         }
     }
     pair.check(sizes, true);
@@ -546,9 +567,13 @@ fn run(random: &mut Random, sizes: &Sizes, habits: &Habits, calls: usize, compar
     }
     if compare {
         for stay in [15, 2, 9] {
-            let (other, others) = replay(random, sizes, cells, &lists, stay);
-            same_outcome(&pair, &other, &answers, &others);
-            seen.compared += 1;
+            let other = replay(random, sizes, cells, &lists, stay);
+            same_outcome(&pair, &other.pair, &answers, &other.answers);
+            if other.order == order {
+                seen.alike += 1;
+            } else {
+                seen.compared += 1;
+            }
         }
     }
 }
@@ -576,11 +601,12 @@ fn joined_ends() {
         runs += 1;
     }
     println!(
-        "joined: seed {SEED:#x}, {} calls in {} runs, {} records read, {} compared orders, {} comparisons of all bytes",
+        "joined: seed {SEED:#x}, {} calls in {} runs, {} records read, {} other orders compared ({} more were the first again), {} comparisons of all bytes",
         seen.calls,
         runs + 2,
         seen.records,
         seen.compared,
+        seen.alike,
         seen.whole_checks
     );
     println!("joined: accepted by call {:?}", seen.accepted);

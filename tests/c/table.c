@@ -1,27 +1,38 @@
-/* Document 01's table of examples, byte for byte through the C interface. Prints the number of examples, or what differed. */
-#include "lu62.h"
+/* Examples byte for byte through the C interface: every row of document 01's table, each under the row's own words (`row`), and some
+ * of our own beside them (`ours`). Prints how many there were of each, or what differed. */
+#include "lu62_end.h"
 
 #include <stdio.h>
 #include <stdlib.h>
 #include <string.h>
 
-/* Bytes of the image that a test sets to reach an example's starting point. */
-enum { STATE_AT = 1, GIVEN_AT = 17, OUT_NUMBER_AT = 15, OWED_NUMBER_AT = 39 };
+/* Bytes of the image that a test sets to reach an example's starting point, or looks at. */
+enum { STATE_AT = 2, OUT_NUMBER_AT = 16, GIVEN_AT = 18, OWED_NUMBER_AT = 40 };
 
 enum { LARGEST = 64, WIDEST = 3 };
 
-struct end {
-    uint8_t image[LU62_IMAGE];
+/* An end with the buffers that it is lent. */
+struct host {
+    struct lu62_end end;
     uint8_t send[LARGEST];
     uint8_t unit[LU62_UNIT(LARGEST)];
     uint8_t inbox[LU62_INBOX(WIDEST, LARGEST)];
-    size_t inbox_length;
-    struct lu62_answer answer;
 };
 
 static const char *example;
-static int examples;
-static int failures;
+static int rows, own, failures;
+
+static void row(const char *words)
+{
+    example = words;
+    rows++;
+}
+
+static void ours(const char *words)
+{
+    example = words;
+    own++;
+}
 
 static void print_bytes(const char *what, const uint8_t *bytes, size_t length)
 {
@@ -31,281 +42,323 @@ static void print_bytes(const char *what, const uint8_t *bytes, size_t length)
     fprintf(stderr, "\n");
 }
 
-static void expect_bytes(const char *name, const uint8_t *got, size_t got_length, const uint8_t *expected, size_t length)
+static void expect_bytes(const char *what, const uint8_t *got, size_t got_length, const uint8_t *expected, size_t length)
 {
     if (got_length == length && memcmp(got, expected, length) == 0)
         return;
     failures++;
-    fprintf(stderr, "%s: %s:\n", example, name);
+    fprintf(stderr, "%s: %s:\n", example, what);
     print_bytes("expected", expected, length);
     print_bytes("found   ", got, got_length);
 }
 
-static void expect_number(const char *name, uint32_t got, uint32_t expected)
+static void expect_number(const char *what, uint32_t got, uint32_t expected)
 {
     if (got == expected)
         return;
     failures++;
-    fprintf(stderr, "%s: %s: expected %u, found %u\n", example, name, (unsigned)expected, (unsigned)got);
+    fprintf(stderr, "%s: %s: expected %u, found %u\n", example, what, (unsigned)expected, (unsigned)got);
+}
+
+static void expect_refusal(const struct host *host, uint32_t expected)
+{
+    if (host->end.answer.refusal == expected)
+        return;
+    failures++;
+    fprintf(stderr, "%s: expected refusal %u (%s), found %u (%s)\n", example, (unsigned)expected, lu62_refusal_text(expected),
+            (unsigned)host->end.answer.refusal, lu62_refusal_text(host->end.answer.refusal));
+}
+
+static void expect_state(const struct host *host, uint32_t expected)
+{
+    uint32_t state = lu62_end_state(&host->end);
+    if (state == expected)
+        return;
+    failures++;
+    fprintf(stderr, "%s: expected state %s, found %s\n", example, lu62_state_name(expected), lu62_state_name(state));
 }
 
 /* The unit that the last call made. */
-static void expect_unit(const char *name, const struct end *end, const uint8_t *expected, size_t length)
+static void expect_unit(const struct host *host, const uint8_t *expected, size_t length)
 {
-    expect_number(name, end->answer.refusal, LU62_ACCEPTED);
-    expect_bytes(name, end->unit, end->answer.unit, expected, length);
-    expect_number(name, end->answer.copied + end->answer.complete + end->answer.mark, 0);
+    const struct lu62_answer *answer = &host->end.answer;
+    expect_refusal(host, LU62_ACCEPTED);
+    expect_bytes("unit", host->unit, answer->unit, expected, length);
+    expect_number("copied, complete and mark", answer->copied + answer->complete + answer->mark, 0);
 }
 
-#define UNIT(name, end, ...) \
+#define UNIT(host, ...) \
     do { \
         static const uint8_t expected_[] = {__VA_ARGS__}; \
-        expect_unit(name, end, expected_, sizeof expected_); \
+        expect_unit(host, expected_, sizeof expected_); \
     } while (0)
 
-#define SEND(end, ...) \
+#define SEND(host, ...) \
     do { \
         static const uint8_t bytes_[] = {__VA_ARGS__}; \
-        send_data(end, bytes_, sizeof bytes_); \
+        (void)lu62_end_send_data(&(host)->end, bytes_, sizeof bytes_); \
     } while (0)
 
-#define TAKE(end, ...) \
+#define TAKE(host, ...) \
     do { \
         static const uint8_t bytes_[] = {__VA_ARGS__}; \
-        take(end, bytes_, sizeof bytes_); \
+        (void)lu62_end_receive_unit(&(host)->end, bytes_, sizeof bytes_); \
     } while (0)
 
-static struct end opened(uint8_t role, uint8_t window, uint32_t max)
+static void open_host(struct host *host, uint8_t role, uint8_t window, uint32_t max)
 {
-    struct end end;
-    memset(&end, 0xEE, sizeof end);
-    end.inbox_length = LU62_INBOX((size_t)window, max);
-    lu62_open(role, window, window, max, max, sizeof end.send, sizeof end.unit, end.inbox_length,
-              end.image, sizeof end.image, &end.answer);
-    expect_number("opening", end.answer.refusal, LU62_ACCEPTED);
-    expect_number("state after opening", lu62_state(end.image), LU62_RESET);
-    return end;
+    struct lu62_session session = {role, window, window, max, max};
+    memset(host, 0xEE, sizeof *host);
+    lu62_end_lend(&host->end, host->send, sizeof host->send, host->unit, sizeof host->unit, host->inbox,
+                  LU62_INBOX((size_t)window, max));
+    (void)lu62_end_open(&host->end, &session);
+    expect_refusal(host, LU62_ACCEPTED);
+    expect_state(host, LU62_RESET);
+    expect_number("format", host->end.image[0], LU62_FORMAT);
 }
 
-static void allocate(struct end *end)
+/* An opened first speaker that has allocated. */
+static void open_sender(struct host *host, uint8_t window, uint32_t max)
 {
-    lu62_allocate(end->image, sizeof end->image, end->unit, sizeof end->unit, &end->answer);
-}
-
-static void send_data(struct end *end, const uint8_t *bytes, size_t length)
-{
-    lu62_send_data(end->image, sizeof end->image, bytes, length, end->send, sizeof end->send,
-                   end->unit, sizeof end->unit, &end->answer);
-}
-
-static void take(struct end *end, const uint8_t *bytes, size_t length)
-{
-    lu62_receive_unit(end->image, sizeof end->image, bytes, length, end->inbox, end->inbox_length,
-                      end->unit, sizeof end->unit, &end->answer);
-}
-
-static void deallocate(struct end *end, uint8_t confirm)
-{
-    lu62_deallocate(end->image, sizeof end->image, confirm, end->send, sizeof end->send,
-                    end->unit, sizeof end->unit, &end->answer);
-}
-
-static void flush(struct end *end)
-{
-    lu62_flush(end->image, sizeof end->image, end->send, sizeof end->send, end->unit, sizeof end->unit, &end->answer);
-}
-
-static void begin(const char *name)
-{
-    example = name;
-    examples++;
+    open_host(host, LU62_FIRST_SPEAKER, window, max);
+    (void)lu62_end_allocate(&host->end);
+    expect_refusal(host, LU62_ACCEPTED);
+    expect_number("a first speaker's allocate makes no unit", host->end.answer.unit, 0);
 }
 
 static void bids(void)
 {
-    begin("a bid");
-    struct end bidder = opened(LU62_BIDDER, 3, 64);
-    allocate(&bidder);
-    UNIT("fresh bidder allocates", &bidder, 0x00, 0x01, 0x4B, 0x81, 0x80, 0x04, 0x00, 0x06, 0x00, 0x00);
+    struct host bidder, first, sending;
+    row("fresh bidder allocates");
+    open_host(&bidder, LU62_BIDDER, 3, 64);
+    (void)lu62_end_allocate(&bidder.end);
+    UNIT(&bidder, 0x00, 0x01, 0x4B, 0x81, 0x80, 0x04, 0x00, 0x06, 0x00, 0x00);
+    expect_number("bid pending", lu62_end_bid_pending(&bidder.end), 1);
 
-    begin("a grant");
-    struct end first = opened(LU62_FIRST_SPEAKER, 3, 64);
-    take(&first, bidder.unit, bidder.answer.unit);
-    UNIT("fresh first speaker takes it", &first, 0x00, 0x01, 0xCB, 0x80, 0x00, 0x04);
-    expect_number("state after the grant", lu62_state(first.image), LU62_RECEIVE);
+    row("fresh first speaker takes it");
+    open_host(&first, LU62_FIRST_SPEAKER, 3, 64);
+    (void)lu62_end_receive_unit(&first.end, bidder.unit, bidder.end.answer.unit);
+    UNIT(&first, 0x00, 0x01, 0xCB, 0x80, 0x00, 0x04);
+    expect_state(&first, LU62_RECEIVE);
 
-    begin("a bid refused");
-    struct end sending = opened(LU62_FIRST_SPEAKER, 3, 64);
-    allocate(&sending);
-    expect_number("first speaker's allocate makes no unit", sending.answer.unit, 0);
-    take(&sending, bidder.unit, bidder.answer.unit);
-    UNIT("the same, already in Send", &sending, 0x00, 0x01, 0xCF, 0x90, 0x00, 0x08, 0x13, 0x00, 0x00, 0x04);
-    expect_number("state after the bid refusal", lu62_state(sending.image), LU62_SEND);
+    row("the same, already in Send");
+    open_sender(&sending, 3, 64);
+    (void)lu62_end_receive_unit(&sending.end, bidder.unit, bidder.end.answer.unit);
+    UNIT(&sending, 0x00, 0x01, 0xCF, 0x90, 0x00, 0x08, 0x13, 0x00, 0x00, 0x04);
+    expect_state(&sending, LU62_SEND);
 }
 
 static void a_confirmation(void)
 {
-    begin("confirmed");
-    struct end end = opened(LU62_BIDDER, 3, 64);
-    end.image[STATE_AT] = LU62_CONFIRM_OWED;
-    end.image[OWED_NUMBER_AT] = 7;
-    lu62_confirmed(end.image, sizeof end.image, end.unit, sizeof end.unit, &end.answer);
-    UNIT("confirmed, number owed 7", &end, 0x00, 0x07, 0x83, 0x20, 0x00);
-    expect_number("state after confirmed", lu62_state(end.image), LU62_RECEIVE);
+    struct host host;
+    row("confirmed, number owed 7");
+    open_host(&host, LU62_BIDDER, 3, 64);
+    host.end.image[STATE_AT] = LU62_CONFIRM_OWED;
+    host.end.image[OWED_NUMBER_AT] = 7;
+    (void)lu62_end_confirmed(&host.end);
+    UNIT(&host, 0x00, 0x07, 0x83, 0x20, 0x00);
+    expect_state(&host, LU62_RECEIVE);
 }
 
 static void data(void)
 {
-    begin("one record");
-    struct end end = opened(LU62_FIRST_SPEAKER, 3, 64);
-    allocate(&end);
-    SEND(&end, 0x00, 0x05, 0x41, 0x42, 0x43);
-    expect_number("bytes kept make no unit", end.answer.unit, 0);
-    deallocate(&end, 0);
-    UNIT("first speaker allocates, gives 00 05 41 42 43, ends", &end, 0x00, 0x01, 0x03, 0x91, 0x81, 0x00, 0x05, 0x41, 0x42, 0x43);
-    expect_number("state after the end", lu62_state(end.image), LU62_RESET);
+    struct host host, little;
+    row("first speaker allocates, gives 00 05 41 42 43, ends");
+    open_sender(&host, 3, 64);
+    SEND(&host, 0x00, 0x05, 0x41, 0x42, 0x43);
+    expect_number("bytes kept make no unit", host.end.answer.unit, 0);
+    expect_number("bytes kept", lu62_end_send_held(&host.end), 5);
+    (void)lu62_end_deallocate(&host.end, 0);
+    UNIT(&host, 0x00, 0x01, 0x03, 0x91, 0x81, 0x00, 0x05, 0x41, 0x42, 0x43);
+    expect_state(&host, LU62_RESET);
 
-    begin("a record over two units");
-    struct end little = opened(LU62_FIRST_SPEAKER, 3, 8);
-    allocate(&little);
+    row("M 8: gives 00 0A 31 to 36, then 37 38");
+    open_sender(&little, 3, 8);
     SEND(&little, 0x00, 0x0A, 0x31, 0x32, 0x33, 0x34, 0x35, 0x36);
-    expect_number("M bytes are kept", little.answer.unit, 0);
+    expect_number("M bytes are kept", little.end.answer.unit, 0);
     SEND(&little, 0x37, 0x38);
-    UNIT("M 8: gives 00 0A 31 to 36, then 37 38", &little,
-         0x00, 0x01, 0x02, 0x91, 0x80, 0x00, 0x0A, 0x31, 0x32, 0x33, 0x34, 0x35, 0x36);
-    begin("then confirm");
-    lu62_confirm(little.image, sizeof little.image, little.send, sizeof little.send,
-                 little.unit, sizeof little.unit, &little.answer);
-    UNIT("then confirm", &little, 0x00, 0x02, 0x01, 0x20, 0x00, 0x37, 0x38);
-    expect_number("state after confirm", lu62_state(little.image), LU62_CONFIRM_AWAITED);
+    UNIT(&little, 0x00, 0x01, 0x02, 0x91, 0x80, 0x00, 0x0A, 0x31, 0x32, 0x33, 0x34, 0x35, 0x36);
+    row("then confirm");
+    (void)lu62_end_confirm(&little.end);
+    UNIT(&little, 0x00, 0x02, 0x01, 0x20, 0x00, 0x37, 0x38);
+    expect_state(&little, LU62_CONFIRM_AWAITED);
+}
+
+/* A bidder that has taken a unit with the pacing bit, so that the next has byte 1 as in the table. */
+static void open_receiver(struct host *host)
+{
+    open_host(host, LU62_BIDDER, 3, 64);
+    TAKE(host, 0x00, 0x01, 0x03, 0x91, 0x80, 0x00, 0x02);
+    expect_refusal(host, LU62_ACCEPTED);
 }
 
 static void headers(void)
 {
-    begin("header 03 90 20");
-    struct end end = opened(LU62_BIDDER, 3, 64);
-    /* The first unit carries the pacing bit, so that the second has byte 1 as in the table. */
-    TAKE(&end, 0x00, 0x01, 0x03, 0x91, 0x80, 0x00, 0x02);
-    expect_number("the unit before", end.answer.refusal, LU62_ACCEPTED);
-    struct end other = end;
-    TAKE(&end, 0x00, 0x02, 0x03, 0x90, 0x20);
-    expect_number("header 03 90 20", end.answer.refusal, LU62_ACCEPTED);
+    struct host host;
+    uint8_t image[LU62_IMAGE], inbox[sizeof host.inbox];
+    row("header 03 90 20");
+    open_receiver(&host);
+    TAKE(&host, 0x00, 0x02, 0x03, 0x90, 0x20);
+    expect_refusal(&host, LU62_ACCEPTED);
 
-    begin("header 03 90 21");
-    struct end before = other;
-    TAKE(&other, 0x00, 0x02, 0x03, 0x90, 0x21);
-    expect_number("header 03 90 21", other.answer.refusal, LU62_BAD_HEADER);
-    expect_number("header 03 90 21, sense", other.answer.sense, 0);
-    expect_number("header 03 90 21, rule", other.answer.rule, 5);
-    expect_bytes("header 03 90 21, image", other.image, sizeof other.image, before.image, sizeof before.image);
-    expect_bytes("header 03 90 21, inbox", other.inbox, sizeof other.inbox, before.inbox, sizeof before.inbox);
+    row("header 03 90 21");
+    open_receiver(&host);
+    memcpy(image, host.end.image, sizeof image);
+    memcpy(inbox, host.inbox, sizeof inbox);
+    TAKE(&host, 0x00, 0x02, 0x03, 0x90, 0x21);
+    expect_refusal(&host, LU62_BAD_HEADER);
+    expect_number("sense", host.end.answer.sense, 0);
+    expect_number("rule", host.end.answer.rule, 5);
+    expect_bytes("image", host.end.image, sizeof host.end.image, image, sizeof image);
+    expect_bytes("inbox", host.inbox, sizeof host.inbox, inbox, sizeof inbox);
 }
 
 static void record_lengths(void)
 {
-    begin("LL 00 02");
-    struct end end = opened(LU62_FIRST_SPEAKER, 3, 64);
-    allocate(&end);
-    SEND(&end, 0x00, 0x02);
-    expect_number("LL 00 02 given", end.answer.refusal, LU62_ACCEPTED);
-    expect_number("LL 00 02 given, record place", end.image[GIVEN_AT], 0);
-    deallocate(&end, 0);
-    UNIT("LL 00 02 is a whole record", &end, 0x00, 0x01, 0x03, 0x91, 0x81, 0x00, 0x02);
+    struct host host, other;
+    row("LL 00 02 given");
+    open_sender(&host, 3, 64);
+    SEND(&host, 0x00, 0x02);
+    expect_refusal(&host, LU62_ACCEPTED);
+    expect_number("record place", host.end.image[GIVEN_AT], 0);
+    (void)lu62_end_deallocate(&host.end, 0);
+    UNIT(&host, 0x00, 0x01, 0x03, 0x91, 0x81, 0x00, 0x02);
 
-    begin("LL 00 01");
-    struct end other = opened(LU62_FIRST_SPEAKER, 3, 64);
-    allocate(&other);
+    row("LL 00 01 given");
+    open_sender(&other, 3, 64);
     SEND(&other, 0x00, 0x01);
-    expect_number("LL 00 01 given", other.answer.refusal, LU62_BAD_LL);
+    expect_refusal(&other, LU62_BAD_LL);
 }
 
 static void credit(void)
 {
-    begin("credit");
-    struct end end = opened(LU62_FIRST_SPEAKER, 2, 64);
-    allocate(&end);
+    struct host host;
+    row("W 2: third unit before a pacing answer");
+    open_sender(&host, 2, 64);
     for (int i = 0; i < 2; i++) {
-        SEND(&end, 0x00, 0x02);
-        flush(&end);
-        expect_number("W 2: first and second unit", end.answer.refusal, LU62_ACCEPTED);
-        expect_number("W 2: first and second unit, length", end.answer.unit, 7);
+        SEND(&host, 0x00, 0x02);
+        (void)lu62_end_flush(&host.end);
+        expect_refusal(&host, LU62_ACCEPTED);
+        expect_number("length of the first and the second unit", host.end.answer.unit, 7);
     }
-    SEND(&end, 0x00, 0x02);
-    flush(&end);
-    expect_number("W 2: third unit before a pacing answer", end.answer.refusal, LU62_NO_CREDIT);
-    TAKE(&end, 0x00, 0x00, 0x83, 0x01, 0x00);
-    expect_number("W 2: a pacing answer", end.answer.refusal, LU62_ACCEPTED);
-    flush(&end);
-    expect_number("W 2: third unit after a pacing answer", end.answer.refusal, LU62_ACCEPTED);
+    SEND(&host, 0x00, 0x02);
+    (void)lu62_end_flush(&host.end);
+    expect_refusal(&host, LU62_NO_CREDIT);
+
+    ours("the third unit after a pacing answer");
+    TAKE(&host, 0x00, 0x00, 0x83, 0x01, 0x00);
+    expect_refusal(&host, LU62_ACCEPTED);
+    (void)lu62_end_flush(&host.end);
+    expect_refusal(&host, LU62_ACCEPTED);
 }
 
-static void expect_read(const char *name, struct end *end, const uint8_t *bytes, size_t length, uint32_t complete)
+static void expect_read(struct host *host, const uint8_t *bytes, size_t length, uint32_t complete)
 {
     uint8_t buffer[4];
     memset(buffer, 0xEE, sizeof buffer);
-    lu62_receive(end->image, sizeof end->image, end->inbox, end->inbox_length, buffer, sizeof buffer, &end->answer);
-    expect_number(name, end->answer.refusal, LU62_ACCEPTED);
-    expect_bytes(name, buffer, end->answer.copied, bytes, length);
-    expect_number(name, end->answer.complete, complete);
-    expect_number(name, end->answer.mark, LU62_MARK_NONE);
+    (void)lu62_end_receive(&host->end, buffer, sizeof buffer);
+    expect_refusal(host, LU62_ACCEPTED);
+    expect_bytes("bytes read", buffer, host->end.answer.copied, bytes, length);
+    expect_number("complete", host->end.answer.complete, complete);
+    expect_number("mark", host->end.answer.mark, LU62_MARK_NONE);
     for (size_t i = length; i < sizeof buffer; i++)
         expect_number("a cell past the bytes read", buffer[i], 0xEE);
 }
 
 static void reading(void)
 {
-    begin("reading");
-    struct end end = opened(LU62_BIDDER, 3, 64);
-    TAKE(&end, 0x00, 0x01, 0x03, 0x91, 0x80, 0x00, 0x05, 0x41, 0x42, 0x43, 0x00);
-    expect_number("the unit with 00 05 41 42 43 00", end.answer.refusal, LU62_ACCEPTED);
-    expect_read("read 4", &end, (const uint8_t[]){0x00, 0x05, 0x41, 0x42}, 4, 0);
-    expect_read("read 4 again", &end, (const uint8_t[]){0x43}, 1, 1);
-    expect_read("read 4 a third time", &end, (const uint8_t[]){0x00}, 1, 0);
+    struct host host;
     uint8_t buffer[4];
-    lu62_receive(end.image, sizeof end.image, end.inbox, end.inbox_length, buffer, sizeof buffer, &end.answer);
-    expect_number("read with nothing held", end.answer.refusal, LU62_NOTHING_TO_READ);
+    row("inbox 00 05 41 42 43 00, read 4, 4, 4");
+    open_host(&host, LU62_BIDDER, 3, 64);
+    TAKE(&host, 0x00, 0x01, 0x03, 0x91, 0x80, 0x00, 0x05, 0x41, 0x42, 0x43, 0x00);
+    expect_refusal(&host, LU62_ACCEPTED);
+    expect_number("bytes in the inbox", lu62_end_inbox_held(&host.end), 6);
+    expect_read(&host, (const uint8_t[]){0x00, 0x05, 0x41, 0x42}, 4, 0);
+    expect_read(&host, (const uint8_t[]){0x43}, 1, 1);
+    expect_read(&host, (const uint8_t[]){0x00}, 1, 0);
+
+    ours("a read with nothing held");
+    (void)lu62_end_receive(&host.end, buffer, sizeof buffer);
+    expect_refusal(&host, LU62_NOTHING_TO_READ);
 }
 
 static void numbers(void)
 {
-    begin("numbers");
-    struct end end = opened(LU62_FIRST_SPEAKER, 3, 64);
-    allocate(&end);
-    end.image[OUT_NUMBER_AT] = 0xFE;
-    end.image[OUT_NUMBER_AT + 1] = 0xFF;
-    SEND(&end, 0x00, 0x02);
-    flush(&end);
-    UNIT("request 65,535", &end, 0xFF, 0xFF, 0x03, 0x91, 0x80, 0x00, 0x02);
-    SEND(&end, 0x00, 0x02);
-    flush(&end);
-    UNIT("request 0 after it", &end, 0x00, 0x00, 0x03, 0x90, 0x00, 0x00, 0x02);
+    struct host host;
+    ours("request 65,535, then request 0");
+    open_sender(&host, 3, 64);
+    host.end.image[OUT_NUMBER_AT] = 0xFE;
+    host.end.image[OUT_NUMBER_AT + 1] = 0xFF;
+    SEND(&host, 0x00, 0x02);
+    (void)lu62_end_flush(&host.end);
+    UNIT(&host, 0xFF, 0xFF, 0x03, 0x91, 0x80, 0x00, 0x02);
+    SEND(&host, 0x00, 0x02);
+    (void)lu62_end_flush(&host.end);
+    UNIT(&host, 0x00, 0x00, 0x03, 0x90, 0x00, 0x00, 0x02);
+}
+
+/* A first LL byte of 80 is kept, and no byte can follow it: what lu62.h says at send data. */
+static void a_first_byte_without_a_second(void)
+{
+    struct host host;
+    ours("a first LL byte of 80");
+    open_sender(&host, 3, 64);
+    SEND(&host, 0x80);
+    expect_refusal(&host, LU62_ACCEPTED);
+    for (unsigned second = 0; second < 256; second++) {
+        uint8_t byte = (uint8_t)second;
+        (void)lu62_end_send_data(&host.end, &byte, 1);
+        expect_refusal(&host, LU62_BAD_LL);
+    }
+    (void)lu62_end_confirm(&host.end);
+    expect_refusal(&host, LU62_UNFINISHED_RECORD);
+    (void)lu62_end_prepare_to_receive(&host.end, 0);
+    expect_refusal(&host, LU62_UNFINISHED_RECORD);
+    (void)lu62_end_deallocate(&host.end, 0);
+    expect_refusal(&host, LU62_UNFINISHED_RECORD);
 }
 
 static void refused_openings(void)
 {
-    begin("refused openings");
     static const struct {
-        uint8_t role, window;
-        uint32_t max, refusal;
+        struct lu62_session session;
+        uint32_t refusal;
         size_t inbox;
     } cases[] = {
-        {2, 3, 64, LU62_BAD_ROLE, 192},
-        {0, 64, 64, LU62_BAD_WINDOW, 4096},
-        {0, 3, 7, LU62_BAD_MAXIMUM, 192},
-        {0, 3, 64, LU62_BAD_BUFFER, 191},
-        {0, 3, 64, LU62_BAD_BUFFER, 65536},
+        {{2, 3, 3, 64, 64}, LU62_BAD_ROLE, 192},        {{0, 64, 64, 64, 64}, LU62_BAD_WINDOW, 4096},
+        {{0, 3, 3, 7, 7}, LU62_BAD_MAXIMUM, 192},       {{0, 3, 3, 64, 64}, LU62_BAD_BUFFER, 191},
+        {{0, 3, 3, 64, 64}, LU62_BAD_BUFFER, 65536},
     };
-    static const uint8_t zeros[LU62_IMAGE];
+    static const uint8_t left[LU62_IMAGE] = {LU62_FORMAT};
+    ours("refused openings");
     for (size_t i = 0; i < sizeof cases / sizeof cases[0]; i++) {
+        const struct lu62_session *s = &cases[i].session;
         uint8_t image[LU62_IMAGE];
         struct lu62_answer answer;
         memset(image, 0xEE, sizeof image);
-        uint32_t returned = lu62_open(cases[i].role, cases[i].window, cases[i].window, cases[i].max, cases[i].max,
-                                      1024, LU62_UNIT(1024), cases[i].inbox, image, sizeof image, &answer);
-        expect_number("refused opening", returned, cases[i].refusal);
-        expect_number("refused opening, answer", answer.refusal, cases[i].refusal);
-        expect_bytes("refused opening, image", image, sizeof image, zeros, sizeof zeros);
+        uint32_t returned = lu62_open(s->role, s->out_window, s->in_window, s->out_max, s->in_max, 1024, LU62_UNIT(1024),
+                                      cases[i].inbox, image, sizeof image, &answer);
+        expect_number("number returned", returned, cases[i].refusal);
+        expect_number("refusal in the answer", answer.refusal, cases[i].refusal);
+        expect_bytes("image", image, sizeof image, left, sizeof left);
     }
+}
+
+/* An image of another format, and one as older libraries left it, which had no byte for the format. */
+static void other_formats(void)
+{
+    struct host host;
+    ours("images of other formats");
+    open_host(&host, LU62_BIDDER, 3, 64);
+    for (unsigned format = 0; format < 256; format++) {
+        host.end.image[0] = (uint8_t)format;
+        (void)lu62_end_confirmed(&host.end);
+        expect_refusal(&host, format == LU62_FORMAT ? LU62_WRONG_STATE : LU62_BAD_RECORD);
+    }
+    host.end.image[0] = LU62_FORMAT;
+    (void)lu62_allocate(host.end.image + 1, LU62_IMAGE - 1, host.unit, sizeof host.unit, &host.end.answer);
+    expect_refusal(&host, LU62_BAD_BUFFER);
 }
 
 int main(void)
@@ -319,11 +372,13 @@ int main(void)
     credit();
     reading();
     numbers();
+    a_first_byte_without_a_second();
     refused_openings();
+    other_formats();
     if (failures != 0) {
         fprintf(stderr, "table: %d differences\n", failures);
         return EXIT_FAILURE;
     }
-    printf("table: %d examples as document 01 has them\n", examples);
+    printf("table: the %d cases of document 01's table, and %d of our own\n", rows, own);
     return EXIT_SUCCESS;
 }

@@ -6,9 +6,10 @@ use mathlib.Core.List.{List, [], _∷_, _++_}
 use Prim.Native.Nat.{ℕ, _+_, _<_}
 use lib.Dec.{leb}
 use lib.ListN.{length}
+use borrow.Author.Tests.{eqb-true}
 use Rattle.end.specs.declared.End.{End}
 use Rattle.image_parts.specs.Parts.{byteAt, flagGood, numberBytes, numberAt, windowBytes, windowAt, placeBytes, placeAt, placeGood, firstByte}
-use Rattle.image.specs.Image.{IMAGE, imageOf, recordIn, controlBytes, controlIn, codesGood, flagsGood, placesGood, imageGood, imageRead}
+use Rattle.image.specs.Image.{IMAGE, FORMAT, imageOf, recordIn, controlBytes, controlIn, formatGood, codesGood, flagsGood, placesGood, imageGood, imageRead}
 use Rattle.image.specs.declared.ImageRead.the-variants.{Record}
 use Rattle.image_parts.proofs.BackAndForth.{role-back, state-back, follows-back, mark-back, flag-back, number-back, place-back, role-good, state-good, follows-good, mark-good, flag-good, place-good, role-there, state-there, follows-there, mark-there, flag-there, number-there, place-there}
 use Rattle.image_parts.proofs.Listed.{listed, listed-is, each}
@@ -87,32 +88,33 @@ module _ (image : List ℕ) (bytes : (i : ℕ) → byteAt image i < 256) where
       → placeBytes (placeAt image at) ≡ byteAt image at ∷ byteAt image (at + 1) ∷ byteAt image (at + 2) ∷ []
   places at h = place-there (byteAt image at) (byteAt image (at + 1)) (byteAt image (at + 2)) (bytes (at + 1)) h
 
-  controls : codesGood image ≡ true → flagsGood image ≡ true → controlBytes (controlIn image) ≡ listed image 0 8
-  controls h f =
+  controls : formatGood image ≡ true → codesGood image ≡ true → flagsGood image ≡ true → FORMAT ∷ controlBytes (controlIn image) ≡ listed image 0 9
+  controls g h f =
       let b = byteAt image in
-      let t = each (leb (b 0) 1 ∷ leb (b 1) 4 ∷ leb (b 2) 2 ∷ leb (b 3) 5 ∷ []) h in
-      let l = each (flagGood image 4 ∷ flagGood image 5 ∷ flagGood image 6 ∷ flagGood image 7 ∷ flagGood image 10 ∷ flagGood image 22 ∷ []) f in
+      let t = each (leb (b 1) 1 ∷ leb (b 2) 4 ∷ leb (b 3) 2 ∷ leb (b 4) 5 ∷ []) h in
+      let l = each (flagGood image 5 ∷ flagGood image 6 ∷ flagGood image 7 ∷ flagGood image 8 ∷ flagGood image 11 ∷ flagGood image 23 ∷ []) f in
       rw (
-        role-there (b 0) (t 0),
-        state-there (b 1) (t 1),
-        follows-there (b 2) (t 2),
-        mark-there (b 3) (t 3),
-        flag-there (b 4) (l 0),
-        flag-there (b 5) (l 1),
-        flag-there (b 6) (l 2),
-        flag-there (b 7) (l 3),
+        eqb-true (b 0) FORMAT g,
+        role-there (b 1) (t 0),
+        state-there (b 2) (t 1),
+        follows-there (b 3) (t 2),
+        mark-there (b 4) (t 3),
+        flag-there (b 5) (l 0),
+        flag-there (b 6) (l 1),
+        flag-there (b 7) (l 2),
+        flag-there (b 8) (l 3),
       )
 
   whole : imageGood image ≡ true → imageOf (recordIn image) ≡ listed image 0 IMAGE
   unfolding imageGood imageOf recordIn
   whole h =
-      let t = each (codesGood image ∷ flagsGood image ∷ placesGood image ∷ []) h in
-      let l = each (flagGood image 4 ∷ flagGood image 5 ∷ flagGood image 6 ∷ flagGood image 7 ∷ flagGood image 10 ∷ flagGood image 22 ∷ []) (t 1) in
-      let p = each (placeGood image 17 ∷ placeGood image 31 ∷ placeGood image 34 ∷ []) (t 2) in
-      let sending = beside (beside (beside (beside (windows 8 (l 4)) (numbers 11)) (numbers 13)) (numbers 15)) (places 17 (p 0)) in
-      let sizes = beside (beside (beside (beside (windows 20 (l 5)) (numbers 23)) (numbers 25)) (numbers 27)) (numbers 29) in
-      let receiving = beside (beside sizes (places 31 (p 1))) (places 34 (p 2)) in
-      beside (beside (beside (beside (controls (t 0) (t 1)) sending) receiving) (numbers 37)) (numbers 39)
+      let t = each (formatGood image ∷ codesGood image ∷ flagsGood image ∷ placesGood image ∷ []) h in
+      let l = each (flagGood image 5 ∷ flagGood image 6 ∷ flagGood image 7 ∷ flagGood image 8 ∷ flagGood image 11 ∷ flagGood image 23 ∷ []) (t 2) in
+      let p = each (placeGood image 18 ∷ placeGood image 32 ∷ placeGood image 35 ∷ []) (t 3) in
+      let sending = beside (beside (beside (beside (windows 9 (l 4)) (numbers 12)) (numbers 14)) (numbers 16)) (places 18 (p 0)) in
+      let sizes = beside (beside (beside (beside (windows 21 (l 5)) (numbers 24)) (numbers 26)) (numbers 28)) (numbers 30) in
+      let receiving = beside (beside sizes (places 32 (p 1))) (places 35 (p 2)) in
+      beside (beside (beside (beside (controls (t 0) (t 1) (t 2)) sending) receiving) (numbers 38)) (numbers 40)
 
   pub read-is-written : (e : End) → imageRead image ≡ Record e → imageOf e ≡ image
   read-is-written e h =

@@ -43,7 +43,7 @@ module _ (image : List ℕ) (e : End) where
   unfolding recordIn
   sizes-small bytes h =
       let small : (at : ℕ) → numberAt image at < 65536 = λ at. omega (arith, bytes at, bytes (at + 1)) in
-      rw (← record-known h .2) (small 13, small 11, small 27)
+      rw (← record-known h .2) (small 14, small 12, small 28)
 
 -- an image is refused by 4 or 5
 pub refused-known : (image : List ℕ) (q : ℕ) → imageRead image ≡ Refused q → q ≤ BAD-RECORD

@@ -1,4 +1,4 @@
--- An end's record as an image of 41 bytes, with no padding; a host keeps it in memory of its own.
+-- An end's record as an image of 42 bytes, with no padding; a host keeps it in memory of its own.
 -- Assumes nothing.
 use Prim.Native.Nat.{ℕ}
 use mathlib.Core.Bool.{Bool, cond, _&&_}
@@ -19,30 +19,35 @@ use Rattle.image.specs.declared.ImageRead.the-variants.{Record, Refused}
 
 -- the length of an image
 abbrev pub IMAGE : ℕ
-IMAGE = 41
+IMAGE = 42
+
+-- an image's first byte, raised with each change of what an image holds; images without it began with the role, 0 or 1
+abbrev pub FORMAT : ℕ
+FORMAT = 2
 
 -- ---- a record written
 
--- bytes 0 to 7
+-- bytes 1 to 8
 abbrev pub controlBytes : Control → List ℕ
 controlBytes c =
     roleNumber (c .role) ∷ stateNumber (c .state) ∷ followsNumber (c .follows) ∷ markNumber (c .mark)
     ∷ flagByte (c .due) ∷ flagByte (c .bid) ∷ flagByte (c .outchain) ∷ flagByte (c .inchain) ∷ []
 
--- bytes 8 to 19
+-- bytes 9 to 20
 abbrev pub sendingBytes : Sending → List ℕ
 sendingBytes s = windowBytes (s .window) ++ numberBytes (s .max) ++ numberBytes (s .held) ++ numberBytes (s .number) ++ placeBytes (s .given)
 
--- bytes 20 to 36
+-- bytes 21 to 37
 abbrev pub receivingBytes : Receiving → List ℕ
 receivingBytes r =
     windowBytes (r .window) ++ numberBytes (r .max) ++ numberBytes (r .inbox) ++ numberBytes (r .held) ++ numberBytes (r .number)
     ++ placeBytes (r .taken) ++ placeBytes (r .read)
 
--- the bid's number is bytes 37 and 38, the number owed bytes 39 and 40
+-- the format is byte 0, the bid's number bytes 38 and 39, the number owed bytes 40 and 41
 unfoldable pub imageOf : End → List ℕ
 imageOf e =
-    controlBytes (e .control) ++ sendingBytes (e .sending) ++ receivingBytes (e .receiving) ++ numberBytes (e .bidding) ++ numberBytes (e .owed)
+    (FORMAT ∷ controlBytes (e .control)) ++ sendingBytes (e .sending) ++ receivingBytes (e .receiving) ++ numberBytes (e .bidding)
+    ++ numberBytes (e .owed)
 
 -- written only over cells that are as many as an image has
 unfoldable pub imageWritten : End → List ℕ → List ℕ
@@ -53,36 +58,36 @@ imageWritten e cells = cond (eqb (length cells) IMAGE) (imageOf e) cells
 abbrev pub controlIn : List ℕ → Control
 controlIn image =
     record {
-      role = roleOf (byteAt image 0);
-      state = stateOf (byteAt image 1);
-      follows = followsOf (byteAt image 2);
-      mark = markOf (byteAt image 3);
-      due = flagAt image 4;
-      bid = flagAt image 5;
-      outchain = flagAt image 6;
-      inchain = flagAt image 7;
+      role = roleOf (byteAt image 1);
+      state = stateOf (byteAt image 2);
+      follows = followsOf (byteAt image 3);
+      mark = markOf (byteAt image 4);
+      due = flagAt image 5;
+      bid = flagAt image 6;
+      outchain = flagAt image 7;
+      inchain = flagAt image 8;
     }
 
 abbrev pub sendingIn : List ℕ → Sending
 sendingIn image =
     record {
-      window = windowAt image 8;
-      max = numberAt image 11;
-      held = numberAt image 13;
-      number = numberAt image 15;
-      given = placeAt image 17;
+      window = windowAt image 9;
+      max = numberAt image 12;
+      held = numberAt image 14;
+      number = numberAt image 16;
+      given = placeAt image 18;
     }
 
 abbrev pub receivingIn : List ℕ → Receiving
 receivingIn image =
     record {
-      window = windowAt image 20;
-      max = numberAt image 23;
-      inbox = numberAt image 25;
-      held = numberAt image 27;
-      number = numberAt image 29;
-      taken = placeAt image 31;
-      read = placeAt image 34;
+      window = windowAt image 21;
+      max = numberAt image 24;
+      inbox = numberAt image 26;
+      held = numberAt image 28;
+      number = numberAt image 30;
+      taken = placeAt image 32;
+      read = placeAt image 35;
     }
 
 unfoldable pub recordIn : List ℕ → End
@@ -91,25 +96,28 @@ recordIn image =
       control = controlIn image;
       sending = sendingIn image;
       receiving = receivingIn image;
-      bidding = numberAt image 37;
-      owed = numberAt image 39;
+      bidding = numberAt image 38;
+      owed = numberAt image 40;
     }
 
 -- ---- is every value one that a record has?
 
+abbrev pub formatGood : List ℕ → Bool
+formatGood image = eqb (byteAt image 0) FORMAT
+
 abbrev pub codesGood : List ℕ → Bool
-codesGood image = leb (byteAt image 0) 1 && (leb (byteAt image 1) 4 && (leb (byteAt image 2) 2 && leb (byteAt image 3) 5))
+codesGood image = leb (byteAt image 1) 1 && (leb (byteAt image 2) 4 && (leb (byteAt image 3) 2 && leb (byteAt image 4) 5))
 
 abbrev pub flagsGood : List ℕ → Bool
 flagsGood image =
-    flagGood image 4
-    && (flagGood image 5 && (flagGood image 6 && (flagGood image 7 && (flagGood image 10 && flagGood image 22))))
+    flagGood image 5
+    && (flagGood image 6 && (flagGood image 7 && (flagGood image 8 && (flagGood image 11 && flagGood image 23))))
 
 abbrev pub placesGood : List ℕ → Bool
-placesGood image = placeGood image 17 && (placeGood image 31 && placeGood image 34)
+placesGood image = placeGood image 18 && (placeGood image 32 && placeGood image 35)
 
 unfoldable pub imageGood : List ℕ → Bool
-imageGood image = codesGood image && (flagsGood image && placesGood image)
+imageGood image = formatGood image && (codesGood image && (flagsGood image && placesGood image))
 
 -- ---- what an image of any length and any bytes holds
 

@@ -1,34 +1,35 @@
-// An end's record as 41 bytes, for a host that keeps the record in memory of its own. Numbers are low byte first; there is no
+// An end's record as 42 bytes, for a host that keeps the record in memory of its own. Numbers are low byte first; there is no
 // padding. The codes of role, state, what follows and mark are document 01's, in its order from 0; a flag is 0 or 1.
 //
 // | byte     | what                                                                            |
 // |----------|---------------------------------------------------------------------------------|
-// | 0        | role: 0 first speaker, 1 bidder                                                 |
-// | 1        | state: 0 Reset, 1 Send, 2 Receive, 3 Owes, 4 Waits                              |
-// | 2        | what follows a confirmation: 0 stay, 1 turn, 2 end                              |
-// | 3        | mark: 0 none, 1 turn, 2 end, 3 confirm, 4 confirm-turn, 5 confirm-end           |
-// | 4        | flag BB-due                                                                     |
-// | 5        | flag bid                                                                        |
-// | 6        | sending chain open                                                              |
-// | 7        | receiving chain open                                                            |
-// | 8        | sending: window W                                                               |
-// | 9        | window place                                                                    |
-// | 10       | flag: a pacing request is unanswered                                            |
-// | 11 to 12 | maximum RU M                                                                    |
-// | 13 to 14 | send-held                                                                       |
-// | 15 to 16 | last sequence number sent                                                       |
-// | 17 to 19 | record place of the bytes given                                                 |
-// | 20       | receiving: window W                                                             |
-// | 21       | window place                                                                    |
-// | 22       | flag: a pacing answer is owed                                                   |
-// | 23 to 24 | maximum RU M                                                                    |
-// | 25 to 26 | inbox length                                                                    |
-// | 27 to 28 | bytes held in the inbox                                                         |
-// | 29 to 30 | last sequence number taken                                                      |
-// | 31 to 33 | record place of the bytes taken                                                 |
-// | 34 to 36 | record place of the bytes read                                                  |
-// | 37 to 38 | the bid's number                                                                |
-// | 39 to 40 | the number owed a confirmation                                                  |
+// | 0        | the format, 2                                                                   |
+// | 1        | role: 0 first speaker, 1 bidder                                                 |
+// | 2        | state: 0 Reset, 1 Send, 2 Receive, 3 Owes, 4 Waits                              |
+// | 3        | what follows a confirmation: 0 stay, 1 turn, 2 end                              |
+// | 4        | mark: 0 none, 1 turn, 2 end, 3 confirm, 4 confirm-turn, 5 confirm-end           |
+// | 5        | flag BB-due                                                                     |
+// | 6        | flag bid                                                                        |
+// | 7        | sending chain open                                                              |
+// | 8        | receiving chain open                                                            |
+// | 9        | sending: window W                                                               |
+// | 10       | window place                                                                    |
+// | 11       | flag: a pacing request is unanswered                                            |
+// | 12 to 13 | maximum RU M                                                                    |
+// | 14 to 15 | send-held                                                                       |
+// | 16 to 17 | last sequence number sent                                                       |
+// | 18 to 20 | record place of the bytes given                                                 |
+// | 21       | receiving: window W                                                             |
+// | 22       | window place                                                                    |
+// | 23       | flag: a pacing answer is owed                                                   |
+// | 24 to 25 | maximum RU M                                                                    |
+// | 26 to 27 | inbox length                                                                    |
+// | 28 to 29 | bytes held in the inbox                                                         |
+// | 30 to 31 | last sequence number taken                                                      |
+// | 32 to 34 | record place of the bytes taken                                                 |
+// | 35 to 37 | record place of the bytes read                                                  |
+// | 38 to 39 | the bid's number                                                                |
+// | 40 to 41 | the number owed a confirmation                                                  |
 //
 // A record place is a kind byte and a value of two bytes: kind 0 between records, value 0; kind 1 after the first LL byte, that
 // byte as the value, at most 255; kind 2 past LL, the number of bytes left.
@@ -37,9 +38,14 @@ pub mod theorems;
 pub mod writing;
 
 // The length of an image.
-pub const IMAGE: usize = 41;
+pub const IMAGE: usize = 42;
 
-// What an image holds: a record, or a refusal number: 4 where the length is wrong, 5 where a value is one that no record has.
+// An image's first byte, raised with each change of what an image holds, so that one kept by an older library is refused and not
+// misread. Images without it began with the role, 0 or 1.
+pub const FORMAT: u8 = 2;
+
+// What an image holds: a record, or a refusal number: 4 where the length is wrong, 5 where the format is another or a value is one
+// that no record has.
 pub enum ImageRead {
     Record(end::End),
     Refused(u8),

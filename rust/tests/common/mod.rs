@@ -1,6 +1,8 @@
 //! A generator of numbers with a fixed seed, so that every run is the same, and the fields of an image.
 #![allow(dead_code)]
 
+pub mod pages;
+
 /// The generator SplitMix64: small, good enough for tests, and no dependency.
 pub struct Random(pub u64);
 
@@ -46,28 +48,29 @@ impl Random {
 
 /// The bytes of an image by name, as the table of the image's layout has them.
 pub mod at {
-    pub const ROLE: usize = 0;
-    pub const STATE: usize = 1;
-    pub const FOLLOW: usize = 2;
-    pub const MARK: usize = 3;
-    pub const DUE: usize = 4;
-    pub const BID: usize = 5;
-    pub const OUT_CHAIN: usize = 6;
-    pub const IN_CHAIN: usize = 7;
-    pub const OUT_WINDOW: usize = 8;
-    pub const OUT_MAX: usize = 11;
-    pub const OUT_HELD: usize = 13;
-    pub const OUT_NUMBER: usize = 15;
-    pub const GIVEN: usize = 17;
-    pub const IN_WINDOW: usize = 20;
-    pub const IN_MAX: usize = 23;
-    pub const INBOX: usize = 25;
-    pub const IN_HELD: usize = 27;
-    pub const IN_NUMBER: usize = 29;
-    pub const TAKEN: usize = 31;
-    pub const READ: usize = 34;
-    pub const BID_NUMBER: usize = 37;
-    pub const OWED_NUMBER: usize = 39;
+    pub const FORMAT: usize = 0;
+    pub const ROLE: usize = 1;
+    pub const STATE: usize = 2;
+    pub const FOLLOW: usize = 3;
+    pub const MARK: usize = 4;
+    pub const DUE: usize = 5;
+    pub const BID: usize = 6;
+    pub const OUT_CHAIN: usize = 7;
+    pub const IN_CHAIN: usize = 8;
+    pub const OUT_WINDOW: usize = 9;
+    pub const OUT_MAX: usize = 12;
+    pub const OUT_HELD: usize = 14;
+    pub const OUT_NUMBER: usize = 16;
+    pub const GIVEN: usize = 18;
+    pub const IN_WINDOW: usize = 21;
+    pub const IN_MAX: usize = 24;
+    pub const INBOX: usize = 26;
+    pub const IN_HELD: usize = 28;
+    pub const IN_NUMBER: usize = 30;
+    pub const TAKEN: usize = 32;
+    pub const READ: usize = 35;
+    pub const BID_NUMBER: usize = 38;
+    pub const OWED_NUMBER: usize = 40;
 }
 
 pub fn word(image: &[u8], at: usize) -> usize {

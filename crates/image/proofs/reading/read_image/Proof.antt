@@ -1,4 +1,4 @@
--- `image::reading::read_image` meets its contract: the length is asked first, then the values, then each record place.
+-- `image::reading::read_image` meets its contract: the length is asked first, then format and values, then each record place.
 -- Assumes nothing.
 use denote.Ref.{now}
 use mathlib.Core.Path.{sym, ap, _∙_}
@@ -14,23 +14,32 @@ returns : tie.Need-returns
 unfolding imageRead
 returns c = rw (ne-eqb _ _ (c .if1 .taken))
 
+format-good-requires : tie.Need-format-good-requires
+format-good-requires c κs = search needs
+
+codes-good-requires : tie.Need-codes-good-requires
+codes-good-requires c κs = search needs
+
+flags-good-requires : tie.Need-flags-good-requires
+flags-good-requires c κs = search needs
+
 returns-2 : tie.Need-returns-2
-returns-2 c = bad-values (now (c .before .before .before .before .before .args .image)) (c .before .before .before .if1 .left) (rw (← c .before .before .codes-good .ensures, ← c .before .flags-good .ensures) (c .if2 .left))
+returns-2 c = bad-values (now (c .before .before .before .before .before .before .args .image)) (c .before .before .before .before .if1 .left) (rw (← c .before .before .before .format-good .ensures, ← c .before .before .codes-good .ensures, ← c .before .flags-good .ensures) (c .if2 .left))
 
 returns-3 : tie.Need-returns-3
-returns-3 c = bad-place (now (c .before .before .before .before .before .before .before .args .image)) (c .before .before .before .before .before .if1 .left) 0 (sym (c .before .place-good-at .ensures) ∙ c .if3 .left)
+returns-3 c = bad-place (now (c .before .before .before .before .before .before .before .before .args .image)) (c .before .before .before .before .before .before .if1 .left) 0 (sym (c .before .place-good-at .ensures) ∙ c .if3 .left)
 
 returns-4 : tie.Need-returns-4
-returns-4 c = bad-place (now (c .before .before .before .before .before .before .before .before .before .before .args .image)) (c .before .before .before .before .before .before .before .before .if1 .left) 1 (sym (c .before .place-good-at2 .ensures) ∙ c .if4 .left)
+returns-4 c = bad-place (now (c .before .before .before .before .before .before .before .before .before .before .before .args .image)) (c .before .before .before .before .before .before .before .before .before .if1 .left) 1 (sym (c .before .place-good-at2 .ensures) ∙ c .if4 .left)
 
 returns-5 : tie.Need-returns-5
-returns-5 c = bad-place (now (c .before .before .before .before .before .before .before .before .before .before .before .before .before .args .image)) (c .before .before .before .before .before .before .before .before .before .before .before .if1 .left) 2 (sym (c .before .place-good-at3 .ensures) ∙ c .if5 .left)
+returns-5 c = bad-place (now (c .before .before .before .before .before .before .before .before .before .before .before .before .before .before .args .image)) (c .before .before .before .before .before .before .before .before .before .before .before .before .if1 .left) 2 (sym (c .before .place-good-at3 .ensures) ∙ c .if5 .left)
 
 returns-6 : tie.Need-returns-6
-returns-6 c = let i = now (c .before .before .before .before .before .before .before .before .before .before .before .before .before .before .before .args .image) in
+returns-6 c = let i = now (c .before .before .before .before .before .before .before .before .before .before .before .before .before .before .before .before .args .image) in
     ap Record (c .record-in .ensures)
-    ∙ all-good i (c .before .before .before .before .before .before .before .before .before .before .before .before .before .if1 .left)
-    (rw (← c .before .before .before .before .before .before .before .before .before .before .before .before .codes-good .ensures, ← c .before .before .before .before .before .before .before .before .before .before .before .flags-good .ensures) (c .before .before .before .before .before .before .before .before .before .before .if2 .taken))
+    ∙ all-good i (c .before .before .before .before .before .before .before .before .before .before .before .before .before .before .if1 .left)
+    (rw (← c .before .before .before .before .before .before .before .before .before .before .before .before .before .format-good .ensures, ← c .before .before .before .before .before .before .before .before .before .before .before .before .codes-good .ensures, ← c .before .before .before .before .before .before .before .before .before .before .before .flags-good .ensures) (c .before .before .before .before .before .before .before .before .before .before .if2 .taken))
     (sym (c .before .before .before .before .before .before .before .before .before .place-good-at .ensures) ∙ c .before .before .before .before .before .before .before .before .if3 .taken)
     (sym (c .before .before .before .before .before .before .place-good-at2 .ensures) ∙ c .before .before .before .before .before .if4 .taken)
     (sym (c .before .before .before .place-good-at3 .ensures) ∙ c .before .before .if5 .taken)
@@ -40,8 +49,9 @@ read-image-spec =
     tie.close
     (tie.spec
     returns
-    (search needs)
-    (search needs)
+    format-good-requires
+    codes-good-requires
+    flags-good-requires
     returns-2
     (search needs)
     returns-3

@@ -6,7 +6,7 @@ use denote.Ref.{now}
 use mathlib.Core.Path.{_∙_, sym}
 use borrow.Author.Tests.{eq-eqb, ne-eqb}
 use Rattle.image_parts.specs.Parts.{numberBytes}
-use Rattle.image.specs.Image.{controlBytes, sendingBytes, receivingBytes, imageOf, imageWritten}
+use Rattle.image.specs.Image.{FORMAT, controlBytes, sendingBytes, receivingBytes, imageOf, imageWritten}
 use Rattle.image_parts.proofs.Writes.{runs, written-all}
 use borrow.Author.Needs.{needs}
 use Rattle.image.proofs.writing.write_image.Statement.{statement}
@@ -29,7 +29,7 @@ returns-2 c = let a = c .before .before .before .before .before .before .before 
       c .before .before .before .before .before .before .before .before .before .before .before .before .before .before .before .before .before .before .write-control .ensures,
     )
     (runs
-    (controlBytes (a .end .control) ∷ sendingBytes (a .end .sending) ∷ receivingBytes (a .end .receiving) ∷ numberBytes (a .end .bidding)
+    ((FORMAT ∷ controlBytes (a .end .control)) ∷ sendingBytes (a .end .sending) ∷ receivingBytes (a .end .receiving) ∷ numberBytes (a .end .bidding)
     ∷ numberBytes (a .end .owed) ∷ [])
     0 (now (a .image)) (omega arith)
     ∙ written-all (imageOf (a .end)) (now (a .image)) (sym h))

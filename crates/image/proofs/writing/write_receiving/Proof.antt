@@ -23,7 +23,7 @@ returns c = let a = c .before .before .before .before .before .before .before .b
     (runs
     (windowBytes (a .r .window) ∷ numberBytes (a .r .max) ∷ numberBytes (a .r .inbox) ∷ numberBytes (a .r .held) ∷ numberBytes (a .r .number)
     ∷ placeBytes (a .r .taken) ∷ placeBytes (a .r .read) ∷ [])
-    20 (now (a .image)) (omega arith))
+    21 (now (a .image)) (omega arith))
 
 pub write-receiving-spec : {M : Type 1} → statement M
 write-receiving-spec =

@@ -20,7 +20,7 @@ returns c = let a = c .before .before .before .before .before .before .before .b
     )
     (runs
     (windowBytes (a .s .window) ∷ numberBytes (a .s .max) ∷ numberBytes (a .s .held) ∷ numberBytes (a .s .number) ∷ placeBytes (a .s .given) ∷ [])
-    8 (now (a .image)) (omega arith))
+    9 (now (a .image)) (omega arith))
 
 pub write-sending-spec : {M : Type 1} → statement M
 write-sending-spec =

@@ -1,0 +1,124 @@
+//! Why a call was refused.
+use std::error::Error;
+use std::fmt;
+
+macro_rules! reasons {
+    ($($(#[$doc:meta])* $name:ident = $number:literal, $text:literal;)*) => {
+        /// Why a call was refused: by number the refusals of lu62.h, with the same words.
+        #[derive(Clone, Copy, Debug, PartialEq, Eq, Hash, PartialOrd, Ord)]
+        #[repr(u32)]
+        pub enum Reason {
+            $($(#[$doc])* $name = $number,)*
+        }
+
+        impl Reason {
+            /// All reasons, in the order of their numbers.
+            pub const ALL: &'static [Reason] = &[$(Reason::$name,)*];
+
+            /// The reason with this number.
+            pub fn from_number(number: u32) -> Option<Reason> {
+                match number {
+                    $($number => Some(Reason::$name),)*
+                    _ => None,
+                }
+            }
+
+            /// The reason in a few words.
+            pub fn text(self) -> &'static str {
+                match self {
+                    $(Reason::$name => $text,)*
+                }
+            }
+        }
+    };
+}
+
+reasons! {
+    /// The role is neither of the two.
+    BadRole = 1, "the role is neither first speaker nor bidder";
+    /// A window is out of range.
+    BadWindow = 2, "a window is out of range";
+    /// A maximum RU is out of range.
+    BadMaximum = 3, "a maximum RU is out of range";
+    /// Image, send, unit or inbox has a wrong length.
+    BadBuffer = 4, "a buffer has a wrong length";
+    /// The image has another format, or holds no record that calls can leave.
+    BadRecord = 5, "the end's record is not one that calls can leave";
+    /// No bytes or more than M given; an empty buffer to read into.
+    BadLength = 6, "no bytes, or too many";
+    /// The state, or a bid under way, does not allow the call.
+    WrongState = 7, "the state does not allow the call";
+    /// A logical record's length is under 2 or over 32,767.
+    BadLl = 8, "a logical record's length is out of range";
+    /// The last record given is not whole.
+    UnfinishedRecord = 9, "the last record given is not whole";
+    /// A request must go and the partner has not made room for it.
+    NoCredit = 10, "no credit for a request";
+    /// No pacing response is owed, or the inbox has no room for a window yet.
+    NothingToPace = 11, "no pacing response is due";
+    /// No byte is held and no mark stands.
+    NothingToRead = 12, "nothing to read";
+    /// A mark stands: read up to it before the next unit is taken.
+    UnreadMark = 13, "a mark has not been read";
+    /// Under 5 bytes.
+    ShortUnit = 20, "the unit is too short";
+    /// The header breaks rule H1 to H6; [`Refusal::rule`] names one that it breaks.
+    BadHeader = 21, "the header breaks a rule";
+    /// The RU does not fit the header, or is too long.
+    BadRu = 22, "the RU does not fit";
+    /// Not the next sequence number.
+    BadNumber = 23, "the sequence number is not the next";
+    /// First in chain where a chain is open, or the reverse.
+    BadChain = 24, "the unit does not fit the chain";
+    /// Begin bracket where none may begin, or missing where one must; a bid to a bidder.
+    BadBracket = 25, "the unit does not fit the bracket";
+    /// Data where this end does not receive.
+    BadState = 26, "data came where this end does not receive";
+    /// More requests than the window allows, a wrong pacing bit, a pacing response unasked.
+    BadPacing = 27, "the unit does not fit the pacing window";
+    /// A response to nothing that this end has asked.
+    BadResponse = 28, "a response to nothing asked";
+    /// A bad LL, or a record not whole where data says that it ends.
+    BadRecords = 29, "a bad record length, or a record not whole at its end";
+}
+
+impl Reason {
+    /// The refusal's number.
+    pub fn number(self) -> u32 {
+        self as u32
+    }
+
+    /// Whether the partner broke the protocol.
+    pub fn is_breach(self) -> bool {
+        self >= Reason::ShortUnit
+    }
+}
+
+impl fmt::Display for Reason {
+    fn fmt(&self, f: &mut fmt::Formatter<'_>) -> fmt::Result {
+        f.write_str(self.text())
+    }
+}
+
+/// A refused call: it changed nothing.
+#[derive(Clone, Copy, Debug, PartialEq, Eq)]
+pub struct Refusal {
+    /// Why.
+    pub reason: Reason,
+    /// Sense data, 0 where the refusal has none.
+    pub sense: u32,
+    /// The header rule broken, 1 to 6, with [`Reason::BadHeader`]; else 0.
+    pub rule: u32,
+}
+
+impl fmt::Display for Refusal {
+    fn fmt(&self, f: &mut fmt::Formatter<'_>) -> fmt::Result {
+        write!(f, "refusal {} ({}), sense {:08X}", self.reason.number(), self.reason, self.sense)?;
+        if self.rule != 0 {
+            write!(f, ", rule H{}", self.rule)?;
+        }
+        Ok(())
+    }
+}
+
+impl Error for Refusal {}
