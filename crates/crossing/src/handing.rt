@@ -31,7 +31,8 @@ fn hold(expected: &[u8], met: Met, text: &[u8]) -> Met {
     }
 }
 
-fn hand_out(expected: &[u8], met: Met, text: &[u8]) -> Met {
+// A whole text.
+pub fn hand_out(expected: &[u8], met: Met, text: &[u8]) -> Met {
     if met.print {
         io::write_all(STDOUT_FILENO, text);
         return met;

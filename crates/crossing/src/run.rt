@@ -3,6 +3,7 @@ use crate::ends::Joined;
 use crate::ends::join;
 use crate::handing::Met;
 use crate::handing::hand_front;
+use crate::handing::hand_out;
 use crate::line::line_at;
 use crate::openings::open_first;
 use crate::openings::open_second;
@@ -15,13 +16,34 @@ use script::FirstLine;
 use script::Sizes;
 use script::line::first_line;
 use script::text::line_end;
+use script::text::passed_over;
+use script::text::text_length;
 use unit_lines::Line;
+
+// A script has at most 1 MiB; a program that reads one has room for a byte more, so that it sees a longer one.
+pub const SCRIPT_MOST: usize = 1048576;
 
 // Both ends within a script, and where the next line begins, with its number.
 struct Ran {
     joined: Joined,
     at: usize,
     number: usize,
+}
+
+// The call that a line asks for, or none if it is passed over.
+fn run_text(
+    expected: &[u8],
+    joined: Joined,
+    line: &[u8],
+    number: usize,
+    line1: &mut [u8],
+    line2: &mut [u8],
+) -> Joined {
+    let text = &line[0..text_length(line)];
+    if passed_over(text) {
+        return joined;
+    }
+    line_at(expected, joined, text, number, line1, line2)
 }
 
 // One line.
@@ -39,7 +61,7 @@ fn run_line(
         return before;
     }
     let ends = before.joined;
-    let joined = line_at(expected, ends, &script[at..end], number, line1, line2);
+    let joined = run_text(expected, ends, &script[at..end], number, line1, line2);
     Ran {
         joined,
         at: std::num::wrapping_add_usize(end, 1),
@@ -112,12 +134,12 @@ fn hand_both(expected: &[u8], joined: Joined) -> Met {
     hand_last(expected, first, true, two, to_two)
 }
 
-// The lines after the first; then how the ends stand.
-fn run_accepted(expected: &[u8], joined: Joined, script: &[u8], from: usize) -> Met {
+// The lines after the one that opens the ends; then how the ends stand.
+fn run_accepted(expected: &[u8], joined: Joined, script: &[u8], from: usize, number: usize) -> Met {
     let begun = Ran {
         joined,
         at: from,
-        number: 2,
+        number,
     };
     let left = run_opened(expected, begun, script);
     hand_both(expected, left)
@@ -139,8 +161,15 @@ fn hand_opening(expected: &[u8], met: Met, second: bool, done: Done) -> Met {
     hand_open(expected, met, second, answer.refusal)
 }
 
-// The first line is good: both ends are opened, and the script goes on if both are accepted.
-fn run_sizes(expected: &[u8], before: Met, sizes: Sizes, script: &[u8], from: usize) -> Met {
+// The line that opens the ends is good: they are opened, and the script goes on if both are accepted.
+fn run_sizes(
+    expected: &[u8],
+    before: Met,
+    sizes: Sizes,
+    script: &[u8],
+    from: usize,
+    number: usize,
+) -> Met {
     let one = open_first(sizes);
     let two = open_second(sizes);
     let first = hand_opening(expected, before, false, one);
@@ -148,28 +177,89 @@ fn run_sizes(expected: &[u8], before: Met, sizes: Sizes, script: &[u8], from: us
     if accepted(one) & accepted(two) {
         let near = one.end;
         let away = two.end;
-        return run_accepted(expected, join(near, away, opened), script, from);
+        return run_accepted(expected, join(near, away, opened), script, from, number);
     }
     opened
 }
 
-// An empty script has a bad first line.
+// Where a line begins, with its number.
+struct Place {
+    at: usize,
+    number: usize,
+}
+
+// Whether the line that begins there is there and passed over.
+fn passes(script: &[u8], at: usize) -> bool {
+    let end = line_end(script, at);
+    if end < at {
+        return false;
+    }
+    let line = &script[at..end];
+    passed_over(&line[0..text_length(line)]) & (at < script.len())
+}
+
+// The first line that is not passed over, or the end of the script. A line has at least its end.
+fn first_place(script: &[u8]) -> Place {
+    let mut place = Place { at: 0, number: 1 };
+    let mut turns = script.len();
+    while 0 < turns {
+        if passes(script, place.at) {
+            place = Place {
+                at: std::num::wrapping_add_usize(line_end(script, place.at), 1),
+                number: std::num::wrapping_add_usize(place.number, 1),
+            };
+            turns = turns - 1;
+        } else {
+            turns = 0;
+        }
+    }
+    place
+}
+
+fn hand_bad_first(expected: &[u8], met: Met, number: usize) -> Met {
+    let mut out = [0u8; 64];
+    let n = bad_line(number, &mut out);
+    hand_front(expected, met, &out, n)
+}
+
+// The line that opens the ends, and those after it.
+fn run_from(expected: &[u8], start: Met, script: &[u8], place: Place) -> Met {
+    let at = place.at;
+    let number = place.number;
+    let end = line_end(script, at);
+    if end < at {
+        return hand_bad_first(expected, start, 1);
+    }
+    let line = &script[at..end];
+    let first = first_line(&line[0..text_length(line)]);
+    match first {
+        FirstLine::Ends(sizes) => run_sizes(
+            expected,
+            start,
+            sizes,
+            script,
+            std::num::wrapping_add_usize(end, 1),
+            std::num::wrapping_add_usize(number, 1),
+        ),
+        FirstLine::Bad => hand_bad_first(expected, start, number),
+    }
+}
+
+// Of a script that is too long no line is read; one in which every line is passed over has a bad first line.
 fn run(print: bool, expected: &[u8], script: &[u8]) -> Met {
     let start = Met {
         print,
         at: 0,
         same: true,
     };
-    let end = line_end(script, 0);
-    let first = first_line(&script[0..end]);
-    match first {
-        FirstLine::Ends(sizes) => run_sizes(expected, start, sizes, script, end + 1),
-        FirstLine::Bad => {
-            let mut out = [0u8; 64];
-            let n = bad_line(1, &mut out);
-            hand_front(expected, start, &out, n)
-        }
+    if SCRIPT_MOST < script.len() {
+        return hand_out(expected, start, b"input too long\n");
     }
+    let place = first_place(script);
+    if script.len() <= place.at {
+        return hand_bad_first(expected, start, 1);
+    }
+    run_from(expected, start, script, place)
 }
 
 // Prints the answers of a script.

@@ -3,14 +3,14 @@
 use crossing::run::print_answers;
 use libc::STDIN_FILENO;
 
-// As much of the input as there is room for.
+// All of the input, or a byte more than a script may have.
 fn run_input(input: &mut [u8]) {
     let n = io::read_full(STDIN_FILENO, input);
     print_answers(&input[..n]);
 }
 
-// At most 1 MiB of input is read.
+// A byte more than the longest script.
 fn main() {
-    let mut input = [0u8; 1048576];
+    let mut input = [0u8; 1048577];
     run_input(&mut input);
 }

@@ -9,15 +9,15 @@ fn print_name(name: &[u8]) {
     io::write_all(STDOUT_FILENO, b"\n");
 }
 
-// As much of the script as there is room for.
+// All of the script, or a byte more than it may have.
 fn run_file(fd: i32, input: &mut [u8]) {
     let n = io::read_full(fd, input);
     print_answers(&input[..n]);
 }
 
-// At most 1 MiB of it is read.
+// A byte more than the longest script.
 fn run_room(fd: i32) {
-    let mut input = [0u8; 1048576];
+    let mut input = [0u8; 1048577];
     run_file(fd, &mut input);
 }
 

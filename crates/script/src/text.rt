@@ -2,7 +2,7 @@
 ghost use Prim.Native.Nat.{_+_, _≤_};
 ghost use mathlib.Core.Path.{_≡_};
 ghost use lib.ListN.{length};
-ghost use Rattle.script.specs.LineEnds.{lineEnd};
+ghost use Rattle.script.specs.LineEnds.{lineEnd, textLength, passedOver};
 
 // Where the line ends that begins at `from`: at the next byte 0A, or at the end of the text.
 pub fn line_end(text: &[u8], from: usize) -> usize
@@ -13,4 +13,28 @@ pub fn line_end(text: &[u8], from: usize) -> usize
         return n;
     }
     bytes::scan::find(text, from, n, b'\n')
+}
+
+// How much of a line is its text: all but one byte 0D at its end.
+pub fn text_length(line: &[u8]) -> usize
+    ensures { λ r. ⌜ (r ≡ textLength (now (line .entry))) × (r ≤ length (now (line .entry))) ⌝ }
+{
+    let n = line.len();
+    if n == 0 {
+        return 0;
+    }
+    if line[n - 1] == b'\r' {
+        return n - 1;
+    }
+    n
+}
+
+// Whether a line with this text asks for nothing: it is empty, or a comment.
+pub fn passed_over(text: &[u8]) -> bool
+    ensures { λ r. ⌜ r ≡ passedOver (now (text .entry)) ⌝ }
+{
+    if text.len() == 0 {
+        return true;
+    }
+    text[0] == b'#'
 }

@@ -8,7 +8,7 @@ use Rattle.crossings.proofs.main.Statement.{statement}
 use Rattle.crossings.proofs.main.Tie as tie
 
 slice-aggregate-run-input : tie.Need-slice-aggregate-run-input
-slice-aggregate-run-input c = sym {0} (length-replicate {0} {A = ℕ} 1048576 0)
+slice-aggregate-run-input c = sym {0} (length-replicate {0} {A = ℕ} 1048577 0)
 
 pub main-spec : {M : Type 1} → statement M
 main-spec = tie.close (tie.spec slice-aggregate-run-input (search needs) (search needs))

@@ -8,7 +8,7 @@ use Rattle.crossings_scripts.proofs.run_room.Statement.{statement}
 use Rattle.crossings_scripts.proofs.run_room.Tie as tie
 
 slice-aggregate-run-file : tie.Need-slice-aggregate-run-file
-slice-aggregate-run-file c = sym {0} (length-replicate {0} {A = ℕ} 1048576 0)
+slice-aggregate-run-file c = sym {0} (length-replicate {0} {A = ℕ} 1048577 0)
 
 run-file-requires : tie.Need-run-file-requires
 run-file-requires c κs = search needs

@@ -1,0 +1,18 @@
+-- `passed_over` answers as the definition says: where the text is empty, and by its first byte.
+-- Assumes nothing.
+use borrow.Author.Needs.{needs}
+use borrow.Author.Tests.{eq-eqb, ne-eqb}
+use Rattle.script.proofs.text.passed_over.Statement.{statement}
+use Rattle.script.proofs.text.passed_over.Tie as tie
+
+returns : tie.Need-returns
+returns c = rw (eq-eqb _ _ (c .if1 .taken))
+
+shared-slice-read-result : tie.Need-shared-slice-read-result
+shared-slice-read-result c = search needs
+
+returns-2 : tie.Need-returns-2
+returns-2 c = rw (ne-eqb _ _ (c .before .if1 .left))
+
+pub passed-over-spec : {M : Type 1} → statement M
+passed-over-spec = tie.close (tie.spec returns shared-slice-read-result returns-2)

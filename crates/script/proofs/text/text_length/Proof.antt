@@ -1,0 +1,39 @@
+-- `text_length` answers as the definition says: by the line's last byte, where it has one.
+-- Assumes nothing.
+use mathlib.Core.Path.{_≡_, refl}
+use mathlib.Core.List.{List, [], _∷_}
+use Prim.Native.Nat.{ℕ}
+use native.Mathlib.Omega.{arith}
+use lib.ListN.{length}
+use denote.Ref.{now}
+use borrow.Author.Needs.{needs}
+use borrow.Author.Tests.{eq-eqb, ne-eqb}
+use Rattle.script.specs.LineEnds.{textLength}
+use Rattle.script.proofs.text.text_length.Statement.{statement}
+use Rattle.script.proofs.text.text_length.Tie as tie
+
+of-no-byte : (line : List ℕ) → length line ≡ 0 → 0 ≡ textLength line
+of-no-byte [] h = refl
+of-no-byte (x ∷ line) h = absurd (omega (arith, h))
+
+returns : tie.Need-returns
+returns c = (of-no-byte (now (c .before .args .line)) (c .if1 .taken), omega arith)
+
+sub-if2 : tie.Need-sub-if2
+sub-if2 c = search needs
+
+shared-slice-read-if2 : tie.Need-shared-slice-read-if2
+shared-slice-read-if2 c = search needs
+
+sub-result : tie.Need-sub-result
+sub-result c = search needs
+
+returns-2 : tie.Need-returns-2
+returns-2 c = (rw (eq-eqb _ _ (c .if2 .taken)), omega arith)
+
+returns-3 : tie.Need-returns-3
+returns-3 c = (rw (ne-eqb _ _ (c .if2 .left)), omega arith)
+
+pub text-length-spec : {M : Type 1} → statement M
+text-length-spec =
+    tie.close (tie.spec returns sub-if2 shared-slice-read-if2 sub-result returns-2 returns-3)
