@@ -20,7 +20,7 @@ static uint8_t buffer[RECORD];
 static void require(uint32_t refusal)
 {
     if (refusal != LU62_ACCEPTED) {
-        fprintf(stderr, "single: refusal %u\n", (unsigned)refusal);
+        fprintf(stderr, "single: refusal %u: %s\n", (unsigned)refusal, lu62_refusal_text(refusal));
         exit(EXIT_FAILURE);
     }
 }

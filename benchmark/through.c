@@ -25,7 +25,7 @@ static uint8_t buffer[RECORD];
 static void require(uint32_t refusal)
 {
     if (refusal != LU62_ACCEPTED) {
-        fprintf(stderr, "through: refusal %u\n", (unsigned)refusal);
+        fprintf(stderr, "through: refusal %u: %s\n", (unsigned)refusal, lu62_refusal_text(refusal));
         exit(EXIT_FAILURE);
     }
 }

@@ -43,6 +43,8 @@ struct record_case {
 static char long_columns[LONG + 64];
 static char long_revised[66];
 
+#define PART "only part of a unit has come, and nothing got on for 400 ms"
+#define LABORATORY_SAYS(what) "laboratory: conversation with the blender ended: time limit: " what "\n"
 #define SAYS(what) "blender: conversation with the laboratory ended: " what "\n"
 
 static const struct record_case cases[] = {
@@ -103,9 +105,9 @@ static const struct record_case cases[] = {
     {"silence", false, {{'H', GOOD_COLUMNS, 0}, {'R', GOOD_ROW, 0}}, STOP_SILENT, HEADINGS GOOD_LINE,
      SAYS("time limit: nothing got on for 400 ms, in state Receive")},
     {"half a length", false, {{'H', GOOD_COLUMNS, 0}, {'R', GOOD_ROW, 0}}, STOP_HALF_LENGTH, HEADINGS GOOD_LINE,
-     SAYS("time limit: only part of a unit has come, and nothing got on for 400 ms")},
+     SAYS("time limit: " PART)},
     {"half a unit", false, {{'H', GOOD_COLUMNS, 0}, {'R', GOOD_ROW, 0}}, STOP_HALF_UNIT, HEADINGS GOOD_LINE,
-     SAYS("time limit: only part of a unit has come, and nothing got on for 400 ms")},
+     SAYS("time limit: " PART)},
 };
 
 static int failures;
@@ -221,8 +223,8 @@ static void run_case(const struct record_case *the)
     expect(strcmp(child.err, the->err) == 0, the->name, "another message", &child);
 }
 
-/* The laboratory's first unit is never answered; with `half`, half a unit comes. */
-static void laboratory_waits(const char *name, bool half, const char *says)
+/* The laboratory with a blender that sends no more than these bytes, which are no whole unit. */
+static void laboratory_waits(const char *name, const char *bytes, size_t length, const char *says)
 {
     static struct child child;
     struct options options = {.limit_ms = LIMIT_MS, .pause_ms = DEFAULT_PAUSE_MS};
@@ -231,11 +233,11 @@ static void laboratory_waits(const char *name, bool half, const char *says)
         cannot("socketpair");
     child_start(&child, laboratory, sockets[0], &sockets[1], 1, &options);
     (void)close(sockets[0]);
-    if (half && send(sockets[1], "\0\020\0\1\2", 5, MSG_NOSIGNAL) != 5)
+    if (length > 0 && send(sockets[1], bytes, length, MSG_NOSIGNAL) != (ssize_t)length)
         cannot("send");
     child_wait(&child, PATIENCE_MS);
     (void)close(sockets[1]);
-    expect(child.status == EXIT_FAILURE && child.out[0] == '\0', name, "the exit status is not 1", &child);
+    expect(child.status == EXIT_FAILURE && child.out[0] == '\0', name, "the exit status is not 1, or something was printed", &child);
     expect(strcmp(child.err, says) == 0, name, "another message", &child);
 }
 
@@ -246,15 +248,13 @@ int main(void)
     (void)snprintf(long_revised, sizeof long_revised, "%-60s0.491", "FU-3803 sulphur");
     for (size_t i = 0; i < count; i++)
         run_case(&cases[i]);
-    laboratory_waits("a silent blender", false,
-                     "laboratory: conversation with the blender ended: time limit: nothing got on for 400 ms, in state ConfirmAwaited\n");
-    laboratory_waits("a blender that sends half a unit", true,
-                     "laboratory: conversation with the blender ended: time limit: only part of a unit has come, and nothing got "
-                     "on for 400 ms\n");
+    laboratory_waits("a silent blender", "", 0, LABORATORY_SAYS("nothing got on for 400 ms, in state ConfirmAwaited"));
+    laboratory_waits("a blender that sends half a length", "\0", 1, LABORATORY_SAYS(PART));
+    laboratory_waits("a blender that sends half a unit", "\0\020\0\1\2", 5, LABORATORY_SAYS(PART));
     if (failures != 0) {
         fprintf(stderr, "records: %d differences\n", failures);
         return EXIT_FAILURE;
     }
-    printf("records: %zu odd partners; the program printed what was sent or nothing, and said why it stopped\n", count + 2);
+    printf("records: %zu odd partners; the program printed what was sent or nothing, and said why it stopped\n", count + 3);
     return EXIT_SUCCESS;
 }
