@@ -152,7 +152,7 @@ static void run(const struct line_fault *fault, struct child *lab, struct child 
 {
     static struct line lines[2];
     static struct way ways[2];
-    struct options options = {.limit_ms = LIMIT_MS, .pause_ms = 10};
+    struct options options = {.limit_ms = fault->kind == NO_FAULT ? SLACK_MS : LIMIT_MS, .pause_ms = 10};
     int one[2], two[2];
     memset(ways, 0, sizeof ways);
     if (socketpair(AF_UNIX, SOCK_STREAM, 0, one) < 0 || socketpair(AF_UNIX, SOCK_STREAM, 0, two) < 0)

@@ -11,7 +11,8 @@
 #include <sys/socket.h>
 #include <unistd.h>
 
-enum { LIMIT_MS = 400, PATIENCE_MS = 10000, MOST_RECORDS = 4, LONG = 600 };
+/* The time limit where it is to be reached, and where it is not, on a machine that does other work too. */
+enum { LIMIT_MS = 400, LONG_LIMIT_MS = 5000, PATIENCE_MS = 10000, MOST_RECORDS = 4, LONG = 600 };
 
 #define HEADINGS "campaign MARINE-05\nbatch       viscosity    sulphur\n"
 #define GOOD_COLUMNS "1 batch 0 8 viscosity 8 8 sulphur 16 8"
@@ -203,7 +204,8 @@ static void run_case(const struct record_case *the)
 {
     static struct session session;
     static struct child child;
-    struct options options = {.limit_ms = LIMIT_MS, .pause_ms = DEFAULT_PAUSE_MS};
+    bool closes = the->stop == STOP_END || the->stop == STOP_CLOSE;
+    struct options options = {.limit_ms = closes ? LONG_LIMIT_MS : LIMIT_MS, .pause_ms = DEFAULT_PAUSE_MS};
     int sockets[2];
     if (socketpair(AF_UNIX, SOCK_STREAM, 0, sockets) < 0)
         cannot("socketpair");
@@ -212,7 +214,6 @@ static void run_case(const struct record_case *the)
     if (!session_open_laboratory(&session, sockets[1], &options))
         exit(EXIT_FAILURE);
     play_laboratory(&session, the);
-    bool closes = the->stop == STOP_END || the->stop == STOP_CLOSE;
     if (closes)
         (void)close(sockets[1]);
     child_wait(&child, PATIENCE_MS);
