@@ -1,9 +1,8 @@
 -- Parts of a text, and texts compared. A text is a list of bytes.
 -- Assumes nothing.
 use Prim.Native.Nat.{ℕ, _+_}
-use mathlib.Core.Bool.{Bool, true, false, _&&_}
-use mathlib.Core.List.{List, [], _∷_}
-use lib.Dec.{eqb}
+use mathlib.Core.Bool.{Bool}
+use mathlib.Core.List.{List}
 use lib.ListN.{length, take, drop}
 use Rattle.cells.specs.Equal.{sameBytes}
 use Rattle.bytes.specs.Bytes.{indexOf}

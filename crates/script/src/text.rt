@@ -1,5 +1,5 @@
 // Lines of a text.
-ghost use Prim.Native.Nat.{_+_, _≤_};
+ghost use Prim.Native.Nat.{_≤_};
 ghost use mathlib.Core.Path.{_≡_};
 ghost use lib.ListN.{length};
 ghost use Rattle.script.specs.LineEnds.{lineEnd, textLength, passedOver};

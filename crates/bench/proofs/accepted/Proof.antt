@@ -6,4 +6,4 @@ returns : tie.Need-returns
 returns c = rw (c .enum-told .given .1)
 
 pub accepted-spec : {M : Type 1} → statement M
-accepted-spec = tie.close (tie.spec (search needs) (search needs) (search needs) returns (search needs) (search needs))
+accepted-spec = tie.close (tie.spec (λ c. search needs) (λ c. search needs) (λ c. search needs) returns (λ c. search needs) (λ c. search needs))

@@ -26,14 +26,35 @@ flags-good-requires c κs = search needs
 returns-2 : tie.Need-returns-2
 returns-2 c = bad-values (now (c .before .before .before .before .before .before .args .image)) (c .before .before .before .before .if1 .left) (rw (← c .before .before .before .format-good .ensures, ← c .before .before .codes-good .ensures, ← c .before .flags-good .ensures) (c .if2 .left))
 
+place-good-at-requires : tie.Need-place-good-at-requires
+place-good-at-requires c κs = search needs
+
 returns-3 : tie.Need-returns-3
 returns-3 c = bad-place (now (c .before .before .before .before .before .before .before .before .args .image)) (c .before .before .before .before .before .before .if1 .left) 0 (sym (c .before .place-good-at .ensures) ∙ c .if3 .left)
+
+place-at-requires : tie.Need-place-at-requires
+place-at-requires c κs = search needs
+
+place-good-at-requires-2 : tie.Need-place-good-at-requires-2
+place-good-at-requires-2 c κs = search needs
 
 returns-4 : tie.Need-returns-4
 returns-4 c = bad-place (now (c .before .before .before .before .before .before .before .before .before .before .before .args .image)) (c .before .before .before .before .before .before .before .before .before .if1 .left) 1 (sym (c .before .place-good-at2 .ensures) ∙ c .if4 .left)
 
+place-at-requires-2 : tie.Need-place-at-requires-2
+place-at-requires-2 c κs = search needs
+
+place-good-at-requires-3 : tie.Need-place-good-at-requires-3
+place-good-at-requires-3 c κs = search needs
+
 returns-5 : tie.Need-returns-5
 returns-5 c = bad-place (now (c .before .before .before .before .before .before .before .before .before .before .before .before .before .before .args .image)) (c .before .before .before .before .before .before .before .before .before .before .before .before .if1 .left) 2 (sym (c .before .place-good-at3 .ensures) ∙ c .if5 .left)
+
+place-at-requires-3 : tie.Need-place-at-requires-3
+place-at-requires-3 c κs = search needs
+
+record-in-requires : tie.Need-record-in-requires
+record-in-requires c κs = search needs
 
 returns-6 : tie.Need-returns-6
 returns-6 c = let i = now (c .before .before .before .before .before .before .before .before .before .before .before .before .before .before .before .before .args .image) in
@@ -53,14 +74,14 @@ read-image-spec =
     codes-good-requires
     flags-good-requires
     returns-2
-    (search needs)
+    place-good-at-requires
     returns-3
-    (search needs)
-    (search needs)
+    place-at-requires
+    place-good-at-requires-2
     returns-4
-    (search needs)
-    (search needs)
+    place-at-requires-2
+    place-good-at-requires-3
     returns-5
-    (search needs)
-    (λ c κs. search needs)
+    place-at-requires-3
+    record-in-requires
     returns-6)

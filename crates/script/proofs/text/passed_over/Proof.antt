@@ -8,11 +8,8 @@ use Rattle.script.proofs.text.passed_over.Tie as tie
 returns : tie.Need-returns
 returns c = rw (eq-eqb _ _ (c .if1 .taken))
 
-shared-slice-read-result : tie.Need-shared-slice-read-result
-shared-slice-read-result c = search needs
-
 returns-2 : tie.Need-returns-2
 returns-2 c = rw (ne-eqb _ _ (c .before .if1 .left))
 
 pub passed-over-spec : {M : Type 1} → statement M
-passed-over-spec = tie.close (tie.spec returns shared-slice-read-result returns-2)
+passed-over-spec = tie.close (tie.spec returns (search needs) returns-2)

@@ -19,15 +19,6 @@ of-no-byte (x ∷ line) h = absurd (omega (arith, h))
 returns : tie.Need-returns
 returns c = (of-no-byte (now (c .before .args .line)) (c .if1 .taken), omega arith)
 
-sub-if2 : tie.Need-sub-if2
-sub-if2 c = search needs
-
-shared-slice-read-if2 : tie.Need-shared-slice-read-if2
-shared-slice-read-if2 c = search needs
-
-sub-result : tie.Need-sub-result
-sub-result c = search needs
-
 returns-2 : tie.Need-returns-2
 returns-2 c = (rw (eq-eqb _ _ (c .if2 .taken)), omega arith)
 
@@ -36,4 +27,4 @@ returns-3 c = (rw (ne-eqb _ _ (c .if2 .left)), omega arith)
 
 pub text-length-spec : {M : Type 1} → statement M
 text-length-spec =
-    tie.close (tie.spec returns sub-if2 shared-slice-read-if2 sub-result returns-2 returns-3)
+    tie.close (tie.spec returns (search needs) (search needs) (search needs) returns-2 returns-3)
