@@ -20,8 +20,8 @@ use Rattle.answers.proofs.Rows.{yes}
 use Rattle.sides.specs.Shared.{nextNumber}
 use Rattle.sides.specs.Receiving.{requestTaken}
 use Rattle.end.specs.Record.{recordGood}
-use Rattle.end.specs.Outcome.{aUnit, lengthOut, Decision, refuse, Made}
-use Rattle.end.specs.Results.{madeBy, takenBy}
+use Rattle.end.specs.Outcome.{aUnit, lengthOut, Decision, refuse}
+use Rattle.end.specs.Results.{takenBy}
 use Rattle.end.specs.ReceiveUnit.{kindQuestions, headerTaken, ruTaken, takeRefusal, dataJoined, bidAnswered, creditRaised, kindTaken, takeDecision, kindJoined, inboxCells, doneNaming, receiveUnit}
 use Rattle.end.specs.Kinds.{kindRefusal}
 use Rattle.end.proofs.TakeRooms.{bid-room, bid-answer-length, inbox-is, joined-room}
@@ -133,17 +133,16 @@ take-wrote rule e taken inbox unit =
       wrote d (d .end .receiving .number) (bidAnswer (e .control)) (fixedRu (bidAnswer (e .control))) unit (makes (eqb q 0) e taken (length inbox) (length unit) refl),
     )
 
-pub take-left : (e : End) (taken inbox unit : List ℕ) (r r′ : Done) (answer : Header) (i u : List ℕ)
+-- the same, of what the code hands back and leaves
+pub take-left : (e : End) (taken inbox unit : List ℕ) (r : Done) (answer : Header) (i u : List ℕ)
     → r ≡ doneNaming (r .answer .rule) (takeDecision e taken (length inbox) (length unit))
     → answer ≡ bidAnswer (e .control)
     → i ≡ cond (eqb (r .end .receiving .held) (e .receiving .held)) inbox (written (e .receiving .held) (drop 5 taken) inbox)
-    → madeBy r′ u ≡ madeBy r (cond (eqb (r .answer .unit) 0) unit (cellsMade (r .end .receiving .number) answer (fixedRu answer) unit))
-    → takenBy r′ i u ≡ receiveUnit (r′ .answer .rule) e taken inbox unit
-take-left e taken inbox unit r r′ answer i u decided b j w =
+    → u ≡ cond (eqb (r .answer .unit) 0) unit (cellsMade (r .end .receiving .number) answer (fixedRu answer) unit)
+    → takenBy r i u ≡ receiveUnit (r .answer .rule) e taken inbox unit
+take-left e taken inbox unit r answer i u decided b j w =
     let made : Done → List ℕ = λ (x : Done). cond (eqb (x .answer .unit) 0) unit (cellsMade (x .end .receiving .number) answer (fixedRu answer) unit) in
     let held : Done → List ℕ =
     λ (x : Done). cond (eqb (x .end .receiving .held) (e .receiving .held)) inbox (written (e .receiving .held) (drop 5 taken) inbox) in
-    let cells : takenBy r′ i u ≡ takenBy r (held r) (made r) = λ k. takenBy (w k .done) (j k) (w k .unit) in
-    let said : takenBy r (held r) (made r) ≡ receiveUnit (r .answer .rule) e taken inbox unit =
-    ap (λ (x : Done). takenBy x (held x) (made x)) decided ∙ rw b (take-wrote (r .answer .rule) e taken inbox unit) in
-    cells ∙ said ∙ ap (λ (k : ℕ). receiveUnit k e taken inbox unit) (sym (ap (λ (m : Made). m .done .answer .rule) w))
+    let cells : takenBy r i u ≡ takenBy r (held r) (made r) = λ k. takenBy r (j k) (w k) in
+    cells ∙ ap (λ (x : Done). takenBy x (held x) (made x)) decided ∙ rw b (take-wrote (r .answer .rule) e taken inbox unit)

@@ -64,6 +64,7 @@ impl End {
     {
         let done = self.allocate_decision(unit.len());
         let header = Header::Bid(self.sending.window.paced());
-        write_made(done, done.end.bidding, header, unit)
+        write_made(done.answer.unit, done.end.bidding, header, unit);
+        done
     }
 }

@@ -41,6 +41,7 @@ impl End {
         ensures { λ r. ⌜ madeBy r (now (unit .exit)) ≡ confirmed self (now (unit .entry)) ⌝ }
     {
         let done = self.confirmed_decision(unit.len());
-        write_made(done, self.owed, Header::Confirmation, unit)
+        write_made(done.answer.unit, self.owed, Header::Confirmation, unit);
+        done
     }
 }

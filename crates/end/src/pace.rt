@@ -42,6 +42,7 @@ impl End {
         ensures { λ r. ⌜ madeBy r (now (unit .exit)) ≡ pace self (now (unit .entry)) ⌝ }
     {
         let done = self.pacing_response_decision(unit.len());
-        write_made(done, 0, Header::PacingResponse, unit)
+        write_made(done.answer.unit, 0, Header::PacingResponse, unit);
+        done
     }
 }

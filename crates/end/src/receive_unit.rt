@@ -67,6 +67,7 @@ impl End {
         let done = self.receive_unit_decision(taken, inbox.len(), unit.len());
         join(self.receiving.held, done.end.receiving.held, taken, inbox);
         let answer = bid_answer(self.control);
-        write_made(done, done.end.receiving.number, answer, unit)
+        write_made(done.answer.unit, done.end.receiving.number, answer, unit);
+        done
     }
 }

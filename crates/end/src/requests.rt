@@ -17,7 +17,6 @@ ghost use Rattle.unit.specs.Ru.{fixedRu};
 ghost use Rattle.unit.specs.Unit.{RU-START, cellsMade};
 ghost use Rattle.answers.specs.Answers.{accepted};
 ghost use Rattle.end.specs.Requests.{dataHeader};
-ghost use Rattle.end.specs.Results.{madeBy};
 
 // Accepted, with the length of a unit that holds no data; the end is already the new one.
 pub(crate) fn fixed_made(end: End, header: Header) -> Done
@@ -27,15 +26,14 @@ pub(crate) fn fixed_made(end: End, header: Header) -> Done
     accepted(n, end)
 }
 
-// Writes the unit that was decided on, of a kind that holds no data. Where none was, nothing is written.
-pub(crate) fn write_made(done: Done, number: u16, header: Header, unit: &mut [u8]) -> Done
-    ensures { λ r. ⌜ madeBy r (now (unit .exit)) ≡ madeBy done (cond (eqb (done .answer .unit) 0) (now (unit .entry)) (cellsMade number header (fixedRu header) (now (unit .entry)))) ⌝ }
+// Writes the unit that was decided on, of a kind that holds no data. Where its length was said to be 0 there is none.
+pub(crate) fn write_made(made: usize, number: u16, header: Header, unit: &mut [u8])
+    ensures { λ _. ⌜ now (unit .exit) ≡ cond (eqb made 0) (now (unit .entry)) (cellsMade number header (fixedRu header) (now (unit .entry))) ⌝ }
 {
-    if done.answer.unit == 0 {
-        return done;
+    if made == 0 {
+        return;
     }
     write_fixed(unit, number, header);
-    done
 }
 
 impl End {

@@ -1,10 +1,7 @@
-use mathlib.Core.Path.{sym, ap, subst, _∙_}
+use mathlib.Core.Path.{ap, _∙_}
 use lib.ListN.{length}
 use denote.Ref.{now}
-use Rattle.unit.specs.Unit.{headerIn}
 use Rattle.end.specs.declared.Done.{Done}
-use Rattle.end.specs.Outcome.{Made}
-use Rattle.end.specs.RuleNamed.{NamesBroken}
 use Rattle.end.proofs.Joins.{take-rooms, take-left}
 use borrow.Author.Needs.{needs}
 use Rattle.end.proofs.End.receive_unit.Statement.{statement}
@@ -18,14 +15,10 @@ join-requires c κs = λ x.
 
 returns : tie.Need-returns
 returns c = let a = c .before .before .before .before .before .before .before .before .before .before .before .before .before .args in
-    let r = c .before .before .before .before .before .before .before .before .before .receive-unit-decision .ensures in
-    let w = c .before .before .write-made .ensures in
-    let same = ap (λ (m : Made). m .done) w in (
-      take-left (a .self) (now (a .taken)) (now (a .inbox)) (now (a .unit)) (c .before .before .before .before .before .before .before .before .before .receive-unit-decision .result) (c .before .before .write-made .result) _ _ _
-          (r .0) (c .before .before .before .before .bid-answer .ensures) (c .before .before .before .before .before .before .before .join .ensures) w,
-      λ x.
-          subst (λ (y : Done). NamesBroken (y .answer .rule) (headerIn (now (a .taken)))) (sym same)
-          (r .1 (sym (ap (λ (y : Done). y .answer .refusal) same) ∙ x)),
+    let r = c .before .before .before .before .before .before .before .before .before .receive-unit-decision .ensures in (
+      take-left (a .self) (now (a .taken)) (now (a .inbox)) (now (a .unit)) (c .before .before .before .before .before .before .before .before .before .receive-unit-decision .result) _ _ _
+          (r .0) (c .before .before .before .before .bid-answer .ensures) (c .before .before .before .before .before .before .before .join .ensures) (c .before .before .write-made .ensures),
+      r .1,
     )
 
 pub receive-unit-spec : {M : Type 1} → statement M
