@@ -30,10 +30,10 @@ use Rattle.end.specs.Receive.{bytesRead, markRead}
 use Rattle.answers.proofs.Rows.{yes}
 use Rattle.bools.proofs.Tests.{left}
 use Rattle.calls.proofs.CallCases.{allocate-cases, bidNumber, close-cases, confirmed-cases, pace-cases, read-cases, send-cases, spilledRu, take-cases, tookKind}
-use Rattle.calls.proofs.Units.{asksFor, isPacing, pacing-taken, request-taken, requests-unit}
+use Rattle.calls.proofs.UnitsByHeader.{asksFor, isPacing, pacing-taken, request-taken, requests-unit}
 use Rattle.calls.specs.Calls.{Called, Station, Verb, called, refusalIn, taken}
 use Rattle.calls.specs.Laws.{CreditExact, isPace}
-use Rattle.calls.specs.Units.{count, isPacingResponse, isRequest, requestsAmong}
+use Rattle.calls.specs.UnitCounts.{count, isPacingResponse, isRequest, requestsAmong}
 use Rattle.end.proofs.Within.{facts}
 use Rattle.pacing.proofs.Windows.{request-costs, response-raises}
 

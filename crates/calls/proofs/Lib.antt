@@ -1,5 +1,5 @@
 pub mod CallCases
-pub mod Units
+pub mod UnitsByHeader
 pub mod ByteLists
 pub mod Refusals
 pub mod RecordStaysGood
@@ -7,4 +7,3 @@ pub mod CellsStayBytes
 pub mod Credit
 pub mod WindowSizes
 pub mod UnitSizes
-mod Laws

@@ -5,7 +5,7 @@ use mathlib.Core.Path.{_≡_, refl, sym, subst}
 use mathlib.Core.Bool.{Bool, true, false, not, cond, _&&_, _||_}
 use mathlib.Core.List.{List}
 use native.Mathlib.Omega.{arith}
-use borrow.Author.Tests.{eqb-true, eqb-false, leb-true, leb-false, le-leb, ne-eqb}
+use borrow.Author.Tests.{eq-eqb, eqb-true, eqb-false, leb-true, leb-false, le-leb, ne-eqb}
 use lib.Dec.{eqb, leb}
 use lib.ListN.{length, take}
 use Rattle.header.specs.Header.{beginsBracket}
@@ -46,7 +46,8 @@ use Rattle.bools.proofs.Tests.{both, join, left, right}
 use Rattle.calls.proofs.ByteLists.{drop-bytes, take-bytes}
 use Rattle.calls.proofs.CallCases.{allocate-cases, close-cases, confirmed-cases, pace-cases, read-cases, readCount, send-cases, take-cases, tookKind}
 use Rattle.calls.specs.Calls.{Called, Station, Verb, called, taken}
-use Rattle.calls.specs.Laws.{AllBytes, BytesOf}
+use Rattle.calls.specs.Laws.{AllBytes, BytesOf, StaysGood}
+use Rattle.calls.proofs.Refusals.{accepted-good, accepted-take-good}
 use Rattle.end.proofs.Within.{facts, good}
 use Rattle.pacing.proofs.Windows.{answered-good, fresh-open, fresh-window}
 use Rattle.logical_record.specs.Positions.{isPosition}
@@ -295,3 +296,13 @@ good-opened s n m k e =
     let q : ℕ = openingRefusal s n m k in
     chosen-good (eqb q 0) (record { answer = accepted 0; end = freshEnd (roleOf (s .role)) (s .outwindow) (s .outmax) (s .inwindow) (s .inmax) k })
     (record { answer = refused q; end = zeroEnd }) (λ y. fresh-good (roleOf (s .role)) s n m k (eqb-true q 0 y)) (λ y z. eqb-false q 0 y z) e
+
+pub stays-good : StaysGood
+stays-good =
+    record {
+      was = λ s v e. accepted-good s v (eq-eqb _ 0 e);
+      was-at-take = λ naming s u e. accepted-take-good naming s u (eq-eqb _ 0 e);
+      is = λ s v b i e. good-acts s v b i (accepted-good s v (eq-eqb _ 0 e));
+      is-after-take = λ naming s u b e. good-takes naming s u b (accepted-take-good naming s u (eq-eqb _ 0 e));
+      is-opened = λ s n m k e. good-opened s n m k e;
+    }

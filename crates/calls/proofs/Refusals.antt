@@ -5,7 +5,7 @@ use Prim.Native.Nat.{ℕ}
 use mathlib.Core.Path.{_≡_, refl, sym, ap, _∙_}
 use mathlib.Core.Bool.{Bool, true, false, not, cond, _&&_, _||_}
 use mathlib.Core.List.{List, [], _∷_}
-use borrow.Author.Tests.{eqb-true}
+use borrow.Author.Tests.{eqb-true, ne-eqb}
 use lib.Dec.{eqb}
 use lib.ListN.{length}
 use Rattle.unit.specs.Unit.{numberIn}
@@ -32,7 +32,7 @@ use Rattle.bools.proofs.Cases.{cases}
 use Rattle.bools.proofs.Tests.{join, left, never, right}
 use Rattle.calls.proofs.CallCases.{allocate-cases, close-cases, confirmed-cases, pace-cases, read-cases, send-cases, take-cases, tookKind}
 use Rattle.calls.specs.Calls.{Called, Station, Verb, called, refusalIn, taken}
-use Rattle.calls.specs.Laws.{questions, takeQuestions}
+use Rattle.calls.specs.Laws.{Refusals, questions, takeQuestions}
 
 -- an accepted call was not refused, and a refused one not accepted
 yes : {X : Type 0} → true ≡ false → X
@@ -197,3 +197,13 @@ module _ (naming : List ℕ → ℕ) (s : Station) (u : List ℕ) where
   accepted-take-good =
       take-cases (λ (t : Called). eqb (refusalIn (t .answer)) 0 ≡ true → recordGood (s .end) ≡ true) naming s u
       (λ q w n h. no (eqb q 0) n h) (λ a k h. a .good)
+
+pub refusals : Refusals
+refusals =
+    record {
+      number = λ s v. number-is s v;
+      number-of-take = λ naming s u. take-number-is naming s u;
+      changes-nothing = λ s v n. refused-nothing s v (ne-eqb _ 0 n);
+      leaves-buffer = λ s buffer n. refused-buffer s buffer (ne-eqb _ 0 n);
+      takes-nothing = λ naming s u n. refused-take-nothing naming s u (ne-eqb _ 0 n);
+    }

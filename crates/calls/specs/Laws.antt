@@ -20,7 +20,7 @@ use Rattle.end.specs.Receive.{readQuestions}
 use Rattle.end.specs.Pace.{paceQuestions}
 use Rattle.sides.specs.declared.Session.{Session}
 use Rattle.calls.specs.Calls.{Station, Verb, allocate, confirmed, pace, sendData, close, receive, refusalIn, called, taken}
-use Rattle.calls.specs.Units.{count, isRequest, requestsAmong, isPacingResponse}
+use Rattle.calls.specs.UnitCounts.{count, isRequest, requestsAmong, isPacingResponse}
 
 -- ---- refusals
 

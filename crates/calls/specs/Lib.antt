@@ -1,3 +1,3 @@
 pub mod Calls
-pub mod Units
+pub mod UnitCounts
 pub mod Laws

@@ -1,5 +1,5 @@
 mod Stories
-mod Openings
+mod InRangeAccepted
 mod Orders
 mod OtherWords
 mod Conversation

@@ -18,7 +18,7 @@ use Rattle.joined.specs.Histories.{bytesOnLine, breaches}
 use Rattle.joined.specs.Claim.{Claim, BytesConserved, CreditCounted, ReadsRight, RecordsArrive, TheRecords}
 use Rattle.claim_in_use.specs.OtherWords.{Numbers, speaker, bidder, InRange, story, each, made, request, pacingAnswer, creditLeft, Ends, OneEnd, hasRead, AtOneEnd, OneWay, Agree, Interleaves, after, TakesFind, SameEnd, InOtherWords, answer}
 use Rattle.claim_in_use.proofs.Stories.{given-is, read-is, line-is, requests-are, answers-are, no-breach-in, ends-there, says-so, none-before}
-use Rattle.claim_in_use.proofs.Openings.{openings}
+use Rattle.claim_in_use.proofs.InRangeAccepted.{openings}
 use Rattle.claim_in_use.proofs.Orders.{firsts-are, seconds-are, fed}
 use Rattle.calls.specs.Calls.{Verb}
 

@@ -20,7 +20,7 @@ use Rattle.joined.specs.Histories as H
 use Rattle.joined.specs.Histories.{Log, bytesAccepted, bytesRead, bytesOnLine, isBreach, breaches, requestsMade, pacingResponsesTaken, CompleteIsRight, NoneCrosses}
 use Rattle.claim_in_use.specs.OtherWords.{Seen, story, each, All, numberOf, gave, copied, made, takeNumber, request, pacingAnswer, dataBytes}
 use Rattle.calls.specs.Calls.{Reply, Verb}
-use Rattle.calls.specs.Units.{count, requestsAmong, isPacingResponse}
+use Rattle.calls.specs.UnitCounts.{count, requestsAmong, isPacingResponse}
 
 -- ---- lists
 

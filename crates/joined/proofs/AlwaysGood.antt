@@ -22,7 +22,7 @@ use Rattle.calls.proofs.ByteLists.{AllUnits, append-units}
 use Rattle.calls.proofs.RecordStaysGood.{good-acts, good-opened, good-takes}
 use Rattle.calls.proofs.Refusals.{never-5, take-never-5}
 use Rattle.calls.specs.Calls.{Station, Verb}
-use Rattle.calls.specs.Units.{count}
+use Rattle.calls.specs.UnitCounts.{count}
 use Rattle.joined.specs.Claim.{Pair, LentBytes, BytesIn, BytesAt, BytesOfAll, AlwaysGood}
 use Rattle.calls.proofs.CellsStayBytes.{Cells, cells-acts, cells-takes}
 

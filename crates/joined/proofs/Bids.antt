@@ -12,7 +12,7 @@ use Rattle.control.specs.Tests.{isFirstSpeaker}
 use Rattle.control.specs.declared.Role.{Role}
 use Rattle.control.specs.declared.Role.the-variants.{FirstSpeaker, Bidder}
 use Rattle.end.specs.declared.End.{End}
-use Rattle.joined.proofs.Automata.{never, Ran, ok, stuck, ok-is, went}
+use Rattle.joined.proofs.LineAutomaton.{never, Ran, ok, stuck, ok-is, went}
 use Rattle.joined.proofs.TwoLines.{other, other-other, Automaton, Led, led-moved}
 
 -- no bid, or one of this number that has no answer yet

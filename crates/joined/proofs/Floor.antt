@@ -24,7 +24,7 @@ use Rattle.control.specs.declared.State.the-variants.{Reset, Send, Receive, Con
 use Rattle.control.specs.declared.WhatReceived.{WhatReceived}
 use Rattle.control.specs.declared.WhatReceived.the-variants as mark
 use Rattle.end.specs.declared.End.{End}
-use Rattle.joined.proofs.Automata.{never, Ran, ok, stuck, ok-is, went, goes}
+use Rattle.joined.proofs.LineAutomaton.{never, Ran, ok, stuck, ok-is, went, goes}
 use Rattle.bools.proofs.Tests.{left, right}
 use Rattle.joined.proofs.TwoLines.{other, other-other, Automaton, Led}
 

@@ -28,10 +28,10 @@ use Rattle.calls.specs.Calls.{Station}
 use Rattle.end.proofs.Within.{facts}
 use Rattle.pacing.proofs.Windows.{credit-there}
 use Rattle.joined.specs.Histories.{isBreach}
-use Rattle.joined.proofs.Order.{Order, order-fits-data, order-fits-bid, order-fits-grant, order-fits-refusal, order-fits-confirmation}
-use Rattle.joined.proofs.Paces.{Paces, bitOf, paces-taken, paces-answered}
-use Rattle.joined.proofs.PacesCalls.{owedOf, unansweredOf, agrees}
-use Rattle.joined.proofs.Stream.{Outside, insideOf, booksIn, fits, Stream, Heads, stream-take}
+use Rattle.joined.proofs.FloorsAndBids.{Order, order-fits-data, order-fits-bid, order-fits-grant, order-fits-refusal, order-fits-confirmation}
+use Rattle.joined.proofs.PacingFlags.{Paces, bitOf, paces-taken, paces-answered}
+use Rattle.joined.proofs.PacingFlagsKept.{owedOf, unansweredOf, agrees}
+use Rattle.joined.proofs.RequestStream.{Outside, insideOf, booksIn, fits, Stream, Heads, stream-take}
 
 -- a row of questions that are all answered yes
 row7 : (a b c d e f g : Bool) (i j k l m n o : ℕ)

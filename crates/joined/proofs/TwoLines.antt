@@ -10,8 +10,8 @@ use Rattle.unit.proofs.Units.{unit-number}
 use Rattle.control.specs.declared.Role.{Role}
 use Rattle.control.specs.declared.Role.the-variants.{FirstSpeaker, Bidder}
 use Rattle.end.specs.ReceiveUnit.{headerTaken}
-use Rattle.calls.proofs.Units.{taken-header}
-use Rattle.joined.proofs.Automata.{Ran, ok, stuck, went, goes, Leads, leads-nowhere, leads-more, parted, leads-less, inert}
+use Rattle.calls.proofs.UnitsByHeader.{taken-header}
+use Rattle.joined.proofs.LineAutomaton.{Ran, ok, stuck, went, goes, Leads, leads-nowhere, leads-more, parted, leads-less, inert}
 
 -- the partner's role
 abbrev pub other : Role → Role

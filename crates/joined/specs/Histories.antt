@@ -11,7 +11,7 @@ use Rattle.logical_record.specs.Walk.{walk}
 use Rattle.logical_record.specs.Records.{ended}
 use Rattle.header.specs.Rules.{bytes}
 use Rattle.answers.specs.Answers.{BAD-LL}
-use Rattle.calls.specs.Units.{count, dataRu, requestsAmong, isPacingResponse}
+use Rattle.calls.specs.UnitCounts.{count, dataRu, requestsAmong, isPacingResponse}
 use Rattle.joined.specs.Joined.{Event, acted, took}
 use Rattle.joined.specs.Ends.{Lane, normal}
 use Rattle.calls.specs.Calls.{Reply, Station, Verb, allocate, close, confirmed, pace, receive, refusalIn, sendData}

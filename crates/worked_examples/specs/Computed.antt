@@ -25,7 +25,7 @@ use Rattle.end.specs.ReceiveUnit.{takeRefusal, dataJoined, bidAnswered, creditR
 use Rattle.end.specs.Receive.{readRefusal, copyCount, bytesRead, markRead, readDecision, inboxMoved, receive}
 use Rattle.end.specs.Pace.{paceRefusal, paceDecision, pace}
 use Rattle.calls.specs.Calls.{called, taken}
-use Rattle.calls.specs.Units.{requestsAmong}
+use Rattle.calls.specs.UnitCounts.{requestsAmong}
 use Rattle.joined.specs.Ends.{acts, takes}
 use Rattle.joined.specs.Histories as H
 

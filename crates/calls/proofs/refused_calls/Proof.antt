@@ -1,6 +1,6 @@
 -- `calls::refused_calls` meets its contract.
 -- Assumes nothing.
-use Rattle.calls.proofs.Laws as laws
+use Rattle.calls.proofs.Refusals as laws
 use Rattle.calls.proofs.refused_calls.Statement.{statement}
 use Rattle.calls.proofs.refused_calls.Tie as tie
 

@@ -1,6 +1,6 @@
 -- `calls::stays_good` meets its contract.
 -- Assumes nothing.
-use Rattle.calls.proofs.Laws as laws
+use Rattle.calls.proofs.RecordStaysGood as laws
 use Rattle.calls.proofs.stays_good.Statement.{statement}
 use Rattle.calls.proofs.stays_good.Tie as tie
 

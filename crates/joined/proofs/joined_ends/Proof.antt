@@ -1,6 +1,6 @@
 -- `joined::joined_ends` meets its contract: demand 3.
 -- Assumes nothing.
-use Rattle.joined.proofs.Proved.{proved}
+use Rattle.joined.proofs.ClaimProved.{proved}
 use Rattle.joined.proofs.joined_ends.Statement.{statement}
 use Rattle.joined.proofs.joined_ends.Tie as tie
 

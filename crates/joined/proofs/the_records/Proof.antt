@@ -1,6 +1,6 @@
 -- `joined::the_records` meets its contract.
 -- Assumes nothing.
-use Rattle.joined.proofs.Proved.{the-records}
+use Rattle.joined.proofs.ClaimProved.{the-records}
 use Rattle.joined.proofs.the_records.Statement.{statement}
 use Rattle.joined.proofs.the_records.Tie as tie
 

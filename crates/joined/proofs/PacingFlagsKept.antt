@@ -29,12 +29,12 @@ use Rattle.joined.specs.Ends.{Lane, normal, acts, takes}
 use Rattle.answers.proofs.Rows.{yes}
 use Rattle.bools.proofs.Tests.{left, right}
 use Rattle.calls.proofs.CallCases.{allocate-cases, bidNumber, close-cases, confirmed-cases, pace-cases, read-cases, send-cases, spilledRu}
-use Rattle.calls.proofs.Units.{isPacing}
+use Rattle.calls.proofs.UnitsByHeader.{isPacing}
 use Rattle.calls.specs.Calls.{Reply, Station, Verb}
-use Rattle.joined.proofs.Laned.{Laned, take-cases, tookKind}
+use Rattle.joined.proofs.CallsOnLanes.{Laned, take-cases, tookKind}
 use Rattle.pacing.proofs.Windows.{no-flag-at-start}
-use Rattle.joined.proofs.Paces.{Paces, bitOf, paces-out, paces-response, paces-back, paces-answer, paces-taken, paces-answered, paces-other}
-use Rattle.joined.proofs.Stream.{isResponse}
+use Rattle.joined.proofs.PacingFlags.{Paces, bitOf, paces-out, paces-response, paces-back, paces-answer, paces-taken, paces-answered, paces-other}
+use Rattle.joined.proofs.RequestStream.{isResponse}
 
 -- whether a pacing request is unanswered, and whether an answer is owed
 abbrev pub unansweredOf : Station → Bool

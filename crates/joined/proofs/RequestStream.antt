@@ -32,10 +32,10 @@ use Rattle.sides.specs.Shared.{nextNumber}
 use Rattle.logical_record.specs.Walk.{placeOr}
 use Rattle.sides.specs.Receiving.{recordsFit}
 use Rattle.end.specs.ReceiveUnit.{headerTaken, ruTaken}
-use Rattle.calls.proofs.Units.{taken-header}
+use Rattle.calls.proofs.UnitsByHeader.{taken-header}
 use Rattle.calls.specs.Calls.{Station}
 use Rattle.joined.specs.Histories.{bytesInSendBuffer}
-use Rattle.joined.proofs.Automata.{Ran, ok, stuck, stuck≢ok, ok-is, Leads, leads-nowhere, leads-more, Parted, parted}
+use Rattle.joined.proofs.LineAutomaton.{Ran, ok, stuck, stuck≢ok, ok-is, Leads, leads-nowhere, leads-more, Parted, parted}
 
 -- ---- what is kept in step
 

@@ -41,7 +41,7 @@ use Rattle.end.specs.ReceiveUnit.{headerTaken, dataJoined, bidAnswered, creditR
 use Rattle.end.specs.declared.End.{End}
 use Rattle.sides.specs.declared.Receiving.{Receiving}
 use Rattle.end.proofs.Within.{facts}
-use Rattle.joined.proofs.Automata.{never, ok, goes}
+use Rattle.joined.proofs.LineAutomaton.{never, ok, goes}
 use Rattle.bools.proofs.Cases.{on}
 use Rattle.bools.proofs.Tests.{left, right, or-left}
 use Rattle.joined.proofs.TwoLines.{other, other-other, led-nowhere, led-flip, led-as, led-past, led-took, led-goes, led-moved, led-still, led-settled}

@@ -9,9 +9,9 @@ use Rattle.unit.specs.Unit.{unitOf}
 use Rattle.header.specs.declared.Header.{Header}
 use Rattle.header.specs.declared.Header.the-variants.{Data, Bid, PositiveBidResponse, NegativeBidResponse, Confirmation, PacingResponse}
 use Rattle.end.specs.ReceiveUnit.{headerTaken}
-use Rattle.joined.proofs.Automata.{Ran, ok, stuck, stuck≢ok, ok-is, Leads, leads-nowhere, leads-more, Parted, parted, inert}
-use Rattle.calls.proofs.Units.{taken-header, isPacing}
-use Rattle.joined.proofs.Stream.{isResponse}
+use Rattle.joined.proofs.LineAutomaton.{Ran, ok, stuck, stuck≢ok, ok-is, Leads, leads-nowhere, leads-more, Parted, parted, inert}
+use Rattle.calls.proofs.UnitsByHeader.{taken-header, isPacing}
+use Rattle.joined.proofs.RequestStream.{isResponse}
 
 -- a request with the pacing bit finds no answer owed, and leaves one owed
 abbrev pub owedBit : Bool → Bool → Ran Bool

@@ -26,7 +26,7 @@ use Rattle.joined.specs.Joined.{acted, took}
 use Rattle.joined.specs.Ends.{Lane, normal, onNormal}
 use Rattle.joined.specs.Histories.{Log, given, bytesAccepted, bytesRead, bytesInInbox, requestsMade, pacingResponsesTaken, isBreach, breaches, isBadRead, badReads, CompleteIsRight, NoneCrosses}
 use Rattle.calls.specs.Calls.{Reply, Station, Verb, plain}
-use Rattle.calls.specs.Units.{count, isPacingResponse, requestsAmong}
+use Rattle.calls.specs.UnitCounts.{count, isPacingResponse, requestsAmong}
 
 -- The values of an end that its log speaks of.
 pub record Values : Type 0 where

@@ -43,10 +43,10 @@ use Rattle.calls.proofs.CallCases.{CloseAsked, SendAsked, allocate-cases, close
 use Rattle.calls.specs.Calls.{Reply, Station, Verb}
 use Rattle.control.proofs.States.{reset-not-send}
 use Rattle.end.proofs.Within.{facts}
-use Rattle.joined.proofs.Laned.{Laned, take-cases, tookKind}
+use Rattle.joined.proofs.CallsOnLanes.{Laned, take-cases, tookKind}
 use Rattle.joined.proofs.Chains.{allocated-out, allocated-in, closed-in, answered-out, answered-in, bid-out, bid-in, begins-first}
-use Rattle.joined.proofs.Bytes.{held-more, held-rest}
-use Rattle.joined.proofs.Stream.{Outside, Inside, outsideOf, insideOf, Stream, stream-keep, stream-data, stream-bid, stream-response, isResponse, zeroIfPacing, taken, stream-take}
+use Rattle.joined.proofs.BytesInOrder.{held-more, held-rest}
+use Rattle.joined.proofs.RequestStream.{Outside, Inside, outsideOf, insideOf, Stream, stream-keep, stream-data, stream-bid, stream-response, isResponse, zeroIfPacing, taken, stream-take}
 use Rattle.control.proofs.Within.{closed-outside-send}
 
 -- ---- one field at a time

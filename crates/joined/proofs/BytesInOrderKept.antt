@@ -37,12 +37,12 @@ use Rattle.joined.specs.Ends.{Lane, normal, onNormal, acts, takes}
 use Rattle.joined.specs.Histories.{Log, bytesAccepted, bytesInSendBuffer, bytesInInbox}
 use Rattle.joined.specs.Histories as H
 use Rattle.calls.proofs.CallCases.{ReadAsked, SendAsked, TakeAsked, allocate-cases, bidNumber, close-cases, confirmed-cases, pace-cases, read-cases, readCount, send-cases, spilledRu, spilledUnit}
-use Rattle.calls.proofs.Units.{dataOf}
+use Rattle.calls.proofs.UnitsByHeader.{dataOf}
 use Rattle.calls.specs.Calls.{Reply, Station, Verb}
 use Rattle.end.proofs.Within.{facts, held-in-inbox}
-use Rattle.joined.proofs.Laned.{Laned, take-cases, tookKind}
-use Rattle.joined.proofs.Local.{refused-accepts}
-use Rattle.joined.proofs.Bytes.{Carried, carried-kept, carried-sent, carried-other, carried-read, carried-taken, held-more, held-rest, copied-is, inbox-parts, inbox-left}
+use Rattle.joined.proofs.CallsOnLanes.{Laned, take-cases, tookKind}
+use Rattle.joined.proofs.OneEnd.{refused-accepts}
+use Rattle.joined.proofs.BytesInOrder.{Carried, carried-kept, carried-sent, carried-other, carried-read, carried-taken, held-more, held-rest, copied-is, inbox-parts, inbox-left}
 
 -- ---- as the sending end
 

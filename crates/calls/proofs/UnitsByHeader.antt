@@ -15,7 +15,7 @@ use Rattle.header.specs.declared.Header.the-variants.{Data, Bid, PositiveBidRes
 use Rattle.header.proofs.RoundTrip.{built-fields, read-bytes}
 use Rattle.unit.proofs.Units.{unit-header, unit-ru}
 use Rattle.end.specs.ReceiveUnit.{headerTaken, ruTaken}
-use Rattle.calls.specs.Units.{count, dataRu, isPacingResponse, isRequest, requestsAmong}
+use Rattle.calls.specs.UnitCounts.{count, dataRu, isPacingResponse, isRequest, requestsAmong}
 
 -- ---- a unit that a call makes is read as it was made
 

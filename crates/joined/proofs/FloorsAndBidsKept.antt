@@ -1,4 +1,4 @@
--- Every call at an end keeps the order.
+-- Every call at an end keeps the order of a conversation: floors and bids still fit.
 -- Assumes nothing.
 use Prim.Native.Nat.{ℕ}
 use mathlib.Core.Path.{_≡_, refl, sym, subst}
@@ -17,8 +17,8 @@ use Rattle.joined.specs.Joined.{Acted, Took}
 use Rattle.joined.specs.Ends.{Lane, normal, acts, takes}
 use Rattle.calls.proofs.CallCases.{TakeAsked, allocate-cases, close-cases, confirmed-cases, pace-cases, read-cases, readCount, send-cases, spilledRu}
 use Rattle.calls.specs.Calls.{Reply, Station, Verb}
-use Rattle.joined.proofs.Laned.{Laned, take-cases, tookKind}
-use Rattle.joined.proofs.Order.{Order, order-receiving, order-kept, order-read, order-mark, order-paced, order-spoke, order-bid, order-spilled, order-last, order-confirmed, order-took-data, order-took-bid, order-took-grant, order-took-refusal, order-took-confirmation, order-took-pacing}
+use Rattle.joined.proofs.CallsOnLanes.{Laned, take-cases, tookKind}
+use Rattle.joined.proofs.FloorsAndBids.{Order, order-receiving, order-kept, order-read, order-mark, order-paced, order-spoke, order-bid, order-spilled, order-last, order-confirmed, order-took-data, order-took-bid, order-took-grant, order-took-refusal, order-took-confirmation, order-took-pacing}
 
 module _ (r : Role) (s : Station) (f : End) (line back : List (List ℕ)) (i : Order r (s .end) f line back) where
   -- what an act leaves

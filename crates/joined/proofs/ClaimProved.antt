@@ -26,21 +26,21 @@ use Rattle.joined.specs.Ends.{Lane, normal, sameLane, Buffers, OpeningAc
 use Rattle.joined.specs.Histories.{Log, bytesAccepted, bytesRead, bytesOnLine, bytesInInbox, bytesInSendBuffer, requestsMade, pacingResponsesTaken, breaches, badReads, CompleteIsRight, NoneCrosses}
 use Rattle.joined.specs.Claim.{Pair, JoinedEnd, after, BytesConserved, Joint, Claim, RecordsArrive, ReadsRight, TheRecords}
 use Rattle.joined.proofs.Confluence.{confluent}
-use Rattle.joined.proofs.Invariant.{Fact, Keeps, AfterAct, AfterTake, Ways, run-ways}
+use Rattle.joined.proofs.EveryList.{Fact, Keeps, AfterAct, AfterTake, Ways, run-ways}
 use Rattle.control.proofs.States.{send-is}
 use Rattle.calls.proofs.WindowSizes.{sizeOf, size-acts, size-takes}
 use Rattle.calls.specs.Calls.{Reply, Station, Verb}
 use Rattle.joined.proofs.TwoLines.{other}
-use Rattle.joined.proofs.Order.{Order, order-flip, order-fresh, not-both}
-use Rattle.joined.proofs.OrderCalls.{order-acts, order-takes}
-use Rattle.joined.proofs.Stream.{outsideOf, insideOf, Stream, stream-fresh}
-use Rattle.joined.proofs.StreamCalls.{stream-acts, stream-takes, stream-in-acts, stream-in-takes}
-use Rattle.joined.proofs.Paces.{Paces, paces-fresh}
-use Rattle.joined.proofs.PacesCalls.{unansweredOf, owedOf, paces-acts, paces-takes, paces-in-acts, paces-in-takes}
-use Rattle.joined.proofs.Bytes.{Carried}
-use Rattle.joined.proofs.BytesCalls.{bytes-acts, bytes-takes, bytes-in-acts, bytes-in-takes}
-use Rattle.joined.proofs.Local.{valuesOf, Local}
-use Rattle.joined.proofs.LocalCalls.{local-acts, local-takes}
+use Rattle.joined.proofs.FloorsAndBids.{Order, order-flip, order-fresh, not-both}
+use Rattle.joined.proofs.FloorsAndBidsKept.{order-acts, order-takes}
+use Rattle.joined.proofs.RequestStream.{outsideOf, insideOf, Stream, stream-fresh}
+use Rattle.joined.proofs.RequestStreamKept.{stream-acts, stream-takes, stream-in-acts, stream-in-takes}
+use Rattle.joined.proofs.PacingFlags.{Paces, paces-fresh}
+use Rattle.joined.proofs.PacingFlagsKept.{unansweredOf, owedOf, paces-acts, paces-takes, paces-in-acts, paces-in-takes}
+use Rattle.joined.proofs.BytesInOrder.{Carried}
+use Rattle.joined.proofs.BytesInOrderKept.{bytes-acts, bytes-takes, bytes-in-acts, bytes-in-takes}
+use Rattle.joined.proofs.OneEnd.{valuesOf, Local}
+use Rattle.joined.proofs.OneEndKept.{local-acts, local-takes}
 use Rattle.joined.proofs.NoBreach.{no-breach}
 
 -- What every call keeps. e has the role r; v is the window from e to f, and w that from f to e; `line` waits for f, `back` for e.

@@ -13,11 +13,17 @@ use Rattle.header.specs.declared.Header.{Header}
 use Rattle.header.specs.declared.Header.the-variants.{Data}
 use Rattle.end.specs.ReceiveUnit.{headerTaken, ruTaken}
 use Rattle.joined.specs.Histories.{bytesOnLine}
-use Rattle.joined.proofs.Units.{line-more}
-use Rattle.calls.proofs.Units.{data-ru, dataOf}
+use Rattle.calls.specs.UnitCounts.{dataRu}
+use Rattle.calls.proofs.UnitsByHeader.{data-ru, data-unit, dataOf}
 
 pub record Carried (accepted held : List ℕ) (line : List (List ℕ)) (read inbox : List ℕ) : Type 0 where
   pub bytes : accepted ≡ read ++ (inbox ++ (bytesOnLine line ++ held))
+
+-- the bytes on a line once a unit has joined it
+line-more : (us : List (List ℕ)) (n : ℕ) (h : Header) (ru : List ℕ) → bytesOnLine (us ++ (unitOf n h ru ∷ [])) ≡ bytesOnLine us ++ dataOf h ru
+unfolding bytesOnLine
+line-more [] n h ru = ap (λ (bs : List ℕ). bs ++ []) (data-unit n h ru) ∙ append-nil (dataOf h ru)
+line-more (u ∷ us) n h ru = ap (λ (bs : List ℕ). dataRu u ++ bs) (line-more us n h ru) ∙ sym (append-assoc (dataRu u) (bytesOnLine us) (dataOf h ru))
 
 -- ---- the equation, call by call
 

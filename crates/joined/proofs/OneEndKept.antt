@@ -62,16 +62,16 @@ use Rattle.answers.proofs.Rows.{yes}
 use Rattle.bools.proofs.Tests.{left, never, or-right, not-true}
 use Rattle.calls.proofs.CallCases.{ReadAsked, TakeAsked, allocate-cases, bidNumber, close-cases, confirmed-cases, pace-cases, read-cases, readCount, send-cases, spilledRu}
 use Rattle.calls.proofs.Credit.{answer-asks, data-asks, none-made, other-made, request-made}
-use Rattle.calls.proofs.Units.{isPacing, pacing-taken}
+use Rattle.calls.proofs.UnitsByHeader.{isPacing, pacing-taken}
 use Rattle.calls.specs.Calls.{Reply, Station, Verb}
-use Rattle.calls.specs.Units.{count, isPacingResponse, requestsAmong}
+use Rattle.calls.specs.UnitCounts.{count, isPacingResponse, requestsAmong}
 use Rattle.control.proofs.States.{receive-not-send, reset-not-send, owed-not-send, awaited-not-send, fits-not-send}
 use Rattle.end.proofs.Within.{facts, held-in-inbox}
-use Rattle.joined.proofs.Laned.{Laned, take-cases, tookKind}
+use Rattle.joined.proofs.CallsOnLanes.{Laned, take-cases, tookKind}
 use Rattle.pacing.proofs.Windows.{response-raises}
-use Rattle.joined.proofs.Bytes.{held-more}
-use Rattle.joined.proofs.BytesCalls.{count-held, moved-left, read-parts, inbox-holds, read-copied}
-use Rattle.joined.proofs.Local.{valuesOf, Local, local-act, local-refused, local-read, local-took, local-take-refused}
+use Rattle.joined.proofs.BytesInOrder.{held-more}
+use Rattle.joined.proofs.BytesInOrderKept.{count-held, moved-left, read-parts, inbox-holds, read-copied}
+use Rattle.joined.proofs.OneEnd.{valuesOf, Local, local-act, local-refused, local-read, local-took, local-take-refused}
 
 -- ---- states
 
