@@ -2,7 +2,7 @@
 -- Assumes nothing.
 use Prim.Native.Nat.{ℕ, _+_, _≤_}
 use mathlib.Core.Path.{_≡_, refl, sym, ap, _∙_, subst}
-use mathlib.Core.Bool.{Bool, true, false, not, cond, _||_}
+use mathlib.Core.Bool.{Bool, true, false, not, cond, _&&_, _||_}
 use mathlib.Core.List.{List, [], _∷_, _++_}
 use native.Mathlib.Omega.{arith}
 use borrow.Author.Tests.{eqb-true, ne-eqb, leb-true}
@@ -10,24 +10,31 @@ use lib.Dec.{eqb, leb}
 use lib.ListN.{length, take, drop}
 use Rattle.cells.specs.Cells.{front, written}
 use Rattle.cells.proofs.Fronts.{front-bytes}
-use Rattle.logical_record.specs.Walk.{walk}
+use Rattle.logical_record.specs.Walk.{walk, placeOr}
 use Rattle.logical_record.specs.Positions.{isWhole}
 use Rattle.logical_record.specs.Reading.{rest}
 use Rattle.logical_record.specs.declared.Position.{Position}
 use Rattle.logical_record.specs.declared.Walked.{Walked}
 use Rattle.logical_record.specs.declared.Walked.the-variants.{At, BadLength}
 use Rattle.header.specs.Rules.{headerGood}
-use Rattle.unit.specs.Ru.{marks, bidRu, fixedRu}
+use Rattle.unit.specs.Ru.{marks, bidRu, fixedRu, ruGood}
 use Rattle.unit.specs.Unit.{RU-START, unitOf, numberIn, headerIn}
 use Rattle.header.specs.declared.Follows.{Follows}
+use Rattle.header.specs.declared.ChainEnd.{ChainEnd}
 use Rattle.header.specs.declared.ChainEnd.the-variants.{Continues, Last}
+use Rattle.header.specs.declared.DataHeader.{DataHeader}
 use Rattle.header.specs.declared.Header.{Header}
 use Rattle.header.specs.declared.Header.the-variants.{Data, Bid, PositiveBidResponse, NegativeBidResponse, Confirmation, PacingResponse}
 use Rattle.unit.proofs.Units.{unit-length}
 use Rattle.pacing.specs.Pacing.{hasCredit, paced}
-use Rattle.control.specs.Tests.{isFirstSpeaker, isNothing}
-use Rattle.control.specs.Questions.{mayAllocate, maySend, mayConfirm}
-use Rattle.transitions.specs.Transitions.{allocated, confirmationMade, markAnswered, bidAnswer, grantTaken, refusalTaken, confirmationTaken}
+use Rattle.control.specs.Tests.{isFirstSpeaker, isSend, isNothing, agree}
+use Rattle.control.specs.Within.{controlGood}
+use Rattle.control.specs.declared.Control.{Control}
+use Rattle.control.proofs.States.{fits-not-send}
+use Rattle.control.proofs.Within.{control-good}
+use Rattle.pacing.specs.declared.Window.{Window}
+use Rattle.control.specs.Questions.{mayAllocate, maySend, mayConfirm, grantFits, refusalFits, confirmationFits}
+use Rattle.transitions.specs.Transitions.{allocated, confirmationMade, markAnswered, bidTaken, bidAnswer, grantTaken, refusalTaken, confirmationTaken}
 use Rattle.answers.specs.Answers.{accepted, refused, refusedNaming, readRefused}
 use Rattle.end.specs.Record.{recordGood, sendLent, unitLent, inboxLent}
 use Rattle.sides.specs.Shared.{nextNumber}
@@ -42,19 +49,26 @@ use Rattle.end.specs.Confirmed.{confirmedQuestions, confirmedRefusal, confirmed
 use Rattle.end.specs.ReceiveUnit.{headQuestions, kindQuestions, headerTaken, ruTaken, takeRefusal, dataJoined, bidAnswered, creditRaised, kindTaken, takeDecision, kindJoined, inboxCells, answerNaming, receiveUnit}
 use Rattle.end.specs.Receive.{recordRest, someHeld, readQuestions, readRefusal, copyCount, bytesRead, markRead, readDecision, inboxMoved, receive}
 use Rattle.reading.specs.Reading.{restGood}
-use Rattle.sides.specs.Receiving.{mayPace, windowAnswered}
+use Rattle.sides.specs.Receiving.{recordsFit, mayPace, windowAnswered}
 use Rattle.end.specs.Pace.{paceQuestions, paceRefusal, paceDecision, pace}
 use Rattle.end.specs.declared.End.{End}
 use Rattle.end.specs.declared.ReadDone.{ReadDone}
 use Rattle.answers.proofs.Rows.{yes}
 use Rattle.answers.proofs.TwoRows.{pass-both}
 use Rattle.bools.proofs.Cases.{cases}
-use Rattle.bools.proofs.Tests.{left, right}
+use Rattle.bools.proofs.Tests.{both, left, right}
+use Rattle.end.proofs.Within.{facts}
+use Rattle.calls.proofs.ControlMoved.{Moved, agrees, bid-moves, grant-moves, refusal-moves, confirmation-moves}
+use Rattle.calls.proofs.UnitsByHeader.{Sort, brings, asks, answers, paces, sortOf}
 use Rattle.calls.specs.Calls.{Called, Station, Verb, called, copies, makes, plain, sends, taken, unitsOf}
 use Rattle.answers.specs.Questions.{firstNo}
 
 abbrev pub UnitBytes : Type 0
 UnitBytes = List ℕ
+
+-- question 5 of the finite part
+pub control-within : (e : End) → recordGood e ≡ true → controlGood (e .control) ≡ true
+control-within e g = control-good (e .control) (facts e g .control)
 
 -- ---- a refused call
 
@@ -367,29 +381,42 @@ read-cases P s buffer refuses copied marked =
 
 -- ---- take
 
--- an accepted take, by the kind of the unit
-abbrev pub tookKind : Station → Header → ℕ → List ℕ → Called
-tookKind s (Data d) n ru =
+-- the finite part after a response
+abbrev controlAfter : Header → Control → Control
+controlAfter (Data d) c = c
+controlAfter (Bid p) c = c
+controlAfter PositiveBidResponse c = grantTaken c
+controlAfter NegativeBidResponse c = refusalTaken c
+controlAfter Confirmation c = confirmationTaken c
+controlAfter PacingResponse c = c
+
+-- bytes join the inbox
+abbrev pub joinedAct : Station → DataHeader → ℕ → List ℕ → Called
+joinedAct s d n ru =
     record {
       end = record { end = dataJoined (s .end) d n ru .end; send = s .send; unit = s .unit; inbox = written (s .end .receiving .held) ru (s .inbox) };
       answer = plain (accepted 0);
       sent = [];
     }
-tookKind s (Bid p) n ru =
+
+-- a bid is answered under its own number
+abbrev pub answeredAct : Station → ℕ → Called
+answeredAct s n =
     let h = bidAnswer (s .end .control) in
-    record {
-      end = record { end = bidAnswered (s .end) n .end; send = s .send; unit = front (unitOf n h (fixedRu h)) (s .unit); inbox = s .inbox };
-      answer = plain (accepted (RU-START + length (fixedRu h)));
-      sent = unitOf n h (fixedRu h) ∷ [];
-    }
-tookKind s PositiveBidResponse n ru =
-    record { end = withEnd s (withControl (grantTaken (s .end .control)) (s .end)); answer = plain (accepted 0); sent = [] }
-tookKind s NegativeBidResponse n ru =
-    record { end = withEnd s (withControl (refusalTaken (s .end .control)) (s .end)); answer = plain (accepted 0); sent = [] }
-tookKind s Confirmation n ru =
-    record { end = withEnd s (withControl (confirmationTaken (s .end .control)) (s .end)); answer = plain (accepted 0); sent = [] }
-tookKind s PacingResponse n ru =
-    record { end = withEnd s (creditRaised (s .end) .end); answer = plain (accepted 0); sent = [] }
+    unitAct s (bidAnswered (s .end) n .end) n h (fixedRu h)
+
+abbrev pub creditAct : Station → Called
+creditAct s = quietAct s (creditRaised (s .end) .end)
+
+-- an accepted take, by the unit's header and its sort
+abbrev tookAs : Station → Header → Sort → ℕ → List ℕ → Called
+tookAs s h (brings d) n ru = joinedAct s d n ru
+tookAs s h (asks p) n ru = answeredAct s n
+tookAs s h answers n ru = quietAct s (withControl (controlAfter h (s .end .control)) (s .end))
+tookAs s h paces n ru = creditAct s
+
+abbrev pub tookKind : Station → Header → ℕ → List ℕ → Called
+tookKind s h n ru = tookAs s h (sortOf h) n ru
 
 -- what a take leaves by its decision
 abbrev tookOf : (List ℕ → ℕ) → Station → List ℕ → Decision → List ℕ → Called
@@ -408,18 +435,36 @@ unfolding dataJoined bidAnswered creditRaised
 took-kind P naming s u (Data d) n ru p = p
 took-kind P naming s u (Bid b) n ru p =
     let h = bidAnswer (s .end .control) in
-    subst
-    (λ (us : List UnitBytes).
-    P (record {
-      end = record { end = bidAnswered (s .end) n .end; send = s .send; unit = front (unitOf n h (fixedRu h)) (s .unit); inbox = s .inbox };
-      answer = plain (accepted (RU-START + length (fixedRu h)));
-      sent = us;
-    }))
-    (sym (unit-out n h (fixedRu h) (s .unit))) p
+    let m = answeredAct s n in
+    subst (λ (us : List UnitBytes). P (record { end = m .end; answer = m .answer; sent = us })) (sym (unit-out n h (fixedRu h) (s .unit))) p
 took-kind P naming s u PositiveBidResponse n ru p = p
 took-kind P naming s u NegativeBidResponse n ru p = p
 took-kind P naming s u Confirmation n ru p = p
 took-kind P naming s u PacingResponse n ru p = p
+
+-- every kind that is taken is accepted
+pub kind-accepted : (e : End) (h : Header) (n : ℕ) (ru : List ℕ) → kindTaken e h n ru .refusal ≡ 0
+unfolding dataJoined bidAnswered creditRaised
+kind-accepted e (Data d) n ru = refl
+kind-accepted e (Bid p) n ru = refl
+kind-accepted e PositiveBidResponse n ru = refl
+kind-accepted e NegativeBidResponse n ru = refl
+kind-accepted e Confirmation n ru = refl
+kind-accepted e PacingResponse n ru = refl
+
+-- no question that gives the number k is answered no
+abbrev pub passes : ℕ → List (Bool × ℕ) → Bool
+passes k [] = true
+passes k (q ∷ qs) = (not (eqb (q .1) k) || q .0) && passes k qs
+
+-- none of the questions of a kind gives the number 5
+pub kind-passes-5 : (e : End) (h : Header) (n : ℕ) (ru : List ℕ) → passes 5 (kindQuestions e h n ru) ≡ true
+kind-passes-5 e (Data d) n ru = refl
+kind-passes-5 e (Bid p) n ru = refl
+kind-passes-5 e PositiveBidResponse n ru = refl
+kind-passes-5 e NegativeBidResponse n ru = refl
+kind-passes-5 e Confirmation n ru = refl
+kind-passes-5 e PacingResponse n ru = refl
 
 -- what an accepted take has been asked before the unit's kind
 pub record TakeAsked (s : Station) (u : List ℕ) : Type 0 where
@@ -432,13 +477,14 @@ pub record TakeAsked (s : Station) (u : List ℕ) : Type 0 where
 abbrev pub refusedTake : (List ℕ → ℕ) → Station → List ℕ → ℕ → Called
 refusedTake naming s u q = record { end = s; answer = plain (refusedNaming (naming u) q); sent = [] }
 
-pub take-cases :
+-- a take, by the kind of the unit
+pub kind-cases :
     (P : Called → Type 0) (naming : List ℕ → ℕ) (s : Station) (u : List ℕ)
     → ((q : ℕ) → q ≡ takeRefusal (s .end) u (length (s .inbox)) (length (s .unit)) → eqb q 0 ≡ false → P (refusedTake naming s u q))
     → (TakeAsked s u → firstNo (kindQuestions (s .end) (headerTaken u) (numberIn u) (ruTaken u)) ≡ 0 → P (tookKind s (headerTaken u) (numberIn u) (ruTaken u)))
     → P (taken naming s u)
 unfolding taken receiveUnit takeDecision inboxCells takeRefusal
-take-cases P naming s u refuses takesIt =
+kind-cases P naming s u refuses takesIt =
     let e = s .end in
     let q : ℕ = takeRefusal e u (length (s .inbox)) (length (s .unit)) in
     cases (λ (d : Decision). P (tookOf naming s u d (cond (eqb (d .refusal) 0) (kindJoined e (headerTaken u) (ruTaken u) (s .inbox)) (s .inbox)))) (eqb q 0)
@@ -455,3 +501,64 @@ take-cases P naming s u refuses takesIt =
     } in
     took-kind P naming s u (headerTaken u) (numberIn u) (ruTaken u) (takesIt asked (both .1)))
     (λ y. rw y (refuses q refl y))
+
+-- ---- a take by the sort of the unit
+
+-- a request that is taken finds credit, and has the bit of its window place
+pub record RequestAsked (w : Window) (b : Bool) : Type 0 where
+  pub credit : hasCredit w ≡ true
+  pub bit : b ≡ paced w
+
+pub record DataAsked (s : Station) (d : DataHeader) (ru : List ℕ) : Type 0 where
+  pub short : length ru ≤ s .end .receiving .max
+  pub request : RequestAsked (s .end .receiving .window) (d .pacing)
+  pub away : isSend (s .end .control .state) ≡ false
+  pub walked : walk (s .end .receiving .taken) ru ≡ At (placeOr (s .end .receiving .taken) (walk (s .end .receiving .taken) ru))
+
+request-asked : (w : Window) (bit : Bool) → hasCredit w && agree bit (paced w) ≡ true → RequestAsked w bit
+request-asked w bit e =
+    let h = both (hasCredit w) (agree bit (paced w)) e in
+    record { credit = h .0; bit = agrees bit (paced w) (h .1) }
+
+fits-at : (ends : ChainEnd) (p : Position) (w : Walked) → recordsFit ends w ≡ true → w ≡ At (placeOr p w)
+fits-at ends p (At q) e = refl
+fits-at ends p BadLength e = cc
+
+pub take-cases :
+    (P : Called → Type 0) (naming : List ℕ → ℕ) (s : Station) (u : List ℕ)
+    → ((q : ℕ) → q ≡ takeRefusal (s .end) u (length (s .inbox)) (length (s .unit)) → eqb q 0 ≡ false → P (refusedTake naming s u q))
+    → ((d : DataHeader) → TakeAsked s u → sortOf (headerTaken u) ≡ brings d → DataAsked s d (ruTaken u) → P (joinedAct s d (numberIn u) (ruTaken u)))
+    → ((p : Bool) → TakeAsked s u → sortOf (headerTaken u) ≡ asks p → RequestAsked (s .end .receiving .window) p
+    → Moved (s .end .control) (bidTaken (s .end .control)) → P (answeredAct s (numberIn u)))
+    → ((c : Control) → TakeAsked s u → sortOf (headerTaken u) ≡ answers → Moved (s .end .control) c → P (quietAct s (withControl c (s .end))))
+    → (TakeAsked s u → sortOf (headerTaken u) ≡ paces → s .end .sending .window .pending ≡ true → P (creditAct s))
+    → P (taken naming s u)
+unfolding ruGood
+take-cases P naming s u refuses joins bids responds raises =
+    kind-cases P naming s u refuses (λ a k. by (headerTaken u) refl a k)
+  where
+    by : (h : Header) → headerTaken u ≡ h → TakeAsked s u → firstNo (kindQuestions (s .end) h (numberIn u) (ruTaken u)) ≡ 0
+        → P (tookKind s h (numberIn u) (ruTaken u))
+    by (Data d) e a k =
+        let t = yes (kindQuestions (s .end) (Data d) (numberIn u) (ruTaken u)) tt k in
+        joins d a (ap sortOf e)
+        (record {
+          short = leb-true _ _ (left (leb (length (ruTaken u)) (s .end .receiving .max)) _ (t 0));
+          request = request-asked (s .end .receiving .window) (d .pacing) (t 1);
+          away = fits-not-send (s .end .control .state) _ (t 5);
+          walked = fits-at (d .ends) (s .end .receiving .taken) (walk (s .end .receiving .taken) (ruTaken u)) (t 6);
+        })
+    by (Bid p) e a k =
+        let t = yes (kindQuestions (s .end) (Bid p) (numberIn u) (ruTaken u)) tt k in
+        bids p a (ap sortOf e) (request-asked (s .end .receiving .window) p (t 1)) (bid-moves (s .end .control) (control-within (s .end) (a .good)))
+    by PositiveBidResponse e a k =
+        let t = yes (kindQuestions (s .end) PositiveBidResponse (numberIn u) (ruTaken u)) tt k in
+        responds _ a (ap sortOf e) (grant-moves (s .end .control) (control-within (s .end) (a .good)) (left (grantFits (s .end .control)) _ (t 1)))
+    by NegativeBidResponse e a k =
+        let t = yes (kindQuestions (s .end) NegativeBidResponse (numberIn u) (ruTaken u)) tt k in
+        responds _ a (ap sortOf e) (refusal-moves (s .end .control) (control-within (s .end) (a .good)) (left (refusalFits (s .end .control)) _ (t 1)))
+    by Confirmation e a k =
+        let t = yes (kindQuestions (s .end) Confirmation (numberIn u) (ruTaken u)) tt k in
+        responds _ a (ap sortOf e)
+        (confirmation-moves (s .end .control) (control-within (s .end) (a .good)) (left (confirmationFits (s .end .control)) _ (t 1)))
+    by PacingResponse e a k = raises a (ap sortOf e) (yes (kindQuestions (s .end) PacingResponse (numberIn u) (ruTaken u)) tt k 1)

@@ -12,7 +12,7 @@ use Rattle.unit.specs.Unit.{RU-START, unitOf, numberIn}
 use Rattle.header.specs.declared.Follows.{Follows}
 use Rattle.header.specs.declared.ChainEnd.the-variants.{Continues, Last}
 use Rattle.header.specs.declared.Header.{Header}
-use Rattle.header.specs.declared.Header.the-variants.{Data, Bid, PositiveBidResponse, NegativeBidResponse, Confirmation, PacingResponse}
+use Rattle.header.specs.declared.Header.the-variants.{Bid, Confirmation, PacingResponse}
 use Rattle.pacing.specs.Pacing.{paced}
 use Rattle.transitions.specs.Transitions.{bidAnswer}
 use Rattle.sides.specs.Shared.{nextNumber}
@@ -20,20 +20,24 @@ use Rattle.end.specs.Requests.{dataHeader}
 use Rattle.end.specs.Allocate.{bidMade}
 use Rattle.end.specs.SendData.{heldBytes, gone, bytesKept, bytesSpilled}
 use Rattle.end.specs.Close.{lastMade}
-use Rattle.end.specs.ReceiveUnit.{headerTaken, ruTaken, dataJoined, bidAnswered, creditRaised}
+use Rattle.end.specs.ReceiveUnit.{ruTaken, dataJoined, bidAnswered, creditRaised}
 use Rattle.end.specs.Receive.{inboxBytes, bytesRead, inboxMoved}
 use Rattle.bools.proofs.Cases.{cases}
 use Rattle.calls.specs.Calls.{Called, Station, Verb, called, taken}
 use Rattle.calls.specs.Laws.{AllBytes, BytesOf}
-use Rattle.calls.proofs.ByteLists.{none-bytes, take-bytes, drop-bytes, append-bytes, front-bytes-all, written-bytes-all, next-small, number-small, unit-bytes, fixed-bytes, AllUnits}
-use Rattle.calls.proofs.CallCases.{allocate-cases, bidNumber, send-cases, spilledRu, close-cases, confirmed-cases, pace-cases, read-cases, readCount, take-cases, tookKind}
+use Rattle.calls.proofs.ByteLists.{none-bytes, take-bytes, drop-bytes, append-bytes, front-bytes-all, written-bytes-all, next-small, number-small, AllUnits}
+use Rattle.calls.proofs.UnitsByHeader.{unit-bytes, fixed-ru}
+use Rattle.calls.proofs.CallCases.{allocate-cases, bidNumber, send-cases, spilledRu, close-cases, confirmed-cases, pace-cases, read-cases, readCount, take-cases}
 
 -- ---- the cells and units are bytes, and the number owed is one of two bytes
 
-pub record Cells (s : Station) : Type 0 where
-  pub send : AllBytes (s .send)
-  pub inbox : AllBytes (s .inbox)
-  pub owed : s .end .owed < 65536
+pub record AreBytes (sent taken : List ℕ) (n : ℕ) : Type 0 where
+  pub send : AllBytes sent
+  pub inbox : AllBytes taken
+  pub owed : n < 65536
+
+abbrev pub Cells : Station → Type 0
+Cells s = AreBytes (s .send) (s .inbox) (s .end .owed)
 
 module _ (s : Station) (c : Cells s) where
   abbrev After : Called → Type 0
@@ -48,9 +52,9 @@ module _ (s : Station) (c : Cells s) where
   closes : (f : Follows) (b : Bool) → After (called s (Verb.close f b))
   unfolding lastMade
   closes f b =
-      close-cases After s f b (λ q n. (c, tt)) (λ a n. (record { send = c .send; inbox = c .inbox; owed = c .owed }, tt))
+      close-cases After s f b (λ q n. (c, tt)) (λ a n. (c, tt))
       (λ a n k. (
-        record { send = c .send; inbox = c .inbox; owed = c .owed },
+        c,
         one-unit (nextNumber (s .end .sending .number)) (dataHeader (s .end) (Last f b)) (heldBytes (s .end) (s .send))
             (next-small (s .end .sending .number)) held-bytes,
       ))
@@ -81,52 +85,36 @@ module _ (s : Station) (c : Cells s) where
   pub cells-acts : (v : Verb) → BytesOf v → After (called s v)
   unfolding called bidMade bytesRead
   cells-acts Verb.allocate b =
-      allocate-cases After s (λ q n. (c, tt)) (λ g a w. (record { send = c .send; inbox = c .inbox; owed = c .owed }, tt))
+      allocate-cases After s (λ q n. (c, tt)) (λ g a w. (c, tt))
       (λ g a w k. (
-        record { send = c .send; inbox = c .inbox; owed = c .owed },
+        c,
         one-unit (bidNumber (s .end)) (Bid (paced (s .end .sending .window))) bidRu (next-small (s .end .sending .number))
-            (fixed-bytes (Bid (paced (s .end .sending .window)))),
+            (fixed-ru (Bid (paced (s .end .sending .window))) .1),
       ))
   cells-acts Verb.confirmed b =
       confirmed-cases After s (λ q n. (c, tt))
-      (λ g a. (record { send = c .send; inbox = c .inbox; owed = c .owed }, one-unit (s .end .owed) Confirmation [] (c .owed) none-bytes))
+      (λ g a. (c, one-unit (s .end .owed) Confirmation [] (c .owed) none-bytes))
   cells-acts Verb.pace b =
       pace-cases After s (λ q n. (c, tt))
-      (λ g a. (record { send = c .send; inbox = c .inbox; owed = c .owed }, one-unit 0 PacingResponse [] (omega arith) none-bytes))
+      (λ g a. (c, one-unit 0 PacingResponse [] (omega arith) none-bytes))
   cells-acts (Verb.sendData bytes) b = gives bytes b
   cells-acts (Verb.close f x) b = closes f x
   cells-acts (Verb.receive buffer) b =
       read-cases After s buffer (λ q w n. (c, tt))
       (λ a h. (record { send = c .send; inbox = moved-bytes (readCount s buffer); owed = c .owed }, tt))
-      (λ a h m. (record { send = c .send; inbox = c .inbox; owed = c .owed }, tt))
-
-  abbrev Left : Called → Type 0
-  Left t = Cells (t .end) × AllUnits (t .sent)
+      (λ a h m. (c, tt))
 
   -- the number owed is that of the unit, or as it was
   owed-small : (b : Bool) (n : ℕ) → n < 65536 → cond b n (s .end .owed) < 65536
   owed-small true n l = l
   owed-small false n l = c .owed
 
-  kind-cells : (h : Header) (n : ℕ) (ru : List ℕ) → n < 65536 → AllBytes ru → Left (tookKind s h n ru)
+  pub cells-takes : (naming : List ℕ → ℕ) (u : List ℕ) → AllBytes u → After (taken naming s u)
   unfolding dataJoined bidAnswered creditRaised
-  kind-cells (Data d) n ru l f = (
-    record {
-      send = c .send;
-      inbox = written-bytes-all (s .end .receiving .held) ru (s .inbox) f (c .inbox);
-      owed = owed-small (confirms (d .ends)) n l;
-    },
-    tt,
-  )
-  kind-cells (Bid p) n ru l f =
-      let h = bidAnswer (s .end .control) in
-      (record { send = c .send; inbox = c .inbox; owed = c .owed }, one-unit n h (fixedRu h) l (fixed-bytes h))
-  kind-cells PositiveBidResponse n ru l f = (record { send = c .send; inbox = c .inbox; owed = c .owed }, tt)
-  kind-cells NegativeBidResponse n ru l f = (record { send = c .send; inbox = c .inbox; owed = c .owed }, tt)
-  kind-cells Confirmation n ru l f = (record { send = c .send; inbox = c .inbox; owed = c .owed }, tt)
-  kind-cells PacingResponse n ru l f = (record { send = c .send; inbox = c .inbox; owed = c .owed }, tt)
-
-  pub cells-takes : (naming : List ℕ → ℕ) (u : List ℕ) → AllBytes u → Left (taken naming s u)
   cells-takes naming u f =
-      take-cases Left naming s u (λ q w n. (c, tt))
-      (λ a k. kind-cells (headerTaken u) (numberIn u) (ruTaken u) (number-small u f) (drop-bytes RU-START u f))
+      let h = bidAnswer (s .end .control) in
+      let n = number-small u f in
+      let joined = written-bytes-all (s .end .receiving .held) (ruTaken u) (s .inbox) (drop-bytes RU-START u f) (c .inbox) in
+      take-cases After naming s u (λ q w x. (c, tt))
+      (λ d a e k. (record { send = c .send; inbox = joined; owed = owed-small (confirms (d .ends)) (numberIn u) n }, tt))
+      (λ p a e k m. (c, one-unit (numberIn u) h (fixedRu h) n (fixed-ru h .1))) (λ x a e m. (c, tt)) (λ a e k. (c, tt))

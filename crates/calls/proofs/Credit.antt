@@ -1,22 +1,18 @@
 -- What each call costs or gives: a request made 1 credit, a pacing response taken W; a request taken 1 of open, pace W.
 -- Assumes nothing.
 use Prim.Native.Nat.{ℕ, _+_, _*_}
-use mathlib.Core.Path.{_≡_, refl, sym, ap, _∙_}
-use mathlib.Core.Bool.{Bool, true, false, cond, _&&_}
+use mathlib.Core.Path.{_≡_, refl, ap, _∙_}
+use mathlib.Core.Bool.{Bool, true, false, _&&_}
 use mathlib.Core.List.{List, [], _∷_}
 use native.Mathlib.Omega.{arith}
 use lib.Dec.{eqb}
 use Rattle.header.specs.declared.ChainEnd.{ChainEnd}
 use Rattle.header.specs.declared.ChainEnd.the-variants.{Continues, Last}
 use Rattle.header.specs.declared.Header.{Header}
-use Rattle.header.specs.declared.Header.the-variants.{Data, Bid, PositiveBidResponse, NegativeBidResponse, Confirmation, PacingResponse}
+use Rattle.header.specs.declared.Header.the-variants.{Bid, Confirmation, PacingResponse}
 use Rattle.unit.specs.Ru.{bidRu}
-use Rattle.unit.specs.Unit.{unitOf, numberIn}
+use Rattle.unit.specs.Unit.{unitOf}
 use Rattle.pacing.specs.Pacing.{hasCredit, paced, credit, advanced, answered}
-use Rattle.control.specs.Tests.{isReset, agree}
-use Rattle.control.specs.declared.Control.{Control}
-use Rattle.transitions.specs.Transitions.{bidAnswer}
-use Rattle.answers.specs.Questions.{firstNo}
 use Rattle.sides.specs.Shared.{nextNumber}
 use Rattle.sides.specs.Sending.{requestMade}
 use Rattle.sides.specs.Receiving.{requestTaken}
@@ -25,12 +21,11 @@ use Rattle.end.specs.Requests.{dataHeader}
 use Rattle.end.specs.Allocate.{bidMade}
 use Rattle.end.specs.SendData.{heldBytes, bytesKept, bytesSpilled}
 use Rattle.end.specs.Close.{lastMade}
-use Rattle.end.specs.ReceiveUnit.{kindQuestions, headerTaken, ruTaken, dataJoined, bidAnswered, creditRaised}
+use Rattle.end.specs.ReceiveUnit.{dataJoined, bidAnswered, creditRaised}
 use Rattle.end.specs.Receive.{bytesRead, markRead}
-use Rattle.answers.proofs.Rows.{yes}
 use Rattle.bools.proofs.Tests.{left}
-use Rattle.calls.proofs.CallCases.{allocate-cases, bidNumber, close-cases, confirmed-cases, pace-cases, read-cases, send-cases, spilledRu, take-cases, tookKind}
-use Rattle.calls.proofs.UnitsByHeader.{asksFor, isPacing, pacing-taken, request-taken, requests-unit}
+use Rattle.calls.proofs.CallCases.{allocate-cases, bidNumber, close-cases, confirmed-cases, pace-cases, read-cases, send-cases, spilledRu, take-cases}
+use Rattle.calls.proofs.UnitsByHeader.{sortOf, isAsking, pacing-taken, request-taken, requests-unit}
 use Rattle.calls.specs.Calls.{Called, Station, Verb, called, refusalIn, taken}
 use Rattle.calls.specs.Laws.{CreditExact, isPace}
 use Rattle.calls.specs.UnitCounts.{count, isPacingResponse, isRequest, requestsAmong}
@@ -40,7 +35,7 @@ use Rattle.pacing.proofs.Windows.{request-costs, response-raises}
 -- ---- the units made and the credit left
 
 -- a request made costs 1, any other unit nothing
-pub request-made : (s : Station) (n : ℕ) (h : Header) (ru : List ℕ) → asksFor h ≡ true → recordGood (s .end) ≡ true → hasCredit (s .end .sending .window) ≡ true
+pub request-made : (s : Station) (n : ℕ) (h : Header) (ru : List ℕ) → isAsking (sortOf h) ≡ true → recordGood (s .end) ≡ true → hasCredit (s .end .sending .window) ≡ true
     → requestsAmong (unitOf n h ru ∷ []) + credit (advanced (s .end .sending .window)) ≡ credit (s .end .sending .window)
 request-made s n h ru e g k =
     let w = s .end .sending .window in
@@ -48,7 +43,7 @@ request-made s n h ru e g k =
     let c = request-costs w (facts (s .end) g .sending .window) k in
     ap (λ (m : ℕ). m + credit (advanced w)) q ∙ (let z : 1 + 0 + credit (advanced w) ≡ credit w = omega (arith, c) in z)
 
-pub other-made : (n c : ℕ) (h : Header) (ru : List ℕ) → asksFor h ≡ false → requestsAmong (unitOf n h ru ∷ []) + c ≡ c
+pub other-made : (n c : ℕ) (h : Header) (ru : List ℕ) → isAsking (sortOf h) ≡ false → requestsAmong (unitOf n h ru ∷ []) + c ≡ c
 other-made n c h ru e =
     let q = requests-unit n h ru ∙ ap (λ (b : Bool). count b + 0) e in
     ap (λ (m : ℕ). m + c) q ∙ (let z : 0 + 0 + c ≡ c = omega arith in z)
@@ -57,16 +52,9 @@ pub none-made : (c : ℕ) → requestsAmong [] + c ≡ c
 unfolding requestsAmong
 none-made c = let z : 0 + c ≡ c = omega arith in z
 
-pub data-asks : (s : Station) (ends : ChainEnd) → asksFor (dataHeader (s .end) ends) ≡ true
+pub data-asks : (s : Station) (ends : ChainEnd) → isAsking (sortOf (dataHeader (s .end) ends)) ≡ true
 unfolding dataHeader
 data-asks s ends = refl
-
-pub answer-asks : (c : Control) → asksFor (bidAnswer c) ≡ false
-answer-asks c = by (isReset (c .state))
-  where
-    by : (b : Bool) → asksFor (cond b PositiveBidResponse NegativeBidResponse) ≡ false
-    by true = refl
-    by false = refl
 
 -- ---- calls that the end answers by itself
 
@@ -144,54 +132,27 @@ module _ (naming : List ℕ → ℕ) (s : Station) (u : List ℕ) where
   as-was : (c z : ℕ) → c ≡ c + z * 0
   as-was c z = omega arith
 
-  kind-raises : (h : Header) (n : ℕ) (ru : List ℕ) → firstNo (kindQuestions (s .end) h n ru) ≡ 0 → Raises (isPacing h) (tookKind s h n ru)
-  unfolding dataJoined bidAnswered creditRaised
-  kind-raises (Data d) n ru k = as-was (creditOf (s .end)) (s .end .sending .window .size)
-  kind-raises (Bid p) n ru k = as-was (creditOf (s .end)) (s .end .sending .window .size)
-  kind-raises PositiveBidResponse n ru k = as-was (creditOf (s .end)) (s .end .sending .window .size)
-  kind-raises NegativeBidResponse n ru k = as-was (creditOf (s .end)) (s .end .sending .window .size)
-  kind-raises Confirmation n ru k = as-was (creditOf (s .end)) (s .end .sending .window .size)
-  kind-raises PacingResponse n ru k =
-      let w = s .end .sending .window in
-      let t = yes (kindQuestions (s .end) PacingResponse n ru) tt k in
-      response-raises w (t 1) ∙ (let y : credit w + w .size ≡ credit w + w .size * 1 = omega arith in y)
-
   unmoved : (c : ℕ) → c + 0 ≡ c
   unmoved c = omega arith
 
-  kind-lowers : (h : Header) (n : ℕ) (ru : List ℕ) → recordGood (s .end) ≡ true → firstNo (kindQuestions (s .end) h n ru) ≡ 0
-      → Lowers (asksFor h) (tookKind s h n ru)
-  unfolding dataJoined bidAnswered creditRaised requestTaken
-  kind-lowers (Data d) n ru g k =
-      let w = s .end .receiving .window in
-      let t = yes (kindQuestions (s .end) (Data d) n ru) tt k in
-      request-costs w (facts (s .end) g .receiving .window) (left (hasCredit w) (agree (d .pacing) (paced w)) (t 1))
-  kind-lowers (Bid p) n ru g k =
-      let w = s .end .receiving .window in
-      let t = yes (kindQuestions (s .end) (Bid p) n ru) tt k in
-      request-costs w (facts (s .end) g .receiving .window) (left (hasCredit w) (agree p (paced w)) (t 1))
-  kind-lowers PositiveBidResponse n ru g k = unmoved (openOf (s .end))
-  kind-lowers NegativeBidResponse n ru g k = unmoved (openOf (s .end))
-  kind-lowers Confirmation n ru g k = unmoved (openOf (s .end))
-  kind-lowers PacingResponse n ru g k = unmoved (openOf (s .end))
-
-  refused-count : (q : ℕ) (b : Bool) → eqb q 0 ≡ false → count (eqb q 0 && b) ≡ 0
-  refused-count q b n = ap (λ (x : Bool). count (x && b)) n
-
   response-raises-window : Raises (isPacingResponse u) (taken naming s u)
+  unfolding dataJoined bidAnswered creditRaised
   response-raises-window =
-      take-cases (Raises (isPacingResponse u)) naming s u
-      (λ q w n.
-      as-was (creditOf (s .end)) (s .end .sending .window .size)
-      ∙ ap (λ (k : ℕ). creditOf (s .end) + s .end .sending .window .size * k) (sym (refused-count q (isPacingResponse u) n)))
-      (λ a k.
-      rw (pacing-taken u (a .header)) (kind-raises (headerTaken u) (numberIn u) (ruTaken u) k))
+      let w = s .end .sending .window in
+      let same = as-was (credit w) (w .size) in
+      take-cases (Raises (isPacingResponse u)) naming s u (λ q x n. rw n same) (λ d a e k. rw (pacing-taken u (a .header), e) same)
+      (λ p a e k m. rw (pacing-taken u (a .header), e) same) (λ c a e m. rw (pacing-taken u (a .header), e) same)
+      (λ a e k. rw (pacing-taken u (a .header), e) (response-raises w k ∙ (let y : credit w + w .size ≡ credit w + w .size * 1 = omega arith in y)))
 
   request-lowers-one : Lowers (isRequest u) (taken naming s u)
+  unfolding dataJoined bidAnswered creditRaised requestTaken
   request-lowers-one =
-      take-cases (Lowers (isRequest u)) naming s u
-      (λ q w n. ap (λ (k : ℕ). openOf (s .end) + k) (refused-count q (isRequest u) n) ∙ unmoved (openOf (s .end)))
-      (λ a k. rw (request-taken u (a .header)) (kind-lowers (headerTaken u) (numberIn u) (ruTaken u) (a .good) k))
+      let w = s .end .receiving .window in
+      let same = unmoved (openOf (s .end)) in
+      take-cases (Lowers (isRequest u)) naming s u (λ q x n. rw n same)
+      (λ d a e k. rw (request-taken u (a .header), e) (request-costs w (facts (s .end) (a .good) .receiving .window) (k .request .credit)))
+      (λ p a e k m. rw (request-taken u (a .header), e) (request-costs w (facts (s .end) (a .good) .receiving .window) (k .credit)))
+      (λ c a e m. rw (request-taken u (a .header), e) same) (λ a e k. rw (request-taken u (a .header), e) same)
 
 pub credit-exact : CreditExact
 credit-exact =

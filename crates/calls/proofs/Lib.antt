@@ -1,6 +1,7 @@
-pub mod CallCases
-pub mod UnitsByHeader
 pub mod ByteLists
+pub mod UnitsByHeader
+pub mod ControlMoved
+pub mod CallCases
 pub mod Refusals
 pub mod RecordStaysGood
 pub mod CellsStayBytes

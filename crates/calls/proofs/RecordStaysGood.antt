@@ -1,28 +1,19 @@
 -- Every call keeps question 5: the record that it leaves is within the section 'The end's record'.
 -- Assumes nothing.
 use Prim.Native.Nat.{ℕ, _+_, _-_, _*_, _≤_, _<_}
-use mathlib.Core.Path.{_≡_, refl, sym, subst}
-use mathlib.Core.Bool.{Bool, true, false, not, cond, _&&_, _||_}
+use mathlib.Core.Path.{_≡_, refl, sym, ap, subst}
+use mathlib.Core.Bool.{Bool, true, false, not, cond}
 use mathlib.Core.List.{List}
 use native.Mathlib.Omega.{arith}
 use borrow.Author.Tests.{eq-eqb, eqb-true, eqb-false, leb-true, leb-false, le-leb, ne-eqb}
 use lib.Dec.{eqb, leb}
 use lib.ListN.{length, take}
-use Rattle.header.specs.Header.{beginsBracket}
-use Rattle.unit.specs.Ru.{marks, ruGood}
 use Rattle.unit.specs.Unit.{RU-START, numberIn}
 use Rattle.header.specs.declared.Follows.{Follows}
-use Rattle.header.specs.declared.DataHeader.{DataHeader}
-use Rattle.header.specs.declared.Header.{Header}
-use Rattle.header.specs.declared.Header.the-variants.{Data, Bid, PositiveBidResponse, NegativeBidResponse, Confirmation, PacingResponse}
-use Rattle.pacing.specs.Pacing.{sizeGood, hasCredit, paced}
-use Rattle.control.specs.Tests.{isReset, isSend, isReceive, agree}
-use Rattle.control.specs.Questions.{grantFits, refusalFits, confirmationFits}
-use Rattle.transitions.specs.Transitions.{allocated, spilled, confirmationMade, markAnswered, grantTaken, refusalTaken, confirmationTaken}
+use Rattle.pacing.specs.Pacing.{sizeGood}
+use Rattle.transitions.specs.Transitions.{allocated, spilled, confirmationMade, markAnswered}
 use Rattle.control.specs.declared.Control.{Control}
 use Rattle.control.specs.declared.Role.{Role}
-use Rattle.control.specs.declared.State.{State}
-use Rattle.control.specs.declared.State.the-variants.{Reset, Send, Receive, ConfirmOwed, ConfirmAwaited}
 use Rattle.answers.specs.Questions.{firstNo}
 use Rattle.answers.specs.Answers.{accepted, refused}
 use Rattle.sides.specs.Shared.{maxGood}
@@ -35,7 +26,7 @@ use Rattle.end.specs.Outcome.{withControl, withReceiving}
 use Rattle.end.specs.Allocate.{bidMade}
 use Rattle.end.specs.SendData.{given, gone, bytesKept, bytesSpilled}
 use Rattle.end.specs.Close.{lastMade}
-use Rattle.end.specs.ReceiveUnit.{kindQuestions, headerTaken, ruTaken, dataJoined, bidAnswered, creditRaised}
+use Rattle.end.specs.ReceiveUnit.{ruTaken, dataJoined, bidAnswered, creditRaised}
 use Rattle.end.specs.Receive.{bytesRead}
 use Rattle.sides.specs.Receiving.{windowAnswered}
 use Rattle.sides.specs.declared.Session.{Session}
@@ -44,7 +35,8 @@ use Rattle.end.specs.declared.Done.{Done}
 use Rattle.answers.proofs.Rows.{yes}
 use Rattle.bools.proofs.Tests.{both, join, left, right}
 use Rattle.calls.proofs.ByteLists.{drop-bytes, take-bytes}
-use Rattle.calls.proofs.CallCases.{allocate-cases, close-cases, confirmed-cases, pace-cases, read-cases, readCount, send-cases, take-cases, tookKind}
+use Rattle.calls.proofs.CallCases.{allocate-cases, close-cases, confirmed-cases, pace-cases, read-cases, readCount, send-cases, take-cases, control-within}
+use Rattle.calls.proofs.ControlMoved.{Moved, allocate-moves, confirmed-moves, mark-moves}
 use Rattle.calls.specs.Calls.{Called, Station, Verb, called, taken}
 use Rattle.calls.specs.Laws.{AllBytes, BytesOf, StaysGood}
 use Rattle.calls.proofs.Refusals.{accepted-good, accepted-take-good}
@@ -56,18 +48,15 @@ use Rattle.logical_record.specs.declared.Position.{Position}
 use Rattle.logical_record.specs.declared.Walked.{Walked}
 use Rattle.logical_record.specs.declared.Walked.the-variants.{At, BadLength}
 use Rattle.logical_record.proofs.Walks.{walk-position}
-use Rattle.transitions.proofs.KeptWithin.{allocated-keeps, answered-keeps, bid-keeps, closed-leaves, confirmation-keeps, confirmed-keeps, data-keeps, fresh-within, given-leaves, grant-keeps, refusal-keeps, spilled-leaves}
+use Rattle.transitions.proofs.KeptWithin.{closed-leaves, data-keeps, fresh-within, given-leaves, spilled-leaves}
 use Rattle.control.specs.Within.{controlGood}
-use Rattle.control.proofs.Within.{control-facts, control-good, heldFits, within}
+use Rattle.control.proofs.Within.{control-facts, heldFits, within}
 use Rattle.sides.proofs.Within.{SendingWithin, ReceivingWithin, max-facts, request-made, request-taken, window-answered}
 
 -- ---- the finite part by the bytes held, and the record put together again
 
 abbrev Fits : Control → ℕ → Type 0
 Fits c held = within c (leb 1 held) (eqb held 0) ≡ true
-
-control-within : (e : End) → recordGood e ≡ true → controlGood (e .control) ≡ true
-control-within e g = control-good (e .control) (facts e g .control)
 
 fits-of : (e : End) → recordGood e ≡ true → Fits (e .control) (e .sending .held)
 fits-of e g = join (controlGood (e .control)) _ (control-within e g) (facts e g .fits)
@@ -98,20 +87,19 @@ module _ (s : Station) (g : recordGood (s .end) ≡ true) where
   After m = recordGood (m .end .end) ≡ true
 
   -- another finite part, and all else as it was
-  control-kept : (c : Control) → Fits c (s .end .sending .held) → recordGood (withControl c (s .end)) ≡ true
-  control-kept c f = good-from (withControl c (s .end)) f (facts (s .end) g .sending) (facts (s .end) g .receiving)
+  control-kept : (c : Control) → Moved (s .end .control) c → recordGood (withControl c (s .end)) ≡ true
+  control-kept c m = good-from (withControl c (s .end)) (m .keeps _ _ (fits-of (s .end) g)) (facts (s .end) g .sending) (facts (s .end) g .receiving)
 
   allocates : After (called s Verb.allocate)
   unfolding bidMade requestMade
   allocates =
       let e = s .end in
-      let n = e .sending .held in
       let o = facts e g .sending in
-      allocate-cases After s (λ q x. g)
-      (λ x a w. control-kept (allocated (e .control)) (allocated-keeps (e .control) (leb 1 n) (eqb n 0) a (fits-of e g)))
+      let moves = allocate-moves (e .control) (control-within e g) in
+      allocate-cases After s (λ q x. g) (λ x a w. control-kept (allocated (e .control)) (moves a))
       (λ x a w k.
-      good-from (bidMade e .end) (allocated-keeps (e .control) (leb 1 n) (eqb n 0) a (fits-of e g))
-      (request-made (e .sending) n (e .sending .given) (o .held) (o .given) o) (facts e g .receiving))
+      good-from (bidMade e .end) (moves a .keeps _ _ (fits-of e g)) (request-made (e .sending) (e .sending .held) (e .sending .given) (o .held) (o .given) o)
+      (facts e g .receiving))
 
   closes : (f : Follows) (b : Bool) → After (called s (Verb.close f b))
   unfolding lastMade requestMade
@@ -149,7 +137,6 @@ module _ (s : Station) (g : recordGood (s .end) ≡ true) where
   unfolding bytesRead
   reads buffer b =
       let e = s .end in
-      let n = e .sending .held in
       let i = facts e g .receiving in
       let k = readCount s buffer in
       let room = i .room in
@@ -163,16 +150,14 @@ module _ (s : Station) (g : recordGood (s .end) ≡ true) where
         taken = i .taken;
         read = place-good (e .receiving .read) (take k (s .inbox)) (i .read) (take-bytes k (s .inbox) b);
       }))
-      (λ a h m. control-kept (markAnswered (e .control)) (answered-keeps (e .control) (leb 1 n) (eqb n 0) m (fits-of e g)))
+      (λ a h m. control-kept (markAnswered (e .control)) (mark-moves (e .control) (control-within e g) m))
 
   calls : (v : Verb) → BytesOf v → AllBytes (s .inbox) → After (called s v)
   unfolding called
   calls Verb.allocate b i = allocates
   calls Verb.confirmed b i =
-      let e = s .end in
-      let n = e .sending .held in
-      confirmed-cases After s (λ q x. g)
-      (λ x a. control-kept (confirmationMade (e .control)) (confirmed-keeps (e .control) (leb 1 n) (eqb n 0) a (fits-of e g)))
+      let c = s .end .control in
+      confirmed-cases After s (λ q x. g) (λ x a. control-kept (confirmationMade c) (confirmed-moves c (control-within (s .end) g) a))
   calls Verb.pace b i =
       let e = s .end in
       pace-cases After s (λ q x. g)
@@ -188,77 +173,27 @@ good-acts s v b i g = calls s g v b i
 
 -- ---- takes
 
--- 26: data comes only outside Send
-fits-not-sending : (s : State) (b : Bool) → isReceive s || (isReset s && b) ≡ true → not (isSend s) ≡ true
-fits-not-sending Reset b e = refl
-fits-not-sending Send b e = e
-fits-not-sending Receive b e = refl
-fits-not-sending ConfirmOwed b e = refl
-fits-not-sending ConfirmAwaited b e = refl
-
-module _ (s : Station) (g : recordGood (s .end) ≡ true) where
-  abbrev Left : Called → Type 0
-  Left t = recordGood (t .end .end) ≡ true
-
-  -- 22: the RU is at most M
-  ru-most : (d : DataHeader) (ru : List ℕ) → ruGood (s .end .receiving .max) (Data d) ru ≡ true → length ru ≤ s .end .receiving .max
-  unfolding ruGood
-  ru-most d ru e =
-      let m = s .end .receiving .max in
-      leb-true (length ru) m (left (leb (length ru) m) (leb 1 (length ru) || marks (d .ends)) e)
-
-  kind-good : (h : Header) (n : ℕ) (ru : List ℕ) → AllBytes ru → firstNo (kindQuestions (s .end) h n ru) ≡ 0 → Left (tookKind s h n ru)
-  unfolding dataJoined bidAnswered creditRaised requestTaken
-  kind-good (Data d) n ru b k =
-      let e = s .end in
-      let c = e .control in
-      let r = e .receiving in
-      let t = yes (kindQuestions e (Data d) n ru) tt k in
-      let i = facts e g .receiving in
-      let most = ru-most d ru (t 0) in
-      good-from (dataJoined e d n ru .end)
-      (data-keeps (d .ends) c (leb 1 (e .sending .held)) (eqb (e .sending .held) 0)
-      (fits-not-sending (c .state) (beginsBracket (d .begins)) (t 5)) (fits-of e g))
-      (facts e g .sending)
-      (request-taken r (r .held + length ru) _ (left (hasCredit (r .window)) (agree (d .pacing) (paced (r .window))) (t 1)) (omega arith)
-      (place-good (r .taken) ru (i .taken) b) i)
-  kind-good (Bid p) n ru b k =
-      let e = s .end in
-      let c = e .control in
-      let r = e .receiving in
-      let t = yes (kindQuestions e (Bid p) n ru) tt k in
-      let i = facts e g .receiving in
-      good-from (bidAnswered e n .end) (bid-keeps c (leb 1 (e .sending .held)) (eqb (e .sending .held) 0) (fits-of e g)) (facts e g .sending)
-      (request-taken r (r .held) (r .taken) (left (hasCredit (r .window)) (agree p (paced (r .window))) (t 1)) (omega arith) (i .taken) i)
-  kind-good PositiveBidResponse n ru b k =
-      let e = s .end in
-      let t = yes (kindQuestions e PositiveBidResponse n ru) tt k in
-      control-kept s g (grantTaken (e .control))
-      (grant-keeps (e .control) (leb 1 (e .sending .held)) (eqb (e .sending .held) 0) (left (grantFits (e .control)) (eqb n (e .bidding)) (t 1)) (fits-of e g))
-  kind-good NegativeBidResponse n ru b k =
-      let e = s .end in
-      let t = yes (kindQuestions e NegativeBidResponse n ru) tt k in
-      control-kept s g (refusalTaken (e .control))
-      (refusal-keeps (e .control) (leb 1 (e .sending .held)) (eqb (e .sending .held) 0)
-      (left (refusalFits (e .control)) (eqb n (e .bidding)) (t 1)) (fits-of e g))
-  kind-good Confirmation n ru b k =
-      let e = s .end in
-      let t = yes (kindQuestions e Confirmation n ru) tt k in
-      control-kept s g (confirmationTaken (e .control))
-      (confirmation-keeps (e .control) (leb 1 (e .sending .held)) (eqb (e .sending .held) 0)
-      (left (confirmationFits (e .control)) (eqb n (e .sending .number)) (t 1)) (fits-of e g))
-  kind-good PacingResponse n ru b k =
-      let e = s .end in
-      let o = facts e g .sending in
-      good-from (creditRaised e .end) (fits-of e g)
-      (record { window = answered-good (e .sending .window) (o .window); max = o .max; held = o .held; given = o .given }) (facts e g .receiving)
-
 -- every take leaves a good record
 pub good-takes :
     (naming : List ℕ → ℕ) (s : Station) (u : List ℕ) → AllBytes u → recordGood (s .end) ≡ true → recordGood (taken naming s u .end .end) ≡ true
+unfolding dataJoined bidAnswered creditRaised requestTaken
 good-takes naming s u b g =
-    take-cases (Left s g) naming s u (λ q w x. g)
-    (λ a k. kind-good s g (headerTaken u) (numberIn u) (ruTaken u) (drop-bytes RU-START u b) k)
+    let e = s .end in
+    let r = e .receiving in
+    let ru = ruTaken u in
+    let o = facts e g .sending in
+    let i = facts e g .receiving in
+    let fits = fits-of e g in
+    take-cases (After s g) naming s u (λ q w x. g)
+    (λ d a w k.
+    let most = k .short in
+    good-from (dataJoined e d (numberIn u) ru .end)
+    (data-keeps (d .ends) (e .control) (leb 1 (e .sending .held)) (eqb (e .sending .held) 0) (ap not (k .away)) fits) o
+    (request-taken r (r .held + length ru) _ (k .request .credit) (omega arith) (place-good (r .taken) ru (i .taken) (drop-bytes RU-START u b)) i))
+    (λ p a w k m.
+    good-from (bidAnswered e (numberIn u) .end) (m .keeps _ _ fits) o (request-taken r (r .held) (r .taken) (k .credit) (omega arith) (i .taken) i))
+    (λ c a w m. control-kept s g c m)
+    (λ a w k. good-from (creditRaised e .end) fits (record { window = answered-good (e .sending .window) (o .window); max = o .max; held = o .held; given = o .given }) i)
 
 -- ---- openings
 

@@ -9,8 +9,6 @@ use borrow.Author.Tests.{eqb-true, ne-eqb}
 use lib.Dec.{eqb}
 use lib.ListN.{length}
 use Rattle.unit.specs.Unit.{numberIn}
-use Rattle.header.specs.declared.Header.{Header}
-use Rattle.header.specs.declared.Header.the-variants.{Data, Bid, PositiveBidResponse, NegativeBidResponse, Confirmation, PacingResponse}
 use Rattle.control.specs.Tests.{isFirstSpeaker}
 use Rattle.transitions.specs.Transitions.{allocated}
 use Rattle.answers.specs.Questions.{firstNo}
@@ -23,14 +21,14 @@ use Rattle.end.specs.Allocate.{allocateRefusal, bidMade, allocateDecision, allo
 use Rattle.end.specs.SendData.{sendRefusal, bytesKept, bytesSpilled, sendDecision, sendData}
 use Rattle.end.specs.Close.{nothingGoes, closeRefusal, lastMade, closeDecision, close}
 use Rattle.end.specs.Confirmed.{confirmedRefusal, confirmedDecision, confirmed}
-use Rattle.end.specs.ReceiveUnit.{kindQuestions, headerTaken, ruTaken, takeRefusal, dataJoined, bidAnswered, creditRaised, kindTaken, takeDecision, receiveUnit}
+use Rattle.end.specs.ReceiveUnit.{headerTaken, ruTaken, takeRefusal, takeDecision, receiveUnit}
 use Rattle.end.specs.Receive.{someHeld, readRefusal, bytesRead, markRead, readDecision, receive}
 use Rattle.end.specs.Pace.{paceRefusal, paceDecision, pace}
 use Rattle.end.specs.declared.End.{End}
 use Rattle.end.specs.declared.ReadDone.{ReadDone}
 use Rattle.bools.proofs.Cases.{cases}
 use Rattle.bools.proofs.Tests.{join, left, never, right}
-use Rattle.calls.proofs.CallCases.{allocate-cases, close-cases, confirmed-cases, pace-cases, read-cases, send-cases, take-cases, tookKind}
+use Rattle.calls.proofs.CallCases.{allocate-cases, close-cases, confirmed-cases, pace-cases, read-cases, send-cases, kind-cases, take-cases, kind-accepted, passes, kind-passes-5}
 use Rattle.calls.specs.Calls.{Called, Station, Verb, called, refusalIn, taken}
 use Rattle.calls.specs.Laws.{Refusals, questions, takeQuestions}
 
@@ -80,15 +78,6 @@ number-is s (Verb.receive buffer) =
     (λ y. cases (λ (d : ReadDone). d .answer .answer .refusal ≡ q) (someHeld (s .end)) (λ h. sym (eqb-true q 0 y)) (λ h. sym (eqb-true q 0 y)))
     (λ n. refl)
 
-kind-accepted : (e : End) (h : Header) (n : ℕ) (ru : List ℕ) → kindTaken e h n ru .refusal ≡ 0
-unfolding dataJoined bidAnswered creditRaised
-kind-accepted e (Data d) n ru = refl
-kind-accepted e (Bid p) n ru = refl
-kind-accepted e PositiveBidResponse n ru = refl
-kind-accepted e NegativeBidResponse n ru = refl
-kind-accepted e Confirmation n ru = refl
-kind-accepted e PacingResponse n ru = refl
-
 pub take-number-is : (naming : List ℕ → ℕ) (s : Station) (u : List ℕ) → refusalIn (taken naming s u .answer) ≡ firstNo (takeQuestions s u)
 unfolding taken receiveUnit takeDecision takeRefusal
 take-number-is naming s u =
@@ -96,12 +85,7 @@ take-number-is naming s u =
 
 -- ---- 5 is no number of a call whose record is within the section
 
--- no question that gives the number k is answered no
-abbrev passes : ℕ → List (Bool × ℕ) → Bool
-passes k [] = true
-passes k (q ∷ qs) = (not (eqb (q .1) k) || q .0) && passes k qs
-
-not-first : (qs : List (Bool × ℕ)) (k : ℕ) → eqb 0 k ≡ false → passes k qs ≡ true → eqb (firstNo qs) k ≡ false
+pub not-first : (qs : List (Bool × ℕ)) (k : ℕ) → eqb 0 k ≡ false → passes k qs ≡ true → eqb (firstNo qs) k ≡ false
 not-first [] k z p = z
 not-first (q ∷ qs) k z p =
     cases (λ (n : ℕ). eqb n k ≡ false) (q .0)
@@ -124,18 +108,10 @@ module _ (s : Station) (g : recordGood (s .end) ≡ true) where
   pub never-5 : (v : Verb) → eqb (refusalIn (called s v .answer)) 5 ≡ false
   never-5 v = ap (λ (q : ℕ). eqb q 5) (number-is s v) ∙ not-first (questions s v) 5 refl (asked-5 v)
 
-  kind-5 : (h : Header) (n : ℕ) (ru : List ℕ) → passes 5 (kindQuestions (s .end) h n ru) ≡ true
-  kind-5 (Data d) n ru = refl
-  kind-5 (Bid p) n ru = refl
-  kind-5 PositiveBidResponse n ru = refl
-  kind-5 NegativeBidResponse n ru = refl
-  kind-5 Confirmation n ru = refl
-  kind-5 PacingResponse n ru = refl
-
   pub take-never-5 : (naming : List ℕ → ℕ) (u : List ℕ) → eqb (refusalIn (taken naming s u .answer)) 5 ≡ false
   take-never-5 naming u =
       ap (λ (q : ℕ). eqb q 5) (take-number-is naming s u)
-      ∙ not-first (takeQuestions s u) 5 refl (join (recordGood (s .end)) _ g (kind-5 (headerTaken u) (numberIn u) (ruTaken u)))
+      ∙ not-first (takeQuestions s u) 5 refl (join (recordGood (s .end)) _ g (kind-passes-5 (s .end) (headerTaken u) (numberIn u) (ruTaken u)))
 
 -- ---- calls that the end answers by itself
 
@@ -179,23 +155,15 @@ module _ (naming : List ℕ → ℕ) (s : Station) (u : List ℕ) where
   abbrev Untaken : Called → Type 0
   Untaken t = eqb (refusalIn (t .answer)) 0 ≡ false → (t .end ≡ s) × (t .sent ≡ [])
 
-  kind-untaken : (h : Header) (n : ℕ) (ru : List ℕ) → Untaken (tookKind s h n ru)
-  kind-untaken (Data d) n ru h = yes h
-  kind-untaken (Bid p) n ru h = yes h
-  kind-untaken PositiveBidResponse n ru h = yes h
-  kind-untaken NegativeBidResponse n ru h = yes h
-  kind-untaken Confirmation n ru h = yes h
-  kind-untaken PacingResponse n ru h = yes h
-
   -- a refused take changes nothing, makes no unit, and leaves the unit on its line
   pub refused-take-nothing : eqb (refusalIn (taken naming s u .answer)) 0 ≡ false
       → (taken naming s u .end ≡ s) × (taken naming s u .sent ≡ [])
   refused-take-nothing =
-      take-cases Untaken naming s u (λ q w n h. (refl, refl)) (λ a k. kind-untaken (headerTaken u) (numberIn u) (ruTaken u))
+      take-cases Untaken naming s u (λ q w n h. (refl, refl)) (λ d a e k h. yes h) (λ p a e k m h. yes h) (λ c a e m h. yes h) (λ a e k h. yes h)
 
   pub accepted-take-good : eqb (refusalIn (taken naming s u .answer)) 0 ≡ true → recordGood (s .end) ≡ true
   accepted-take-good =
-      take-cases (λ (t : Called). eqb (refusalIn (t .answer)) 0 ≡ true → recordGood (s .end) ≡ true) naming s u
+      kind-cases (λ (t : Called). eqb (refusalIn (t .answer)) 0 ≡ true → recordGood (s .end) ≡ true) naming s u
       (λ q w n h. no (eqb q 0) n h) (λ a k h. a .good)
 
 pub refusals : Refusals

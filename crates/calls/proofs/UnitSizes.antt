@@ -11,17 +11,16 @@ use Rattle.unit.specs.Ru.{bidRu, fixedRu}
 use Rattle.unit.specs.Unit.{unitOf, numberIn}
 use Rattle.unit.proofs.Units.{unit-length}
 use Rattle.header.specs.declared.Header.{Header}
-use Rattle.header.specs.declared.Header.the-variants.{Data, Bid, PositiveBidResponse, NegativeBidResponse, Confirmation, PacingResponse}
 use Rattle.transitions.specs.Transitions.{bidAnswer}
 use Rattle.end.specs.Record.{recordGood}
 use Rattle.end.specs.SendData.{heldBytes}
 use Rattle.end.specs.Receive.{bytesRead, markRead}
-use Rattle.end.specs.ReceiveUnit.{headerTaken, ruTaken}
 use Rattle.end.specs.declared.End.{End}
 use Rattle.end.proofs.Within.{facts}
 use Rattle.calls.specs.Calls.{Called, Station, Verb, called, taken}
 use Rattle.calls.specs.Laws.{UnitsFit}
-use Rattle.calls.proofs.CallCases.{spilledRu, allocate-cases, send-cases, close-cases, confirmed-cases, pace-cases, read-cases, take-cases, tookKind}
+use Rattle.calls.proofs.CallCases.{spilledRu, allocate-cases, send-cases, close-cases, confirmed-cases, pace-cases, read-cases, take-cases}
+use Rattle.calls.proofs.UnitsByHeader.{fixed-ru}
 
 -- a unit of n bytes at the front of these cells, short enough
 pub record Fits (n : ℕ) (cells : List ℕ) : Type 0 where
@@ -61,30 +60,11 @@ module _ (s : Station) where
   acts-fit (Verb.receive buffer) =
       read-cases After s buffer (λ q w n. none (s .unit)) (λ a h. none (s .unit)) (λ a h m. none (s .unit))
 
-  fixed-short : (h : Header) → length (fixedRu h) ≤ 1024
-  fixed-short (Data d) = omega arith
-  fixed-short (Bid p) = omega arith
-  fixed-short PositiveBidResponse = omega arith
-  fixed-short NegativeBidResponse = omega arith
-  fixed-short Confirmation = omega arith
-  fixed-short PacingResponse = omega arith
-
-  abbrev AfterTake : Called → Type 0
-  AfterTake t = Fits (t .answer .answer .answer .unit) (t .end .unit)
-
-  kind-fits : (h : Header) (n : ℕ) (ru : List ℕ) → AfterTake (tookKind s h n ru)
-  kind-fits (Data d) n ru = none (s .unit)
-  kind-fits (Bid p) n ru =
-      let h = bidAnswer (s .end .control) in
-      unit-fits n h (fixedRu h) (s .unit) (fixed-short h)
-  kind-fits PositiveBidResponse n ru = none (s .unit)
-  kind-fits NegativeBidResponse n ru = none (s .unit)
-  kind-fits Confirmation n ru = none (s .unit)
-  kind-fits PacingResponse n ru = none (s .unit)
-
-  pub takes-fit : (naming : List ℕ → ℕ) (u : List ℕ) → AfterTake (taken naming s u)
+  pub takes-fit : (naming : List ℕ → ℕ) (u : List ℕ) → After (taken naming s u)
   takes-fit naming u =
-      take-cases AfterTake naming s u (λ q w n. none (s .unit)) (λ a k. kind-fits (headerTaken u) (numberIn u) (ruTaken u))
+      let h = bidAnswer (s .end .control) in
+      take-cases After naming s u (λ q w n. none (s .unit)) (λ d a e k. none (s .unit))
+      (λ p a e k m. unit-fits (numberIn u) h (fixedRu h) (s .unit) (fixed-ru h .0)) (λ c a e m. none (s .unit)) (λ a e k. none (s .unit))
 
 pub units-fit : UnitsFit
 units-fit =

@@ -1,38 +1,94 @@
--- What is counted of a unit is what its header says.
+-- What a unit is, by its header alone: the sort of a unit, what is counted of it, and its bytes. Every proof above that asks no more goes by the sort, and a new
+-- kind of header is a line here.
 -- Assumes nothing.
-use Prim.Native.Nat.{ℕ, _+_}
+use Prim.Native.Nat.{ℕ, _+_, _/_, _%_, _≤_, _<_}
 use mathlib.Core.Path.{_≡_, refl, sym, ap, _∙_}
 use mathlib.Core.Bool.{Bool, true, false, not, cond, _&&_}
 use mathlib.Core.List.{List, [], _∷_}
+use native.Mathlib.Omega.{arith}
 use lib.Dec.{eqb}
-use Rattle.header.specs.Weights.{on, bit, FIRST, LAST}
+use lib.ListN.{length}
+use Rattle.cells.specs.Equal.{sameBytes}
+use Rattle.header.specs.Weights.{on, bit, FIRST, LAST, DR1, DR2, EXCEPTION, PACING, BB, CD, CEB}
 use Rattle.header.specs.Rules.{bytes, isData, sameHeader, headerGood}
-use Rattle.header.specs.Header.{headerBytes, fieldsOf, dataFields, isFirst, isLast}
-use Rattle.unit.specs.Unit.{unitOf, headerIn}
+use Rattle.header.specs.Header.{headerBytes, fieldsOf, dataFields, isFirst, beginsBracket, isLast, confirms, followsOf, turns, endsBracket}
+use Rattle.unit.specs.Ru.{bidRu, positiveRu, negativeRu, fixedRu, ruGood}
+use Rattle.unit.specs.Unit.{unitBytes, unitOf, headerIn}
 use Rattle.header.specs.declared.HeaderBytes.{HeaderBytes}
+use Rattle.header.specs.declared.DataHeader.{DataHeader}
 use Rattle.header.specs.declared.Header.{Header}
 use Rattle.header.specs.declared.Header.the-variants.{Data, Bid, PositiveBidResponse, NegativeBidResponse, Confirmation, PacingResponse}
 use Rattle.header.proofs.RoundTrip.{built-fields, read-bytes}
 use Rattle.unit.proofs.Units.{unit-header, unit-ru}
+use Rattle.control.specs.Tests.{isReset}
+use Rattle.control.specs.declared.Control.{Control}
+use Rattle.transitions.specs.Transitions.{bidAnswer}
 use Rattle.end.specs.ReceiveUnit.{headerTaken, ruTaken}
+use Rattle.bools.proofs.Cases.{cases}
+use Rattle.calls.specs.Laws.{AllBytes}
 use Rattle.calls.specs.UnitCounts.{count, dataRu, isPacingResponse, isRequest, requestsAmong}
+use Rattle.calls.proofs.ByteLists.{are-bytes, cons-bytes}
+
+-- ---- sorts
+
+pub data Sort : Type 0 where
+  -- a request that brings bytes
+  brings : DataHeader → Sort
+  -- a request that brings none, with its pacing bit
+  asks : Bool → Sort
+  -- a response that changes the finite part alone
+  answers : Sort
+  -- a pacing response
+  paces : Sort
+
+abbrev pub sortOf : Header → Sort
+sortOf (Data d) = brings d
+sortOf (Bid p) = asks p
+sortOf PositiveBidResponse = answers
+sortOf NegativeBidResponse = answers
+sortOf Confirmation = answers
+sortOf PacingResponse = paces
+
+-- the bytes of data, and of no other sort
+abbrev pub dataOf : Sort → List ℕ → List ℕ
+dataOf (brings d) ru = ru
+dataOf (asks p) ru = []
+dataOf answers ru = []
+dataOf paces ru = []
+
+abbrev pub isAsking : Sort → Bool
+isAsking (brings d) = true
+isAsking (asks p) = true
+isAsking answers = false
+isAsking paces = false
+
+abbrev pub isPacing : Sort → Bool
+isPacing (brings d) = false
+isPacing (asks p) = false
+isPacing answers = false
+isPacing paces = true
+
+-- the pacing bit of a request
+abbrev pub bitOf : Sort → Bool
+bitOf (brings d) = d .pacing
+bitOf (asks p) = p
+bitOf answers = false
+bitOf paces = false
+
+-- the answer to a bid
+pub answer-sort : (c : Control) → sortOf (bidAnswer c) ≡ answers
+answer-sort c = cases (λ (h : Header). sortOf h ≡ answers) (isReset (c .state)) (λ y. refl) (λ n. refl)
 
 -- ---- a unit that a call makes is read as it was made
 
 pub taken-header : (n : ℕ) (h : Header) (ru : List ℕ) → headerTaken (unitOf n h ru) ≡ h
 taken-header n h ru = ap fieldsOf (unit-header n h ru) ∙ built-fields h
 
--- the bytes of data, and of no other kind
-abbrev pub dataOf : Header → List ℕ → List ℕ
-dataOf (Data d) ru = ru
-dataOf (Bid p) ru = []
-dataOf PositiveBidResponse ru = []
-dataOf NegativeBidResponse ru = []
-dataOf Confirmation ru = []
-dataOf PacingResponse ru = []
+-- ---- the bytes of data on a line
 
 by-kind : (a b c d e : Bool) (h : HeaderBytes) (p : Bool) (ru : List ℕ)
-    → cond a ru [] ≡ dataOf (cond a (Data (dataFields h)) (cond b (Bid p) (cond c (cond d PacingResponse Confirmation) (cond e PositiveBidResponse NegativeBidResponse)))) ru
+    → cond a ru []
+    ≡ dataOf (sortOf (cond a (Data (dataFields h)) (cond b (Bid p) (cond c (cond d PacingResponse Confirmation) (cond e PositiveBidResponse NegativeBidResponse))))) ru
 by-kind true b c d e h p ru = refl
 by-kind false true c d e h p ru = refl
 by-kind false false true true e h p ru = refl
@@ -40,60 +96,39 @@ by-kind false false true false e h p ru = refl
 by-kind false false false d true h p ru = refl
 by-kind false false false d false h p ru = refl
 
-pub data-ru : (u : List ℕ) → dataRu u ≡ dataOf (headerTaken u) (ruTaken u)
+pub data-ru : (u : List ℕ) → dataRu u ≡ dataOf (sortOf (headerTaken u)) (ruTaken u)
 unfolding fieldsOf
 data-ru u =
     let h = headerIn u in
     by-kind (isData h) (eqb (h .b0) 0x4B) (eqb (h .b0) 0x83) (on 0x01 (h .b1)) (eqb (h .b0) 0xCB) h (on 0x01 (h .b1)) (ruTaken u)
 
-pub data-unit : (n : ℕ) (h : Header) (ru : List ℕ) → dataRu (unitOf n h ru) ≡ dataOf h ru
-data-unit n h ru =
-    data-ru (unitOf n h ru) ∙ ap (λ (x : Header). dataOf x (ruTaken (unitOf n h ru))) (taken-header n h ru) ∙ ap (dataOf h) (unit-ru n h ru)
+pub data-unit : (n : ℕ) (h : Header) (ru : List ℕ) → dataRu (unitOf n h ru) ≡ dataOf (sortOf h) ru
+data-unit n h ru = data-ru (unitOf n h ru) ∙ rw (taken-header n h ru, unit-ru n h ru)
 
--- ---- requests
+-- ---- requests and pacing responses
 
-abbrev pub asksFor : Header → Bool
-asksFor (Data d) = true
-asksFor (Bid p) = true
-asksFor PositiveBidResponse = false
-asksFor NegativeBidResponse = false
-asksFor Confirmation = false
-asksFor PacingResponse = false
+-- what bytes 0 of a header say
+first-byte : (a b : Bool) → not (on 0x80 (bit a FIRST + bit b LAST)) ≡ true
+first-byte true true = refl
+first-byte true false = refl
+first-byte false true = refl
+first-byte false false = refl
 
-data-asks : (a b : Bool) → not (on 0x80 (bit a FIRST + bit b LAST)) ≡ true
-data-asks true true = refl
-data-asks true false = refl
-data-asks false true = refl
-data-asks false false = refl
-
-asks : (h : Header) → not (on 0x80 (headerBytes h .b0)) ≡ asksFor h
+asks-byte : (h : Header) → not (on 0x80 (headerBytes h .b0)) ≡ isAsking (sortOf h)
 unfolding headerBytes
-asks (Data d) = data-asks (isFirst (d .begins)) (isLast (d .ends))
-asks (Bid p) = refl
-asks PositiveBidResponse = refl
-asks NegativeBidResponse = refl
-asks Confirmation = refl
-asks PacingResponse = refl
+asks-byte (Data d) = first-byte (isFirst (d .begins)) (isLast (d .ends))
+asks-byte (Bid p) = refl
+asks-byte PositiveBidResponse = refl
+asks-byte NegativeBidResponse = refl
+asks-byte Confirmation = refl
+asks-byte PacingResponse = refl
 
-pub request-unit : (n : ℕ) (h : Header) (ru : List ℕ) → isRequest (unitOf n h ru) ≡ asksFor h
-request-unit n h ru = ap (λ (x : HeaderBytes). not (on 0x80 (x .b0))) (unit-header n h ru) ∙ asks h
-
-pub requests-unit : (n : ℕ) (h : Header) (ru : List ℕ) → requestsAmong (unitOf n h ru ∷ []) ≡ count (asksFor h) + 0
+pub requests-unit : (n : ℕ) (h : Header) (ru : List ℕ) → requestsAmong (unitOf n h ru ∷ []) ≡ count (isAsking (sortOf h)) + 0
 unfolding requestsAmong
-requests-unit n h ru = ap (λ (b : Bool). count b + 0) (request-unit n h ru)
+requests-unit n h ru = ap (λ (x : HeaderBytes). count (not (on 0x80 (x .b0))) + 0) (unit-header n h ru) ∙ rw (asks-byte h)
 
-pub request-taken : (u : List ℕ) → headerGood (headerIn u) ≡ true → isRequest u ≡ asksFor (headerTaken u)
-request-taken u g = ap (λ (x : HeaderBytes). not (on 0x80 (x .b0))) (sym (read-bytes (headerIn u) g)) ∙ asks (headerTaken u)
-
--- ---- pacing responses
-
-abbrev pub isPacing : Header → Bool
-isPacing (Data d) = false
-isPacing (Bid p) = false
-isPacing PositiveBidResponse = false
-isPacing NegativeBidResponse = false
-isPacing Confirmation = false
-isPacing PacingResponse = true
+pub request-taken : (u : List ℕ) → headerGood (headerIn u) ≡ true → isRequest u ≡ isAsking (sortOf (headerTaken u))
+request-taken u g = ap (λ (x : HeaderBytes). not (on 0x80 (x .b0))) (sym (read-bytes (headerIn u) g)) ∙ asks-byte (headerTaken u)
 
 data-no-response : (a b : Bool) (x : Bool) → eqb (bit a FIRST + bit b LAST) 0x83 && x ≡ false
 data-no-response true true x = refl
@@ -101,7 +136,7 @@ data-no-response true false x = refl
 data-no-response false true x = refl
 data-no-response false false x = refl
 
-responds : (h : Header) → sameHeader (headerBytes h) (bytes 0x83 0x01 0x00) ≡ isPacing h
+responds : (h : Header) → sameHeader (headerBytes h) (bytes 0x83 0x01 0x00) ≡ isPacing (sortOf h)
 unfolding headerBytes
 responds (Data d) = data-no-response (isFirst (d .begins)) (isLast (d .ends)) _
 responds (Bid p) = refl
@@ -110,6 +145,63 @@ responds NegativeBidResponse = refl
 responds Confirmation = refl
 responds PacingResponse = refl
 
-pub pacing-taken : (u : List ℕ) → headerGood (headerIn u) ≡ true → isPacingResponse u ≡ isPacing (headerTaken u)
+pub pacing-taken : (u : List ℕ) → headerGood (headerIn u) ≡ true → isPacingResponse u ≡ isPacing (sortOf (headerTaken u))
 pacing-taken u g =
     ap (λ (x : HeaderBytes). sameHeader x (bytes 0x83 0x01 0x00)) (sym (read-bytes (headerIn u) g)) ∙ responds (headerTaken u)
+
+-- ---- the bytes of a unit, and the RUs that are always the same
+
+bit-most : (b : Bool) (w : ℕ) → bit b w ≤ w
+bit-most true w = omega arith
+bit-most false w = omega arith
+
+confirm-most : (b : Bool) → cond b DR2 (DR1 + EXCEPTION) ≤ 0x90
+confirm-most true = omega arith
+confirm-most false = omega arith
+
+header-small : (h : Header) → (headerBytes h .b0 < 256) × (headerBytes h .b1 < 256) × (headerBytes h .b2 < 256)
+unfolding headerBytes
+header-small (Data d) =
+    let a = bit-most (isFirst (d .begins)) FIRST in
+    let b = bit-most (isLast (d .ends)) LAST in
+    let c = confirm-most (confirms (d .ends)) in
+    let e = bit-most (d .pacing) PACING in
+    let f = bit-most (beginsBracket (d .begins)) BB in
+    let g = bit-most (turns (followsOf (d .ends))) CD in
+    let h = bit-most (endsBracket (followsOf (d .ends))) CEB in
+    (omega arith, omega arith, omega arith)
+header-small (Bid p) = let a = bit-most p PACING in (omega arith, omega arith, omega arith)
+header-small PositiveBidResponse = (omega arith, omega arith, omega arith)
+header-small NegativeBidResponse = (omega arith, omega arith, omega arith)
+header-small Confirmation = (omega arith, omega arith, omega arith)
+header-small PacingResponse = (omega arith, omega arith, omega arith)
+
+-- the bytes of a unit that an end makes
+pub unit-bytes : (n : ℕ) (h : Header) (ru : List ℕ) → n < 65536 → AllBytes ru → AllBytes (unitOf n h ru)
+unfolding unitOf unitBytes
+unit-bytes n h ru l f =
+    let s = header-small h in
+    let b0 = headerBytes h .b0 in
+    let b1 = headerBytes h .b1 in
+    let b2 = headerBytes h .b2 in
+    cons-bytes (n / 256) (n % 256 ∷ b0 ∷ b1 ∷ b2 ∷ ru) (omega arith)
+    (cons-bytes (n % 256) (b0 ∷ b1 ∷ b2 ∷ ru) (omega arith) (cons-bytes b0 (b1 ∷ b2 ∷ ru) (s .0) (cons-bytes b1 (b2 ∷ ru) (s .1) (cons-bytes b2 ru (s .2) f))))
+
+-- the RU of a header that is always the same
+pub fixed-ru : (h : Header) → (length (fixedRu h) ≤ 1024) × AllBytes (fixedRu h)
+fixed-ru (Data d) = (omega arith, are-bytes [] refl)
+fixed-ru (Bid p) = (omega arith, are-bytes bidRu refl)
+fixed-ru PositiveBidResponse = (omega arith, are-bytes positiveRu refl)
+fixed-ru NegativeBidResponse = (omega arith, are-bytes negativeRu refl)
+fixed-ru Confirmation = (omega arith, are-bytes [] refl)
+fixed-ru PacingResponse = (omega arith, are-bytes [] refl)
+
+-- 22: the RU of a response is good whatever the maximum
+pub fixed-good : (m : ℕ) (h : Header) → isAsking (sortOf h) ≡ false → ruGood m h (fixedRu h) ≡ true
+unfolding ruGood sameBytes
+fixed-good m (Data d) e = cc
+fixed-good m (Bid p) e = refl
+fixed-good m PositiveBidResponse e = refl
+fixed-good m NegativeBidResponse e = refl
+fixed-good m Confirmation e = refl
+fixed-good m PacingResponse e = refl

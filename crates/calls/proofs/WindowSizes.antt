@@ -3,17 +3,14 @@
 use Prim.Native.Nat.{ℕ}
 use mathlib.Core.Path.{_≡_, refl}
 use mathlib.Core.List.{List}
-use Rattle.unit.specs.Unit.{numberIn}
-use Rattle.header.specs.declared.Header.{Header}
-use Rattle.header.specs.declared.Header.the-variants.{Data, Bid, PositiveBidResponse, NegativeBidResponse, Confirmation, PacingResponse}
 use Rattle.pacing.specs.Pacing.{advanced, answered}
 use Rattle.sides.specs.Sending.{requestMade}
 use Rattle.end.specs.Allocate.{bidMade}
 use Rattle.end.specs.SendData.{bytesKept, bytesSpilled}
 use Rattle.end.specs.Close.{lastMade}
-use Rattle.end.specs.ReceiveUnit.{headerTaken, ruTaken, dataJoined, bidAnswered, creditRaised}
+use Rattle.end.specs.ReceiveUnit.{dataJoined, bidAnswered, creditRaised}
 use Rattle.end.specs.Receive.{bytesRead}
-use Rattle.calls.proofs.CallCases.{allocate-cases, close-cases, confirmed-cases, pace-cases, read-cases, send-cases, take-cases, tookKind}
+use Rattle.calls.proofs.CallCases.{allocate-cases, close-cases, confirmed-cases, pace-cases, read-cases, send-cases, take-cases}
 use Rattle.calls.specs.Calls.{Called, Station, Verb, called, taken}
 
 abbrev pub sizeOf : Station → ℕ
@@ -32,16 +29,6 @@ module _ (s : Station) where
   size-acts (Verb.close f c) = close-cases After s f c (λ q n. refl) (λ a n. refl) (λ a n k. refl)
   size-acts (Verb.receive buffer) = read-cases After s buffer (λ q w n. refl) (λ a h. refl) (λ a h m. refl)
 
-  kind-size : (h : Header) (n : ℕ) (ru : List ℕ) → sizeOf (tookKind s h n ru .end) ≡ sizeOf s
+  pub size-takes : (naming : List ℕ → ℕ) (u : List ℕ) → After (taken naming s u)
   unfolding dataJoined bidAnswered creditRaised answered
-  kind-size (Data d) n ru = refl
-  kind-size (Bid p) n ru = refl
-  kind-size PositiveBidResponse n ru = refl
-  kind-size NegativeBidResponse n ru = refl
-  kind-size Confirmation n ru = refl
-  kind-size PacingResponse n ru = refl
-
-  pub size-takes : (naming : List ℕ → ℕ) (u : List ℕ) → sizeOf (taken naming s u .end) ≡ sizeOf s
-  size-takes naming u =
-      take-cases (λ (t : Called). sizeOf (t .end) ≡ sizeOf s) naming s u (λ q w n. refl)
-      (λ a k. kind-size (headerTaken u) (numberIn u) (ruTaken u))
+  size-takes naming u = take-cases After naming s u (λ q w n. refl) (λ d a e k. refl) (λ p a e k m. refl) (λ c a e m. refl) (λ a e k. refl)

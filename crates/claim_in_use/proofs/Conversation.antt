@@ -1,18 +1,17 @@
 -- The claim read off one conversation: what it asks holds by computation, and each of its fields is what is written there.
 -- Assumes nothing.
-use Prim.Native.Nat.{ℕ, zero, suc}
+use Prim.Native.Nat.{ℕ}
 use mathlib.Core.Path.{_≡_, refl}
 use mathlib.Core.Bool.{Bool, true, false, _&&_}
 use mathlib.Core.List.{List, [], _∷_}
 use native.Mathlib.Omega.{arith}
-use borrow.Author.Tests.{ltb-true}
-use lib.Dec.{ltb}
 use Rattle.bools.proofs.Tests.{both}
 use Rattle.joined.specs.Joined as J
 use Rattle.joined.specs.Joined.{At, first, second, act, Some, step, AllFed}
 use Rattle.joined.specs.Ends.{Lane, sameLane, acts, takes}
 use Rattle.calls.specs.Calls.{Verb}
-use Rattle.calls.specs.Laws.{AllBytes, BytesOf}
+use Rattle.calls.proofs.ByteLists.{below256, are-bytes}
+use Rattle.calls.specs.Laws.{BytesOf}
 use Rattle.joined.specs.Claim.{Pair, Claim, TheRecords, LentBytes, AlwaysGood, BytesOfAll}
 use Rattle.worked_examples.specs.Stations.{anyRule}
 use Rattle.worked_examples.specs.Computed.{computed}
@@ -20,15 +19,6 @@ use Rattle.claim_in_use.specs.OtherWords.{bytesOf}
 use Rattle.claim_in_use.specs.Conversation.{speaker, bidder, lent, ends, calls, reordered, Happened, Asked, Said, OneConversation}
 
 -- ---- bytes
-
-abbrev below256 : List ℕ → Bool
-below256 [] = true
-below256 (b ∷ bs) = ltb b 256 && below256 bs
-
-are-bytes : (bs : List ℕ) → below256 bs ≡ true → AllBytes bs
-are-bytes [] e k = omega arith
-are-bytes (b ∷ bs) e zero = ltb-true b 256 (both (ltb b 256) (below256 bs) e .0)
-are-bytes (b ∷ bs) e (suc k) = are-bytes bs (both (ltb b 256) (below256 bs) e .1) k
 
 lent-bytes : LentBytes lent
 lent-bytes = record { send = are-bytes (lent .send) refl; inbox = are-bytes (lent .inbox) refl }

@@ -1,7 +1,7 @@
 -- The claim in other words follows from the claim and from what is said of the records, and from nothing else that crate joined proves.
 -- Assumes nothing.
 use Prim.Native.Nat.{ℕ, _+_, _*_}
-use mathlib.Core.Path.{_≡_, refl, sym, ap, _∙_}
+use mathlib.Core.Path.{_≡_, sym, ap, _∙_}
 use mathlib.Core.Bool.{false}
 use mathlib.Core.List.{List, [], _++_}
 use lib.ListN.{length, take}
@@ -11,7 +11,9 @@ use Rattle.logical_record.specs.Records.{wholeRecords}
 use Rattle.pacing.specs.Pacing.{credit}
 use Rattle.control.specs.Tests.{isSend}
 use Rattle.control.specs.declared.State.{State}
-use Rattle.control.specs.declared.State.the-variants.{Reset, Send, Receive, ConfirmOwed, ConfirmAwaited}
+use Rattle.control.specs.declared.State.the-variants.{Send}
+use Rattle.control.proofs.States.{send-is}
+use Rattle.bools.proofs.Cases.{split}
 use Rattle.joined.specs.Joined.{Call, At}
 use Rattle.joined.specs.Ends.{Lane, normal, Buffers}
 use Rattle.joined.specs.Histories.{bytesOnLine, breaches}
@@ -23,11 +25,7 @@ use Rattle.claim_in_use.proofs.Orders.{firsts-are, seconds-are, fed}
 use Rattle.calls.specs.Calls.{Verb}
 
 not-send : (s : State) → (s ≡ Send → ⊥) → isSend s ≡ false
-not-send Reset h = refl
-not-send Send h = absurd (h refl)
-not-send Receive h = refl
-not-send ConfirmOwed h = refl
-not-send ConfirmAwaited h = refl
+not-send s h = split (isSend s) (λ y. absurd (h (send-is s y))) (λ n. n)
 
 counted : (w : ℕ) (x : OneEnd) → CreditCounted w x
     → length (each request (each made (story (x .log)))) + creditLeft (x .end .end .sending .window)

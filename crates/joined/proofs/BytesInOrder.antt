@@ -12,18 +12,21 @@ use Rattle.header.specs.declared.DataHeader.{DataHeader}
 use Rattle.header.specs.declared.Header.{Header}
 use Rattle.header.specs.declared.Header.the-variants.{Data}
 use Rattle.end.specs.ReceiveUnit.{headerTaken, ruTaken}
+use Rattle.end.specs.SendData.{heldBytes, gone}
+use Rattle.calls.specs.Calls.{Station}
+use Rattle.calls.proofs.CallCases.{spilledRu}
 use Rattle.joined.specs.Histories.{bytesOnLine}
 use Rattle.calls.specs.UnitCounts.{dataRu}
-use Rattle.calls.proofs.UnitsByHeader.{data-ru, data-unit, dataOf}
+use Rattle.calls.proofs.UnitsByHeader.{sortOf, data-ru, data-unit, dataOf}
 
 pub record Carried (accepted held : List ℕ) (line : List (List ℕ)) (read inbox : List ℕ) : Type 0 where
   pub bytes : accepted ≡ read ++ (inbox ++ (bytesOnLine line ++ held))
 
 -- the bytes on a line once a unit has joined it
-line-more : (us : List (List ℕ)) (n : ℕ) (h : Header) (ru : List ℕ) → bytesOnLine (us ++ (unitOf n h ru ∷ [])) ≡ bytesOnLine us ++ dataOf h ru
+line-more : (us : List (List ℕ)) (n : ℕ) (h : Header) (ru : List ℕ) → bytesOnLine (us ++ (unitOf n h ru ∷ [])) ≡ bytesOnLine us ++ dataOf (sortOf h) ru
 unfolding bytesOnLine
-line-more [] n h ru = ap (λ (bs : List ℕ). bs ++ []) (data-unit n h ru) ∙ append-nil (dataOf h ru)
-line-more (u ∷ us) n h ru = ap (λ (bs : List ℕ). dataRu u ++ bs) (line-more us n h ru) ∙ sym (append-assoc (dataRu u) (bytesOnLine us) (dataOf h ru))
+line-more [] n h ru = ap (λ (bs : List ℕ). bs ++ []) (data-unit n h ru) ∙ append-nil (dataOf (sortOf h) ru)
+line-more (u ∷ us) n h ru = ap (λ (bs : List ℕ). dataRu u ++ bs) (line-more us n h ru) ∙ sym (append-assoc (dataRu u) (bytesOnLine us) (dataOf (sortOf h) ru))
 
 -- ---- the equation, call by call
 
@@ -39,7 +42,7 @@ carried-sent {acc} {read} {inbox} {line} n d ru rest c = record { bytes = c .byt
 
 -- a unit with no data goes out
 pub carried-other : {acc held read inbox : List ℕ} {line : List (List ℕ)} (n : ℕ) (h : Header) (ru : List ℕ)
-    → dataOf h ru ≡ [] → Carried acc held line read inbox → Carried acc held (line ++ (unitOf n h ru ∷ [])) read inbox
+    → dataOf (sortOf h) ru ≡ [] → Carried acc held line read inbox → Carried acc held (line ++ (unitOf n h ru ∷ [])) read inbox
 carried-other {acc} {held} {read} {inbox} {line} n h ru z c = record { bytes = c .bytes ∙ rw (line-more line n h ru, z, append-nil (bytesOnLine line)) }
 
 -- the first of the bytes in the inbox are read
@@ -49,7 +52,7 @@ carried-read {acc} {held} {read} {inbox} {line} first rest e c = record { bytes 
 
 -- the oldest unit is taken, and its data joins the inbox
 pub carried-taken : {acc held read inbox : List ℕ} {line : List (List ℕ)} {u : List ℕ}
-    → Carried acc held (u ∷ line) read inbox → Carried acc held line read (inbox ++ dataOf (headerTaken u) (ruTaken u))
+    → Carried acc held (u ∷ line) read inbox → Carried acc held line read (inbox ++ dataOf (sortOf (headerTaken u)) (ruTaken u))
 unfolding bytesOnLine
 carried-taken {acc} {held} {read} {inbox} {line} {u} c = record { bytes = c .bytes ∙ rw (data-ru u) (simp append-assoc) }
 
@@ -58,6 +61,12 @@ carried-taken {acc} {held} {read} {inbox} {line} {u} c = record { bytes = c .byt
 -- the bytes held, once more are written behind them
 pub held-more : (held : ℕ) (new cells : List ℕ) → held ≤ length cells → take (held + length new) (written held new cells) ≡ take held cells ++ new
 held-more held new cells h = written-bytes held new cells h
+
+-- the bytes held and those given, once a unit has gone out: its RU, and the rest
+pub spilled-parts : (s : Station) (bytes : List ℕ) → heldBytes (s .end) (s .send) ++ bytes ≡ spilledRu s bytes ++ drop (gone (s .end)) bytes
+spilled-parts s bytes =
+    let held = heldBytes (s .end) (s .send) in
+    ap (λ (bs : List ℕ). held ++ bs) (sym (take-append-drop (gone (s .end)) bytes)) ∙ sym (append-assoc held (take (gone (s .end)) bytes) _)
 
 -- the bytes held, once the rest was written to the front
 pub held-rest : (n : ℕ) (rest cells : List ℕ) → n ≡ length rest → take n (front rest cells) ≡ rest

@@ -1,26 +1,24 @@
 -- Every call conserves the bytes in order, as the sending end and as the receiving end.
 -- Assumes nothing.
-use Prim.Native.Nat.{ℕ, _+_, _-_, _≤_, min}
-use mathlib.Core.Path.{_≡_, refl, sym, ap, _∙_, subst}
+use Prim.Native.Nat.{ℕ, _-_, _≤_, min}
+use mathlib.Core.Path.{_≡_, refl, sym, ap}
 use mathlib.Core.Bool.{Bool, true, false, cond}
-use mathlib.Core.List.{List, [], _∷_, _++_, append-nil, append-assoc}
+use mathlib.Core.List.{List, [], _∷_, _++_, append-nil}
 use native.Mathlib.Nat.{min-le-left, min-le-right, le-trans}
 use native.Mathlib.Omega.{arith}
 use borrow.Author.Tests.{eqb-true}
 use lib.Dec.{eqb}
-use lib.ListN.{length, take, drop, length-drop, take-append-drop}
-use Rattle.cells.specs.Cells.{front, written}
+use lib.ListN.{length, take, drop, length-drop}
+use Rattle.cells.specs.Cells.{front}
 use Rattle.unit.specs.Ru.{fixedRu, bidRu}
 use Rattle.unit.specs.Unit.{unitOf, numberIn}
 use Rattle.header.specs.declared.Follows.{Follows}
 use Rattle.header.specs.declared.ChainEnd.the-variants.{Continues, Last}
 use Rattle.header.specs.declared.DataHeader.{DataHeader}
 use Rattle.header.specs.declared.Header.{Header}
-use Rattle.header.specs.declared.Header.the-variants.{Data, Bid, PositiveBidResponse, NegativeBidResponse, Confirmation, PacingResponse}
+use Rattle.header.specs.declared.Header.the-variants.{Bid, Confirmation, PacingResponse}
 use Rattle.pacing.specs.Pacing.{paced}
-use Rattle.control.specs.Tests.{isReset}
 use Rattle.transitions.specs.Transitions.{beginOf, bidAnswer}
-use Rattle.control.specs.declared.Control.{Control}
 use Rattle.sides.specs.Shared.{nextNumber}
 use Rattle.sides.specs.Sending.{requestMade}
 use Rattle.sides.specs.Receiving.{requestTaken}
@@ -36,13 +34,15 @@ use Rattle.joined.specs.Joined.{Acted, Took, acted, took}
 use Rattle.joined.specs.Ends.{Lane, normal, onNormal, acts, takes}
 use Rattle.joined.specs.Histories.{Log, bytesAccepted, bytesInSendBuffer, bytesInInbox}
 use Rattle.joined.specs.Histories as H
-use Rattle.calls.proofs.CallCases.{ReadAsked, SendAsked, TakeAsked, allocate-cases, bidNumber, close-cases, confirmed-cases, pace-cases, read-cases, readCount, send-cases, spilledRu, spilledUnit}
-use Rattle.calls.proofs.UnitsByHeader.{dataOf}
+use Rattle.calls.proofs.CallCases.{ReadAsked, SendAsked, take-cases, allocate-cases, bidNumber, close-cases, confirmed-cases, pace-cases, read-cases, readCount, send-cases, spilledRu, spilledUnit}
+use Rattle.calls.proofs.UnitsByHeader.{Sort, sortOf, dataOf, answer-sort}
+use Rattle.answers.specs.Answers.{readRefused}
+use Rattle.end.specs.Record.{recordGood}
 use Rattle.calls.specs.Calls.{Reply, Station, Verb}
 use Rattle.end.proofs.Within.{facts, held-in-inbox}
-use Rattle.joined.proofs.CallsOnLanes.{Laned, take-cases, tookKind}
+use Rattle.joined.proofs.CallsOnLanes.{Laned, LanedTake}
 use Rattle.joined.proofs.OneEnd.{refused-accepts}
-use Rattle.joined.proofs.BytesInOrder.{Carried, carried-kept, carried-sent, carried-other, carried-read, carried-taken, held-more, held-rest, copied-is, inbox-parts, inbox-left}
+use Rattle.joined.proofs.BytesInOrder.{Carried, carried-kept, carried-sent, carried-other, carried-read, carried-taken, held-more, held-rest, copied-is, inbox-parts, inbox-left, spilled-parts}
 
 -- ---- as the sending end
 
@@ -51,16 +51,17 @@ module _ (s : Station) (xs : Log) (line : List (List ℕ)) (read inbox : List �
   After v m = Carried (bytesAccepted (acted v (m .answer) (m .sent) ∷ xs)) (bytesInSendBuffer (m .end)) (line ++ m .sent normal) read inbox
 
   -- nothing was accepted, and no unit was made
-  same : {acc : List ℕ} {held : List ℕ} → acc ≡ bytesAccepted xs → Carried (bytesAccepted xs) held line read inbox → Carried acc held (line ++ []) read inbox
-  same {acc} {held} e d =
-      subst (λ (a : List ℕ). Carried a held (line ++ []) read inbox) (sym e)
-      (subst (λ (l : List (List ℕ)). Carried (bytesAccepted xs) held l read inbox) (sym (append-nil line)) d)
-
-  nothing-more : {held : List ℕ} {l : List (List ℕ)} → Carried (bytesAccepted xs) held l read inbox → Carried (bytesAccepted xs ++ []) held l read inbox
-  nothing-more {held} {l} d = subst (λ (a : List ℕ). Carried a held l read inbox) (sym (append-nil (bytesAccepted xs))) d
-
   quiet : {held : List ℕ} → Carried (bytesAccepted xs) held line read inbox → Carried (bytesAccepted xs ++ []) held (line ++ []) read inbox
-  quiet {held} d = same (append-nil (bytesAccepted xs)) d
+  quiet d = rw (append-nil (bytesAccepted xs), append-nil line) d
+
+  refuses : (v : Verb) (q : ℕ) (buffer : List ℕ) → eqb q 0 ≡ false
+      → Carried (bytesAccepted (acted v (record { answer = readRefused q; buffer = buffer }) (onNormal []) ∷ xs)) (bytesInSendBuffer s) (line ++ []) read inbox
+  refuses v q buffer n = rw (refused-accepts v q buffer (onNormal []) xs n, append-nil line) c
+
+  -- a unit with no bytes goes out
+  other : (n : ℕ) (h : Header) (ru : List ℕ) → dataOf (sortOf h) ru ≡ []
+      → Carried (bytesAccepted xs ++ []) (bytesInSendBuffer s) (line ++ (unitOf n h ru ∷ [])) read inbox
+  other n h ru z = rw (append-nil (bytesAccepted xs)) (carried-other n h ru z c)
 
   last : (f : Follows) (b : Bool)
       → Carried (bytesAccepted xs) []
@@ -69,7 +70,7 @@ module _ (s : Station) (xs : Log) (line : List (List ℕ)) (read inbox : List �
   last f b =
       let d : DataHeader = record { begins = beginOf (s .end .control); ends = Last f b; pacing = paced (s .end .sending .window) } in
       let ru = heldBytes (s .end) (s .send) in
-      carried-sent (nextNumber (s .end .sending .number)) d ru [] (subst (λ (h : List ℕ). Carried (bytesAccepted xs) h line read inbox) (sym (append-nil ru)) c)
+      carried-sent {line = line} (nextNumber (s .end .sending .number)) d ru [] (rw (append-nil ru) c)
 
   spill : (bytes : List ℕ) → SendAsked s bytes
       → Carried (bytesAccepted xs ++ bytes) (take (length bytes - gone (s .end)) (front (drop (gone (s .end)) bytes) (s .send)))
@@ -79,69 +80,41 @@ module _ (s : Station) (xs : Log) (line : List (List ℕ)) (read inbox : List �
       let e = s .end in
       let rest = drop (gone e) bytes in
       let d : DataHeader = record { begins = beginOf (e .control); ends = Continues; pacing = paced (e .sending .window) } in
-      let parts : heldBytes e (s .send) ++ bytes ≡ spilledRu s bytes ++ rest =
-      ap (λ (bs : List ℕ). heldBytes e (s .send) ++ bs) (sym (take-append-drop (gone e) bytes))
-      ∙ sym (append-assoc (heldBytes e (s .send)) (take (gone e) bytes) rest) in
-      let held = held-rest (length bytes - gone e) rest (s .send) (sym (length-drop (gone e) bytes)) in
-      subst (λ (h : List ℕ). Carried (bytesAccepted xs ++ bytes) h (line ++ (spilledUnit s bytes ∷ [])) read inbox) (sym held)
-      (carried-sent (nextNumber (e .sending .number)) d (spilledRu s bytes) rest
-      (subst (λ (h : List ℕ). Carried (bytesAccepted xs ++ bytes) h line read inbox) parts (carried-kept bytes c)))
+      rw (held-rest (length bytes - gone e) rest (s .send) (sym (length-drop (gone e) bytes)))
+      (carried-sent (nextNumber (e .sending .number)) d (spilledRu s bytes) rest (rw (spilled-parts s bytes) at (carried-kept bytes c)))
 
   pub bytes-acts : (v : Verb) → After v (acts s v)
   unfolding acts bytesAccepted bytesKept bytesSpilled bytesRead bidMade lastMade requestMade
   bytes-acts Verb.allocate =
-      allocate-cases (Laned (After Verb.allocate)) s (λ q n. same (refused-accepts Verb.allocate q [] (onNormal []) xs n) c) (λ g a w. quiet c)
-      (λ g a w k. nothing-more (carried-other (bidNumber (s .end)) (Bid (paced (s .end .sending .window))) bidRu refl c))
+      allocate-cases (Laned (After Verb.allocate)) s (λ q n. refuses Verb.allocate q [] n) (λ g a w. quiet c)
+      (λ g a w k. other (bidNumber (s .end)) (Bid (paced (s .end .sending .window))) bidRu refl)
   bytes-acts Verb.confirmed =
-      confirmed-cases (Laned (After Verb.confirmed)) s (λ q n. same (refused-accepts Verb.confirmed q [] (onNormal []) xs n) c)
-      (λ g a. nothing-more (carried-other (s .end .owed) Confirmation [] refl c))
-  bytes-acts Verb.pace =
-      pace-cases (Laned (After Verb.pace)) s (λ q n. same (refused-accepts Verb.pace q [] (onNormal []) xs n) c)
-      (λ g a. nothing-more (carried-other 0 PacingResponse [] refl c))
+      confirmed-cases (Laned (After Verb.confirmed)) s (λ q n. refuses Verb.confirmed q [] n) (λ g a. other (s .end .owed) Confirmation [] refl)
+  bytes-acts Verb.pace = pace-cases (Laned (After Verb.pace)) s (λ q n. refuses Verb.pace q [] n) (λ g a. other 0 PacingResponse [] refl)
   bytes-acts (Verb.sendData bytes) =
-      send-cases (Laned (After (Verb.sendData bytes))) s bytes (λ q n. same (refused-accepts (Verb.sendData bytes) q [] (onNormal []) xs n) c)
+      let o = s .end .sending in
+      send-cases (Laned (After (Verb.sendData bytes))) s bytes (λ q n. refuses (Verb.sendData bytes) q [] n)
       (λ a k.
       let h = facts (s .end) (a .good) .sending .held in
       let b = a .buffer in
-      let more = held-more (s .end .sending .held) bytes (s .send) (omega arith) in
-      subst
-      (λ (l : List (List ℕ)).
-      Carried (bytesAccepted xs ++ bytes) (take (s .end .sending .held + length bytes) (written (s .end .sending .held) bytes (s .send))) l read inbox)
-      (sym (append-nil line))
-      (subst (λ (x : List ℕ). Carried (bytesAccepted xs ++ bytes) x line read inbox) (sym more) (carried-kept bytes c)))
+      rw (append-nil line, held-more (o .held) bytes (s .send) (omega arith)) (carried-kept bytes c))
       (λ a k h. spill bytes a)
   bytes-acts (Verb.close f b) =
-      close-cases (Laned (After (Verb.close f b))) s f b (λ q n. same (refused-accepts (Verb.close f b) q [] (onNormal []) xs n) c) (λ a n. quiet c)
-      (λ a n k. nothing-more (last f b))
+      close-cases (Laned (After (Verb.close f b))) s f b (λ q n. refuses (Verb.close f b) q [] n) (λ a n. quiet c)
+      (λ a n k. rw (append-nil (bytesAccepted xs)) (last f b))
   bytes-acts (Verb.receive buffer) =
-      read-cases (Laned (After (Verb.receive buffer))) s buffer
-      (λ q w n. same (refused-accepts (Verb.receive buffer) q buffer (onNormal []) xs n) c) (λ a h. quiet c) (λ a h m. quiet c)
+      read-cases (Laned (After (Verb.receive buffer))) s buffer (λ q w n. refuses (Verb.receive buffer) q buffer n) (λ a h. quiet c) (λ a h m. quiet c)
 
   abbrev Left : List ℕ → Took Lane Station Reply (List ℕ) → Type 0
   Left u t = Carried (bytesAccepted (took normal u (t .answer) (t .sent) ∷ xs)) (bytesInSendBuffer (t .end)) (line ++ t .sent normal) read inbox
 
-  unmoved : {held : List ℕ} → Carried (bytesAccepted xs) held line read inbox → Carried (bytesAccepted xs) held (line ++ []) read inbox
-  unmoved {held} d = same refl d
-
-  answers : (k : Control) → dataOf (bidAnswer k) (fixedRu (bidAnswer k)) ≡ []
-  answers k = by (isReset (k .state))
-    where
-      by : (b : Bool) → dataOf (cond b PositiveBidResponse NegativeBidResponse) (fixedRu (cond b PositiveBidResponse NegativeBidResponse)) ≡ []
-      by true = refl
-      by false = refl
-
-  kind-out : (u : List ℕ) (h : Header) (n : ℕ) (ru : List ℕ) → Left u (tookKind s h n ru)
-  unfolding bytesAccepted dataJoined bidAnswered creditRaised
-  kind-out u (Data d) n ru = unmoved c
-  kind-out u (Bid p) n ru = carried-other n (bidAnswer (s .end .control)) (fixedRu (bidAnswer (s .end .control))) (answers (s .end .control)) c
-  kind-out u PositiveBidResponse n ru = unmoved c
-  kind-out u NegativeBidResponse n ru = unmoved c
-  kind-out u Confirmation n ru = unmoved c
-  kind-out u PacingResponse n ru = unmoved c
-
   pub bytes-takes : (naming : List ℕ → ℕ) (u : List ℕ) → Left u (takes naming normal s u)
-  unfolding bytesAccepted
-  bytes-takes naming u = take-cases (Left u) naming s u (λ q w n. unmoved c) (λ a k. kind-out u (headerTaken u) (numberIn u) (ruTaken u))
+  unfolding takes bytesAccepted dataJoined bidAnswered creditRaised
+  bytes-takes naming u =
+      let h = bidAnswer (s .end .control) in
+      take-cases (LanedTake (Left u)) naming s u (λ q w n. rw (append-nil line) c) (λ d a e k. rw (append-nil line) c)
+      (λ p a e k m. carried-other (numberIn u) h (fixedRu h) (ap (λ (x : Sort). dataOf x (fixedRu h)) (answer-sort (s .end .control))) c)
+      (λ x a e m. rw (append-nil line) c) (λ a e k. rw (append-nil line) c)
 
 -- ---- as the receiving end
 
@@ -171,12 +144,13 @@ moved-left s k h = by (eqb k 0) refl
 pub read-parts : (s : Station) (buffer : List ℕ) → bytesInInbox s ≡ take (readCount s buffer) (s .inbox) ++ drop (readCount s buffer) (bytesInInbox s)
 read-parts s buffer = inbox-parts (readCount s buffer) (s .end .receiving .held) (s .inbox) (count-held s buffer)
 
-pub inbox-holds : (s : Station) (buffer : List ℕ) → ReadAsked s buffer → s .end .receiving .held ≤ length (s .inbox)
-inbox-holds s buffer a = subst (λ (n : ℕ). s .end .receiving .held ≤ n) (sym (a .inbox)) (held-in-inbox (s .end) (a .good))
+-- the bytes held stand in the inbox that is lent
+pub inbox-room : (s : Station) → length (s .inbox) ≡ s .end .receiving .inbox → recordGood (s .end) ≡ true → s .end .receiving .held ≤ length (s .inbox)
+inbox-room s e g = rw e (held-in-inbox (s .end) g)
 
 pub read-copied : (s : Station) (buffer : List ℕ) → ReadAsked s buffer
     → take (readCount s buffer) (front (take (readCount s buffer) (s .inbox)) buffer) ≡ take (readCount s buffer) (s .inbox)
-read-copied s buffer a = copied-is (readCount s buffer) (s .inbox) buffer (le-trans (count-held s buffer) (inbox-holds s buffer a))
+read-copied s buffer a = copied-is (readCount s buffer) (s .inbox) buffer (le-trans (count-held s buffer) (inbox-room s (a .inbox) (a .good)))
 
 module _ (s : Station) (xs : Log) (acc held : List ℕ) (back : List (List ℕ)) where
   module _ (c : Carried acc held back (H.bytesRead xs) (bytesInInbox s)) where
@@ -185,17 +159,15 @@ module _ (s : Station) (xs : Log) (acc held : List ℕ) (back : List (List ℕ))
 
     -- nothing was read
     quiet-in : Carried acc held back (H.bytesRead xs ++ []) (bytesInInbox s)
-    quiet-in = subst (λ (r : List ℕ). Carried acc held back r (bytesInInbox s)) (sym (append-nil (H.bytesRead xs))) c
+    quiet-in = rw (append-nil (H.bytesRead xs)) c
 
     read-in : (buffer : List ℕ) → ReadAsked s buffer
         → Carried acc held back (H.bytesRead xs ++ take (readCount s buffer) (front (take (readCount s buffer) (s .inbox)) buffer))
         (take (s .end .receiving .held - readCount s buffer) (inboxMoved (s .end) (readCount s buffer) (s .inbox)))
     read-in buffer a =
         let k = readCount s buffer in
-        subst (λ (r : List ℕ). Carried acc held back (H.bytesRead xs ++ r) (take (s .end .receiving .held - k) (inboxMoved (s .end) k (s .inbox))))
-        (sym (read-copied s buffer a))
-        (subst (λ (r : List ℕ). Carried acc held back (H.bytesRead xs ++ take k (s .inbox)) r) (sym (moved-left s k (inbox-holds s buffer a)))
-        (carried-read (take k (s .inbox)) (drop k (bytesInInbox s)) (read-parts s buffer) c))
+        rw (read-copied s buffer a, moved-left s k (inbox-room s (a .inbox) (a .good)))
+        (carried-read (take k (s .inbox)) (drop k (bytesInInbox s)) (read-parts s buffer) c)
 
     pub bytes-in-acts : (v : Verb) → AfterIn v (acts s v)
     unfolding acts H.bytesRead bytesKept bytesSpilled bytesRead bidMade lastMade R.markRead
@@ -211,27 +183,16 @@ module _ (s : Station) (xs : Log) (acc held : List ℕ) (back : List (List ℕ))
     abbrev LeftIn : Took Lane Station Reply (List ℕ) → Type 0
     LeftIn t = Carried acc held (cond (t .removed) back (u ∷ back)) (H.bytesRead (took normal u (t .answer) (t .sent) ∷ xs)) (bytesInInbox (t .end))
 
-    joined-in : (h : Header) → headerTaken u ≡ h → Carried acc held back (H.bytesRead xs) (bytesInInbox s ++ dataOf h (ruTaken u))
-    joined-in h e = subst (λ (x : Header). Carried acc held back (H.bytesRead xs) (bytesInInbox s ++ dataOf x (ruTaken u))) e (carried-taken c)
+    -- what is in the inbox after a unit of the sort k
+    joined-in : (k : Sort) → sortOf (headerTaken u) ≡ k → Carried acc held back (H.bytesRead xs) (bytesInInbox s ++ dataOf k (ruTaken u))
+    joined-in k e = rw e at (carried-taken c)
 
-    no-data : (h : Header) → headerTaken u ≡ h → dataOf h (ruTaken u) ≡ [] → Carried acc held back (H.bytesRead xs) (bytesInInbox s)
-    no-data h e z =
-        subst (λ (bs : List ℕ). Carried acc held back (H.bytesRead xs) bs) (append-nil (bytesInInbox s))
-        (subst (λ (bs : List ℕ). Carried acc held back (H.bytesRead xs) (bytesInInbox s ++ bs)) z (joined-in h e))
-
-    kind-in : (h : Header) (n : ℕ) → headerTaken u ≡ h → TakeAsked s u → LeftIn (tookKind s h n (ruTaken u))
-    unfolding H.bytesRead dataJoined bidAnswered creditRaised requestTaken
-    kind-in (Data d) n e a =
-        let room : s .end .receiving .held ≤ length (s .inbox) =
-        subst (λ (m : ℕ). s .end .receiving .held ≤ m) (sym (a .inbox)) (held-in-inbox (s .end) (a .good)) in
-        subst (λ (bs : List ℕ). Carried acc held back (H.bytesRead xs) bs) (sym (held-more (s .end .receiving .held) (ruTaken u) (s .inbox) room))
-        (joined-in (Data d) e)
-    kind-in (Bid p) n e a = no-data (Bid p) e refl
-    kind-in PositiveBidResponse n e a = no-data PositiveBidResponse e refl
-    kind-in NegativeBidResponse n e a = no-data NegativeBidResponse e refl
-    kind-in Confirmation n e a = no-data Confirmation e refl
-    kind-in PacingResponse n e a = no-data PacingResponse e refl
+    no-data : (k : Sort) → sortOf (headerTaken u) ≡ k → dataOf k (ruTaken u) ≡ [] → Carried acc held back (H.bytesRead xs) (bytesInInbox s)
+    no-data k e z = rw (z, append-nil (bytesInInbox s)) at (joined-in k e)
 
     pub bytes-in-takes : (naming : List ℕ → ℕ) → LeftIn (takes naming normal s u)
-    unfolding H.bytesRead
-    bytes-in-takes naming = take-cases LeftIn naming s u (λ q w n. c) (λ a k. kind-in (headerTaken u) (numberIn u) refl a)
+    unfolding takes H.bytesRead dataJoined bidAnswered creditRaised requestTaken
+    bytes-in-takes naming =
+        take-cases (LanedTake LeftIn) naming s u (λ q w n. rw n c)
+        (λ d a e k. rw (held-more (s .end .receiving .held) (ruTaken u) (s .inbox) (inbox-room s (a .inbox) (a .good))) (joined-in _ e))
+        (λ p a e k m. no-data _ e refl) (λ x a e m. no-data _ e refl) (λ a e k. no-data _ e refl)

@@ -35,8 +35,8 @@ use Rattle.joined.proofs.FloorsAndBids.{Order, order-flip, order-fresh,
 use Rattle.joined.proofs.FloorsAndBidsKept.{order-acts, order-takes}
 use Rattle.joined.proofs.RequestStream.{outsideOf, insideOf, Stream, stream-fresh}
 use Rattle.joined.proofs.RequestStreamKept.{stream-acts, stream-takes, stream-in-acts, stream-in-takes}
-use Rattle.joined.proofs.PacingFlags.{Paces, paces-fresh}
-use Rattle.joined.proofs.PacingFlagsKept.{unansweredOf, owedOf, paces-acts, paces-takes, paces-in-acts, paces-in-takes}
+use Rattle.joined.proofs.PacingFlags.{paces-flip, paces-fresh}
+use Rattle.joined.proofs.PacingFlagsKept.{PacesOf, paces-acts, paces-takes}
 use Rattle.joined.proofs.BytesInOrder.{Carried}
 use Rattle.joined.proofs.BytesInOrderKept.{bytes-acts, bytes-takes, bytes-in-acts, bytes-in-takes}
 use Rattle.joined.proofs.OneEnd.{valuesOf, Local}
@@ -48,8 +48,7 @@ record Inv (r : Role) (v w : ℕ) (e : Station) (xs : Log) (line back : List (Li
   order : Order r (e .end) (f .end) line back
   out : Stream (outsideOf e) (insideOf f) line
   into : Stream (outsideOf f) (insideOf e) back
-  pace-out : Paces (unansweredOf e) (owedOf f) line back
-  pace-in : Paces (unansweredOf f) (owedOf e) back line
+  paces : PacesOf e f line back
   bytes-out : Carried (bytesAccepted xs) (bytesInSendBuffer e) line (bytesRead ys) (bytesInInbox f)
   bytes-in : Carried (bytesAccepted ys) (bytesInSendBuffer f) back (bytesRead xs) (bytesInInbox e)
   local-e : Local (valuesOf e) xs
@@ -70,8 +69,7 @@ flipped i =
       order = order-flip (i .order);
       out = i .into;
       into = i .out;
-      pace-out = i .pace-in;
-      pace-in = i .pace-out;
+      paces = paces-flip (i .paces);
       bytes-out = i .bytes-in;
       bytes-in = i .bytes-out;
       local-e = i .local-f;
@@ -107,8 +105,7 @@ module _ (naming : List ℕ → ℕ) (r : Role) (v w : ℕ) where
         order = order-acts r e (f .end) us vs (i .order) c;
         out = stream-acts e (insideOf f) us (i .out) c;
         into = stream-in-acts e (outsideOf f) vs (i .into) c;
-        pace-out = paces-acts e (owedOf f) us vs (i .pace-out) c;
-        pace-in = paces-in-acts e (unansweredOf f) vs us (i .pace-in) c;
+        paces = paces-acts e f us vs (i .paces) c;
         bytes-out = bytes-acts e xs us (bytesRead ys) (bytesInInbox f) (i .bytes-out) c;
         bytes-in = bytes-in-acts e xs (bytesAccepted ys) (bytesInSendBuffer f) vs (i .bytes-in) c;
         local-e = local-acts e xs (i .local-e) c;
@@ -128,14 +125,11 @@ module _ (naming : List ℕ → ℕ) (r : Role) (v w : ℕ) where
       (record {
         order = order-takes r e (f .end) u us vs (i .order) naming;
         out = stream-takes e (insideOf f) us (i .out) naming u;
-        into = stream-in-takes e (outsideOf f) vs naming u (i .into);
-        pace-out = paces-takes e (owedOf f) us vs u (i .pace-out) naming;
-        pace-in = paces-in-takes e (unansweredOf f) vs us u (i .pace-in) naming;
+        into = stream-in-takes e (outsideOf f) vs u (i .into) naming;
+        paces = paces-takes e f us vs u (i .paces) naming;
         bytes-out = bytes-takes e xs us (bytesRead ys) (bytesInInbox f) (i .bytes-out) naming u;
         bytes-in = bytes-in-takes e xs (bytesAccepted ys) (bytesInSendBuffer f) vs u (i .bytes-in) naming;
-        local-e =
-            local-takes e xs u (i .local-e) naming
-            (no-breach r e (f .end) (outsideOf f) (unansweredOf f) (owedOf f) u us vs (i .order) (i .into) (i .pace-in) (i .pace-out));
+        local-e = local-takes e xs u (i .local-e) naming (no-breach r e f (outsideOf f) u us vs (i .order) (i .into) (i .paces));
         local-f = i .local-f;
         size-e = size-took e naming u ∙ i .size-e;
         size-f = i .size-f;
@@ -218,8 +212,7 @@ fresh-kept s t b c e f g h =
           (length (c .inbox));
       out = stream-fresh (outsideOf (station FirstSpeaker s b)) (insideOf (station Bidder t c)) e g refl refl;
       into = stream-fresh (outsideOf (station Bidder t c)) (insideOf (station FirstSpeaker s b)) f h refl refl;
-      pace-out = paces-fresh;
-      pace-in = paces-fresh;
+      paces = paces-fresh;
       bytes-out = carried-fresh FirstSpeaker Bidder s t b c;
       bytes-in = carried-fresh Bidder FirstSpeaker t s c b;
       local-e = local-fresh FirstSpeaker s b;

@@ -2,12 +2,12 @@
 -- Assumes nothing.
 use Prim.Native.Nat.{ℕ, _+_, _*_, _≤_, _<_, min}
 use mathlib.Core.Path.{_≡_, refl, sym, ap, _∙_, subst}
-use mathlib.Core.Bool.{Bool, true, false, not, cond, _||_}
+use mathlib.Core.Bool.{Bool, true, false, not, _||_}
 use mathlib.Core.List.{List, [], _∷_}
 use native.Mathlib.Nat.{le-min, le-trans, min-le-right}
 use native.Mathlib.Omega.{arith}
 use borrow.Author.Tests.{leb-true}
-use lib.Dec.{eqb, leb}
+use lib.Dec.{eqb}
 use lib.ListN.{length, take, drop}
 use lib.Seq.{length-take-le, take-take}
 use Rattle.cells.specs.Cells.{front}
@@ -26,20 +26,12 @@ use Rattle.unit.specs.Ru.{marks, fixedRu, bidRu}
 use Rattle.unit.specs.Unit.{unitOf, numberIn, RU-START}
 use Rattle.header.specs.declared.Follows.{Follows}
 use Rattle.header.specs.declared.Follows.the-variants.{Stay, ChangeDirection, EndBracket}
-use Rattle.header.specs.declared.ChainEnd.{ChainEnd}
 use Rattle.header.specs.declared.ChainEnd.the-variants.{Continues, Last}
-use Rattle.header.specs.declared.Header.{Header}
-use Rattle.header.specs.declared.Header.the-variants.{Data, Bid, PositiveBidResponse, NegativeBidResponse, Confirmation, PacingResponse}
+use Rattle.header.specs.declared.Header.the-variants.{Bid, Confirmation, PacingResponse}
 use Rattle.pacing.specs.Pacing.{paced, credit, advanced, answered}
-use Rattle.control.specs.Tests.{isFirstSpeaker, isReset, isSend, isReceive, isNothing}
-use Rattle.control.specs.Questions.{confirmationFits}
-use Rattle.control.specs.Parts.{setState, setDue, setBid}
-use Rattle.transitions.specs.Transitions.{allocated, spilled, closed, dataTaken, bidTaken, bidAnswer, grantTaken, refusalTaken, confirmationTaken}
-use Rattle.control.specs.declared.Control.{Control}
-use Rattle.control.specs.declared.State.the-variants.{Send, Receive}
+use Rattle.control.specs.Tests.{isSend}
+use Rattle.transitions.specs.Transitions.{spilled, closed, dataTaken, bidAnswer}
 use Rattle.control.specs.declared.WhatReceived.the-variants as mark
-use Rattle.answers.specs.Questions.{firstNo}
-use Rattle.end.specs.Record.{recordGood, inboxLent}
 use Rattle.answers.specs.Answers.{readRefused}
 use Rattle.sides.specs.Shared.{nextNumber}
 use Rattle.sides.specs.Sending.{requestMade}
@@ -49,36 +41,27 @@ use Rattle.end.specs.Allocate.{bidMade}
 use Rattle.logical_record.specs.Walk.{placeOr}
 use Rattle.end.specs.SendData.{heldBytes, bytesKept, bytesSpilled}
 use Rattle.end.specs.Close.{lastMade}
-use Rattle.end.specs.ReceiveUnit.{kindQuestions, headerTaken, ruTaken, dataJoined, bidAnswered, creditRaised, takeRefusal}
-use Rattle.sides.specs.Receiving.{recordsFit}
-use Rattle.end.specs.Receive.{recordRest, someHeld, readRefusal, copyCount, bytesRead, markRead}
+use Rattle.end.specs.ReceiveUnit.{headerTaken, ruTaken, dataJoined, bidAnswered, creditRaised, takeRefusal}
+use Rattle.end.specs.Receive.{recordRest, someHeld, readQuestions, readRefusal, copyCount, bytesRead, markRead}
 use Rattle.reading.specs.Reading.{restGood, restBytes}
-use Rattle.end.specs.declared.End.{End}
 use Rattle.joined.specs.Joined.{Acted, Took, acted, took}
 use Rattle.joined.specs.Ends.{Lane, normal, onNormal, acts, takes}
 use Rattle.joined.specs.Histories.{Log, isBreach, bytesInInbox}
 use Rattle.joined.specs.Histories as H
-use Rattle.answers.proofs.Rows.{yes}
-use Rattle.bools.proofs.Tests.{left, never, or-right, not-true}
-use Rattle.calls.proofs.CallCases.{ReadAsked, TakeAsked, allocate-cases, bidNumber, close-cases, confirmed-cases, pace-cases, read-cases, readCount, send-cases, spilledRu}
-use Rattle.calls.proofs.Credit.{answer-asks, data-asks, none-made, other-made, request-made}
-use Rattle.calls.proofs.UnitsByHeader.{isPacing, pacing-taken}
+use Rattle.bools.proofs.Tests.{never}
+use Rattle.calls.proofs.CallCases.{ReadAsked, TakeAsked, control-within, take-cases, allocate-cases, bidNumber, close-cases, confirmed-cases, pace-cases, read-cases, readCount, send-cases, spilledRu}
+use Rattle.calls.proofs.Credit.{data-asks, none-made, other-made, request-made}
+use Rattle.calls.proofs.Refusals.{not-first}
+use Rattle.calls.proofs.ControlMoved.{allocate-moves, confirmed-moves, mark-moves}
+use Rattle.calls.proofs.UnitsByHeader.{Sort, sortOf, isAsking, isPacing, pacing-taken, answer-sort}
 use Rattle.calls.specs.Calls.{Reply, Station, Verb}
 use Rattle.calls.specs.UnitCounts.{count, isPacingResponse, requestsAmong}
-use Rattle.control.proofs.States.{receive-not-send, reset-not-send, owed-not-send, awaited-not-send, fits-not-send}
-use Rattle.end.proofs.Within.{facts, held-in-inbox}
-use Rattle.joined.proofs.CallsOnLanes.{Laned, take-cases, tookKind}
+use Rattle.end.proofs.Within.{facts}
+use Rattle.joined.proofs.CallsOnLanes.{Laned, LanedTake}
 use Rattle.pacing.proofs.Windows.{response-raises}
 use Rattle.joined.proofs.BytesInOrder.{held-more}
-use Rattle.joined.proofs.BytesInOrderKept.{count-held, moved-left, read-parts, inbox-holds, read-copied}
+use Rattle.joined.proofs.BytesInOrderKept.{count-held, moved-left, read-parts, inbox-room, read-copied}
 use Rattle.joined.proofs.OneEnd.{valuesOf, Local, local-act, local-refused, local-read, local-took, local-take-refused}
-
--- ---- states
-
-marked-not-send : (e : End) → recordGood e ≡ true → not (isNothing (e .control .mark)) ≡ true → isSend (e .control .state) ≡ false
-marked-not-send e g n =
-    receive-not-send (e .control .state)
-    (or-right (isNothing (e .control .mark)) (isReceive (e .control .state)) (facts e g .control .mark) (not-true (isNothing (e .control .mark)) n))
 
 -- ---- calls that the end answers by itself
 
@@ -119,17 +102,8 @@ module _ (s : Station) (xs : Log) (l : Local (valuesOf s) xs) where
       local-act v (RU-START + length ru) mark.Nothing [] (onNormal (u ∷ [])) _ l here (closed-whole f c (s .end .sending .given) (a .whole)) refl refl refl refl
       (request-made s (nextNumber (s .end .sending .number)) h ru (data-asks s (Last f c)) (a .good) k) refl)
 
-  speaking : isFirstSpeaker (s .end .control .role) ≡ true → isSend (allocated (s .end .control) .state) ≡ true
-  unfolding allocated
-  speaking e = by (isFirstSpeaker (s .end .control .role)) e
-    where
-      by : (b : Bool) → b ≡ true → isSend (cond b (setDue true (setState Send (s .end .control))) (setBid true (s .end .control)) .state) ≡ true
-      by true f = refl
-      by false f = absurd (never (sym f))
-
   at-place : (g p : Position) (w : Walked) → w ≡ At p → w ≡ At (placeOr g w)
-  at-place g p (At q) e = refl
-  at-place g p BadLength e = absurd (let z : _≡_ {A = ℕ} 0 1 = cc in omega arith)
+  at-place g p w e = rw e
 
   -- ---- a read
 
@@ -139,20 +113,9 @@ module _ (s : Station) (xs : Log) (l : Local (valuesOf s) xs) where
       ap restGood (i .is)
 
   -- 8 is never the number
-  not-8 : (a b c d e : Bool) → d ≡ true → eqb (firstNo ((a, 4) ∷ (b, 5) ∷ (c, 6) ∷ (d, 8) ∷ (e, 12) ∷ [])) 8 ≡ false
-  not-8 false b c d e h = refl
-  not-8 true false c d e h = refl
-  not-8 true true false d e h = refl
-  not-8 true true true true true h = refl
-  not-8 true true true true false h = refl
-  not-8 true true true false e h = absurd (never (sym h))
-
   never-refused : (buffer : List ℕ) (q : ℕ) → q ≡ readRefusal (s .end) (s .inbox) (length buffer) → eqb q 8 ≡ false
   unfolding readRefusal
-  never-refused buffer q e =
-      ap (λ (n : ℕ). eqb n 8) e
-      ∙ not-8 (inboxLent (s .end) (length (s .inbox))) (recordGood (s .end)) (leb 1 (length buffer)) (restGood (recordRest (s .end) (s .inbox)))
-      (someHeld (s .end) || not (isNothing (s .end .control .mark))) rest-is
+  never-refused buffer q e = rw e (not-first (readQuestions (s .end) (s .inbox) (length buffer)) 8 refl (rw rest-is))
 
   bytes-of : (r : Rest) → restGood r ≡ true → r ≡ restIs.Bytes (restBytes r)
   bytes-of (restIs.Bytes n) e = refl
@@ -163,7 +126,7 @@ module _ (s : Station) (xs : Log) (l : Local (valuesOf s) xs) where
   unfolding copyCount
   some-copied buffer a h =
       let held : 1 ≤ s .end .receiving .held = leb-true 1 (s .end .receiving .held) h in
-      let long : length (bytesInInbox s) ≡ s .end .receiving .held = length-take-le (s .end .receiving .held) (s .inbox) (inbox-holds s buffer a) in
+      let long : length (bytesInInbox s) ≡ s .end .receiving .held = length-take-le (s .end .receiving .held) (s .inbox) (inbox-room s (a .inbox) (a .good)) in
       let some : 0 < restBytes (recordRest (s .end) (s .inbox)) =
       rest-some (s .end .receiving .read) (bytesInInbox s) (restBytes (recordRest (s .end) (s .inbox))) (facts (s .end) (a .good) .receiving .read)
       (omega (arith, long, held)) (bytes-of (recordRest (s .end) (s .inbox)) (a .rest)) in
@@ -184,7 +147,7 @@ module _ (s : Station) (xs : Log) (l : Local (valuesOf s) xs) where
       let held = s .end .receiving .held in
       let c = count-held s buffer in
       let r = count-rest buffer in
-      let long : length (bytesInInbox s) ≡ held = length-take-le held (s .inbox) (inbox-holds s buffer a) in
+      let long : length (bytesInInbox s) ≡ held = length-take-le held (s .inbox) (inbox-room s (a .inbox) (a .good)) in
       let i : Inside (s .end .receiving .read) (take n (bytesInInbox s)) =
       rest-inside (s .end .receiving .read) (bytesInInbox s) (restBytes (recordRest (s .end) (s .inbox))) n
       (bytes-of (recordRest (s .end) (s .inbox)) (a .rest)) some (omega (arith, few, r)) (omega (arith, few, c, long)) in
@@ -207,9 +170,9 @@ module _ (s : Station) (xs : Log) (l : Local (valuesOf s) xs) where
       local-read buffer k (take k (s .inbox)) (drop k (bytesInInbox s)) (front (take k (s .inbox)) buffer) _ l (some-copied buffer a h)
       (read-copied s buffer a) (read-parts s buffer)
       (at-place (s .end .receiving .read) (t .middle) (walk (s .end .receiving .read) (take k (s .inbox))) (t .first))
-      (inside buffer a) (moved-left s k (inbox-holds s buffer a)) refl refl refl refl refl)
+      (inside buffer a) (moved-left s k (inbox-room s (a .inbox) (a .good))) refl refl refl refl refl)
       (λ a h m.
-      local-act (Verb.receive buffer) 0 (s .end .control .mark) buffer (onNormal []) _ l here (λ n. l .whole (marked-not-send (s .end) (a .good) m))
+      local-act (Verb.receive buffer) 0 (s .end .control .mark) buffer (onNormal []) _ l here (λ n. l .whole (mark-moves (s .end .control) (control-within (s .end) (a .good)) m .send n))
       refl refl refl refl
       (none-made (credit (s .end .sending .window))) refl)
 
@@ -218,17 +181,17 @@ module _ (s : Station) (xs : Log) (l : Local (valuesOf s) xs) where
   local-acts Verb.allocate =
       allocate-cases (Laned (After Verb.allocate)) s (refuses Verb.allocate (λ q. refl))
       (λ g a w.
-      local-act Verb.allocate 0 mark.Nothing [] (onNormal []) _ l here (λ n. absurd (never (sym (speaking w) ∙ n))) refl refl refl refl
-      (none-made (credit (s .end .sending .window))) refl)
+      local-act Verb.allocate 0 mark.Nothing [] (onNormal []) _ l here (λ n. l .whole (allocate-moves (s .end .control) (control-within (s .end) g) a .send n))
+      refl refl refl refl (none-made (credit (s .end .sending .window))) refl)
       (λ g a w k.
       local-act Verb.allocate 10 mark.Nothing [] (onNormal (unitOf (bidNumber (s .end)) (Bid (paced (s .end .sending .window))) bidRu ∷ [])) _ l here
-      (λ n. l .whole (reset-not-send (s .end .control .state) (left (isReset (s .end .control .state)) (not (s .end .control .bid)) a))) refl refl refl refl
+      (λ n. l .whole (allocate-moves (s .end .control) (control-within (s .end) g) a .send n)) refl refl refl refl
       (request-made s (bidNumber (s .end)) (Bid (paced (s .end .sending .window))) bidRu refl g k) refl)
   local-acts Verb.confirmed =
       confirmed-cases (Laned (After Verb.confirmed)) s (refuses Verb.confirmed (λ q. refl))
       (λ g a.
       local-act Verb.confirmed 5 mark.Nothing [] (onNormal (unitOf (s .end .owed) Confirmation [] ∷ [])) _ l here
-      (λ n. l .whole (owed-not-send (s .end .control .state) a)) refl refl refl refl
+      (λ n. l .whole (confirmed-moves (s .end .control) (control-within (s .end) g) a .send n)) refl refl refl refl
       (other-made (s .end .owed) (credit (s .end .sending .window)) Confirmation [] refl) refl)
   local-acts Verb.pace =
       pace-cases (Laned (After Verb.pace)) s (refuses Verb.pace (λ q. refl))
@@ -252,69 +215,37 @@ module _ (s : Station) (xs : Log) (l : Local (valuesOf s) xs) where
 
 -- ---- takes
 
-fits-at : (ends : ChainEnd) (g : Position) (w : Walked) → recordsFit ends w ≡ true → w ≡ At (placeOr g w)
-fits-at ends g (At q) e = refl
-fits-at ends g BadLength e = absurd (never (sym e))
-
-bid-state : (c : Control) → isSend (bidTaken c .state) ≡ false → isSend (c .state) ≡ false
-unfolding bidTaken
-bid-state c n = by (isReset (c .state)) refl n
-  where
-    by : (b : Bool) → isReset (c .state) ≡ b → isSend (cond b (setState Receive c) c .state) ≡ false → isSend (c .state) ≡ false
-    by true e m = reset-not-send (c .state) e
-    by false e m = m
-
 module _ (s : Station) (xs : Log) (u : List ℕ) (l : Local (valuesOf s) xs) where
   abbrev Left : Took Lane Station Reply (List ℕ) → Type 0
   Left t = Local (valuesOf (t .end)) (took normal u (t .answer) (t .sent) ∷ xs)
 
-  not-paced : (h : Header) → headerTaken u ≡ h → TakeAsked s u → isPacingResponse u ≡ isPacing h
-  not-paced h e a = pacing-taken u (a .header) ∙ ap isPacing e
+  counts-pacing : (k : Sort) → sortOf (headerTaken u) ≡ k → TakeAsked s u → isPacingResponse u ≡ isPacing k
+  counts-pacing k e a = pacing-taken u (a .header) ∙ ap isPacing e
 
   no-rise : (c z : ℕ) → requestsAmong [] + c ≡ c + z * count false
   no-rise c z = none-made c ∙ (let y : c ≡ c + z * 0 = omega arith in y)
 
-  kind-local : (h : Header) (n : ℕ) → headerTaken u ≡ h → TakeAsked s u → firstNo (kindQuestions (s .end) h n (ruTaken u)) ≡ 0
-      → Left (tookKind s h n (ruTaken u))
-  unfolding dataJoined bidAnswered creditRaised requestTaken dataTaken grantTaken refusalTaken confirmationTaken answered
-  kind-local (Data d) n e a k =
-      let t = yes (kindQuestions (s .end) (Data d) n (ruTaken u)) tt k in
-      let ru = ruTaken u in
-      let p = s .end .receiving .taken in
-      let room : s .end .receiving .held ≤ length (s .inbox) =
-      subst (λ (m : ℕ). s .end .receiving .held ≤ m) (sym (a .inbox)) (held-in-inbox (s .end) (a .good)) in
-      local-took normal u 0 (onNormal []) false _ l (not-paced (Data d) e a) refl
-      (λ m. l .whole (fits-not-send (s .end .control .state) _ (t 5))) refl
-      (ap (walk (s .end .receiving .read)) (held-more (s .end .receiving .held) ru (s .inbox) room)
-      ∙ walk-append (s .end .receiving .read) (bytesInInbox s) ru ∙ ap (λ (w : Walked). thenWalk w ru) (l .inbox)
-      ∙ fits-at (d .ends) p (walk p ru) (t 6)) refl
-      (no-rise (credit (s .end .sending .window)) (s .end .sending .window .size))
-  kind-local (Bid p) n e a k =
-      let h = bidAnswer (s .end .control) in
-      let c = credit (s .end .sending .window) in
-      local-took normal u (RU-START + length (fixedRu h)) (onNormal (unitOf n h (fixedRu h) ∷ [])) false _ l (not-paced (Bid p) e a) refl
-      (λ m. l .whole (bid-state (s .end .control) m)) refl (l .inbox) refl
-      (other-made n c h (fixedRu h) (answer-asks (s .end .control)) ∙ (let y : c ≡ c + s .end .sending .window .size * 0 = omega arith in y))
-  kind-local PositiveBidResponse n e a k =
-      local-took normal u 0 (onNormal []) false _ l (not-paced PositiveBidResponse e a) refl (λ m. absurd (never m)) refl (l .inbox) refl
-      (no-rise (credit (s .end .sending .window)) (s .end .sending .window .size))
-  kind-local NegativeBidResponse n e a k =
-      local-took normal u 0 (onNormal []) false _ l (not-paced NegativeBidResponse e a) refl (l .whole) refl (l .inbox) refl
-      (no-rise (credit (s .end .sending .window)) (s .end .sending .window .size))
-  kind-local Confirmation n e a k =
-      let t = yes (kindQuestions (s .end) Confirmation n (ruTaken u)) tt k in
-      local-took normal u 0 (onNormal []) false _ l (not-paced Confirmation e a) refl
-      (λ m. l .whole (awaited-not-send (s .end .control .state) (left (confirmationFits (s .end .control)) (eqb n (s .end .sending .number)) (t 1))))
-      refl (l .inbox) refl
-      (no-rise (credit (s .end .sending .window)) (s .end .sending .window .size))
-  kind-local PacingResponse n e a k =
-      let t = yes (kindQuestions (s .end) PacingResponse n (ruTaken u)) tt k in
-      let w = s .end .sending .window in
-      local-took normal u 0 (onNormal []) true _ l (not-paced PacingResponse e a) refl (l .whole) refl (l .inbox) refl
-      (none-made (credit (answered w)) ∙ response-raises w (t 1) ∙ (let y : credit w + w .size ≡ credit w + w .size * 1 = omega arith in y))
-
   pub local-takes : (naming : List ℕ → ℕ)
       → ((q : ℕ) → q ≡ takeRefusal (s .end) u (length (s .inbox)) (length (s .unit)) → isBreach q ≡ false)
       → Left (takes naming normal s u)
+  unfolding takes dataJoined bidAnswered creditRaised requestTaken dataTaken answered
   local-takes naming nb =
-      take-cases Left naming s u (λ q w n. local-take-refused normal u (naming u) q n (nb q w) l) (λ a k. kind-local (headerTaken u) (numberIn u) refl a k)
+      let h = bidAnswer (s .end .control) in
+      let ru = ruTaken u in
+      let r = s .end .receiving in
+      let w = s .end .sending .window in
+      let same = no-rise (credit w) (w .size) in
+      take-cases (LanedTake Left) naming s u (λ q x n. local-take-refused normal u (naming u) q n (nb q x) l)
+      (λ d a e k.
+      local-took normal u 0 (onNormal []) false _ l (counts-pacing _ e a) refl (λ m. l .whole (k .away)) refl
+      (ap (walk (r .read)) (held-more (r .held) ru (s .inbox) (inbox-room s (a .inbox) (a .good)))
+      ∙ walk-append (r .read) (bytesInInbox s) ru ∙ ap (λ (x : Walked). thenWalk x ru) (l .inbox) ∙ k .walked) refl same)
+      (λ p a e k m.
+      local-took normal u (RU-START + length (fixedRu h)) (onNormal (unitOf (numberIn u) h (fixedRu h) ∷ [])) false _ l (counts-pacing _ e a) refl
+      (λ n. l .whole (m .send n)) refl (l .inbox) refl
+      (other-made (numberIn u) (credit w) h (fixedRu h) (ap isAsking (answer-sort (s .end .control)))
+      ∙ (let y : credit w ≡ credit w + w .size * 0 = omega arith in y)))
+      (λ c a e m. local-took normal u 0 (onNormal []) false _ l (counts-pacing _ e a) refl (λ n. l .whole (m .send n)) refl (l .inbox) refl same)
+      (λ a e k.
+      local-took normal u 0 (onNormal []) true _ l (counts-pacing _ e a) refl (l .whole) refl (l .inbox) refl
+      (none-made (credit (answered w)) ∙ response-raises w k ∙ (let y : credit w + w .size ≡ credit w + w .size * 1 = omega arith in y)))

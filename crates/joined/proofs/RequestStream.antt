@@ -11,10 +11,10 @@ use lib.Dec.{eqb, leb}
 use lib.ListN.{length}
 use Rattle.logical_record.specs.Walk.{thenWalk, walk}
 use Rattle.logical_record.specs.Positions.{isWhole}
-use Rattle.logical_record.proofs.Walks.{walk-append, walk-prefix, Through, same-position}
+use Rattle.logical_record.proofs.Walks.{walk-append, walk-prefix, Through}
 use Rattle.logical_record.specs.declared.Position.{Position}
 use Rattle.logical_record.specs.declared.Walked.{Walked}
-use Rattle.logical_record.specs.declared.Walked.the-variants.{At, BadLength}
+use Rattle.logical_record.specs.declared.Walked.the-variants.{At}
 use Rattle.header.specs.Rules.{headerGood}
 use Rattle.header.specs.Header.{isFirst, isLast}
 use Rattle.cells.specs.Equal.{sameBytes}
@@ -23,7 +23,7 @@ use Rattle.unit.specs.Unit.{RU-START, unitOf, numberIn, headerIn}
 use Rattle.header.specs.declared.ChainEnd.{ChainEnd}
 use Rattle.header.specs.declared.DataHeader.{DataHeader}
 use Rattle.header.specs.declared.Header.{Header}
-use Rattle.header.specs.declared.Header.the-variants.{Data, Bid, PositiveBidResponse, NegativeBidResponse, Confirmation, PacingResponse}
+use Rattle.header.specs.declared.Header.the-variants.{Data, Bid}
 use Rattle.header.proofs.RoundTrip.{built-good}
 use Rattle.unit.proofs.Units.{unit-length, unit-number, unit-header, unit-ru}
 use Rattle.pacing.specs.Pacing.{nextPosition}
@@ -32,7 +32,8 @@ use Rattle.sides.specs.Shared.{nextNumber}
 use Rattle.logical_record.specs.Walk.{placeOr}
 use Rattle.sides.specs.Receiving.{recordsFit}
 use Rattle.end.specs.ReceiveUnit.{headerTaken, ruTaken}
-use Rattle.calls.proofs.UnitsByHeader.{taken-header}
+use Rattle.bools.proofs.Cases.{never}
+use Rattle.calls.proofs.UnitsByHeader.{Sort, brings, asks, answers, paces, sortOf, isAsking, taken-header, fixed-good}
 use Rattle.calls.specs.Calls.{Station}
 use Rattle.joined.specs.Histories.{bytesInSendBuffer}
 use Rattle.joined.proofs.LineAutomaton.{Ran, ok, stuck, stuck≢ok, ok-is, Leads, leads-nowhere, leads-more, Parted, parted}
@@ -45,41 +46,40 @@ pub record Books : Type 0 where
   pub chain : Bool
   pub place : Position
 
--- a unit may come next, with m the maximum RU
+-- a unit of a sort may come next
+abbrev pub follows : Books → Sort → ℕ → List ℕ → Bool
+follows b (brings d) n ru =
+    agree (d .pacing) (eqb (b .position) 0)
+    && (eqb n (nextNumber (b .number)) && (agree (isFirst (d .begins)) (not (b .chain)) && recordsFit (d .ends) (walk (b .place) ru)))
+follows b (asks p) n ru = agree p (eqb (b .position) 0) && (eqb n (nextNumber (b .number)) && agree true (not (b .chain)))
+follows b answers n ru = true
+follows b paces n ru = eqb n 0
+
+-- with m the maximum RU
 abbrev pub fits : ℕ → Books → Header → ℕ → List ℕ → Bool
-fits m b (Data d) n ru =
-    ruGood m (Data d) ru
-    && (agree (d .pacing) (eqb (b .position) 0)
-    && (eqb n (nextNumber (b .number)) && (agree (isFirst (d .begins)) (not (b .chain)) && recordsFit (d .ends) (walk (b .place) ru))))
-fits m b (Bid p) n ru = ruGood m (Bid p) ru && (agree p (eqb (b .position) 0) && (eqb n (nextNumber (b .number)) && agree true (not (b .chain))))
-fits m b PositiveBidResponse n ru = ruGood m PositiveBidResponse ru
-fits m b NegativeBidResponse n ru = ruGood m NegativeBidResponse ru
-fits m b Confirmation n ru = ruGood m Confirmation ru
-fits m b PacingResponse n ru = ruGood m PacingResponse ru && eqb n 0
+fits m b h n ru = ruGood m h ru && follows b (sortOf h) n ru
 
 -- the books after it, with w the window
-abbrev pub next : ℕ → Books → Header → List ℕ → Books
-next w b (Data d) ru =
+abbrev pub next : ℕ → Books → Sort → List ℕ → Books
+next w b (brings d) ru =
     record {
       number = nextNumber (b .number);
       position = nextPosition (b .position) w;
       chain = not (isLast (d .ends));
       place = placeOr (b .place) (walk (b .place) ru);
     }
-next w b (Bid p) ru = record { number = nextNumber (b .number); position = nextPosition (b .position) w; chain = b .chain; place = b .place }
-next w b PositiveBidResponse ru = b
-next w b NegativeBidResponse ru = b
-next w b Confirmation ru = b
-next w b PacingResponse ru = b
+next w b (asks p) ru = record { number = nextNumber (b .number); position = nextPosition (b .position) w; chain = b .chain; place = b .place }
+next w b answers ru = b
+next w b paces ru = b
 
 unfoldable pub streamStep : ℕ → ℕ → Books → List ℕ → Ran Books
 streamStep w m b u =
     cond (leb RU-START (length u) && (headerGood (headerIn u) && fits m b (headerTaken u) (numberIn u) (ruTaken u)))
-    (ok (next w b (headerTaken u) (ruTaken u)))
+    (ok (next w b (sortOf (headerTaken u)) (ruTaken u)))
     stuck
 
 -- a unit made leads the books on
-pub stream-unit : (w m : ℕ) (b : Books) (n : ℕ) (h : Header) (ru : List ℕ) → fits m b h n ru ≡ true → streamStep w m b (unitOf n h ru) ≡ ok (next w b h ru)
+pub stream-unit : (w m : ℕ) (b : Books) (n : ℕ) (h : Header) (ru : List ℕ) → fits m b h n ru ≡ true → streamStep w m b (unitOf n h ru) ≡ ok (next w b (sortOf h) ru)
 unfolding streamStep
 stream-unit w m b n h ru e =
     rw (
@@ -92,27 +92,11 @@ stream-unit w m b n h ru e =
       e,
     )
 
--- what a unit that leads the books on is
-pub record Fitting (w m : ℕ) (b : Books) (u : List ℕ) (v : Books) : Type 0 where
-  pub long : leb RU-START (length u) ≡ true
-  pub header : headerGood (headerIn u) ≡ true
-  pub fitting : fits m b (headerTaken u) (numberIn u) (ruTaken u) ≡ true
-  pub books : v ≡ next w b (headerTaken u) (ruTaken u)
-
-fitting-at : (w m : ℕ) (b : Books) (u : List ℕ) (v x : Books) (a c d : Bool)
-    → cond (a && (c && d)) (ok x) stuck ≡ ok v → (a ≡ true) × (c ≡ true) × (d ≡ true) × (v ≡ x)
-fitting-at w m b u v x true true true e = (refl, refl, refl, sym (ok-is e))
-fitting-at w m b u v x true true false e = absurd (stuck≢ok e)
-fitting-at w m b u v x true false d e = absurd (stuck≢ok e)
-fitting-at w m b u v x false c d e = absurd (stuck≢ok e)
-
-pub fitting-is : (w m : ℕ) (b : Books) (u : List ℕ) (v : Books) → streamStep w m b u ≡ ok v → Fitting w m b u v
-unfolding streamStep
-fitting-is w m b u v e =
-    let q =
-    fitting-at w m b u v (next w b (headerTaken u) (ruTaken u)) (leb RU-START (length u)) (headerGood (headerIn u))
-    (fits m b (headerTaken u) (numberIn u) (ruTaken u)) e in
-    record { long = q .0; header = q .1; fitting = q .2; books = q .3 }
+fitting-at : (v x : Books) (a c d : Bool) → cond (a && (c && d)) (ok x) stuck ≡ ok v → (a ≡ true) × (c ≡ true) × (d ≡ true) × (v ≡ x)
+fitting-at v x true true true e = (refl, refl, refl, sym (ok-is e))
+fitting-at v x true true false e = absurd (stuck≢ok e)
+fitting-at v x true false d e = absurd (stuck≢ok e)
+fitting-at v x false c d e = absurd (stuck≢ok e)
 
 -- ---- the two ends of the stream
 
@@ -173,13 +157,14 @@ pub record Stream (o : Outside) (i : Inside) (line : List (List ℕ)) : Type 0 w
 
 -- ---- at the sending end
 
+abbrev pub holding : Outside → List ℕ → Position → Outside
+holding o h p =
+    record { window = o .window; max = o .max; number = o .number; position = o .position; chain = o .chain; held = h; given = p }
+
 -- more bytes are held
 pub stream-keep : {o : Outside} {i : Inside} {line : List (List ℕ)} (new : List ℕ) (p : Position)
-    → Stream o i line → walk (o .given) new ≡ At p
-    → Stream
-    (record { window = o .window; max = o .max; number = o .number; position = o .position; chain = o .chain; held = o .held ++ new; given = p })
-    i line
-stream-keep {o} {i} {line} new p s e =
+    → Stream o i line → walk (o .given) new ≡ At p → Stream (holding o (o .held ++ new) p) i line
+stream-keep {o} new p s e =
     record {
       window = s .window;
       max = s .max;
@@ -190,22 +175,12 @@ stream-keep {o} {i} {line} new p s e =
 
 -- a data unit is whole at a mark
 marked : (ends : ChainEnd) (w : Walked) (p : Position) → w ≡ At p → not (marks ends) || isWhole p ≡ true → recordsFit ends w ≡ true
-marked ends (At q) p e h = subst (λ (x : Position). not (marks ends) || isWhole x ≡ true) (sym (same-position q p e)) h
-marked ends BadLength p e h = absurd (let z : _≡_ {A = ℕ} 0 1 = cc in omega arith)
+marked ends w p e h = rw e h
 
 agree-same : (a b : Bool) → a ≡ b → agree a b ≡ true
 agree-same true b e = sym e
 agree-same false true e = e
 agree-same false false e = refl
-
-all4 : (a b c d : Bool) → a ≡ true → b ≡ true → c ≡ true → d ≡ true → a && (b && (c && d)) ≡ true
-all4 a b c d e f g h = rw (e, f, g, h)
-
-all5 : (a b c d e : Bool) → a ≡ true → b ≡ true → c ≡ true → d ≡ true → e ≡ true → a && (b && (c && (d && e))) ≡ true
-all5 a b c d e f g h i j = rw (f, g, h, i, j)
-
-place-is : (p q : Position) (w : Walked) → w ≡ At q → placeOr p w ≡ q
-place-is p q w e = ap (placeOr p) e
 
 -- the sending end after a request
 abbrev pub requestOut : Outside → Bool → List ℕ → Outside
@@ -231,22 +206,24 @@ pub stream-data : {o : Outside} {i : Inside} {line : List (List ℕ)} (d : DataH
     → Stream (requestOut o (not (isLast (d .ends))) rest) i (line ++ (unitOf (nextNumber (o .number)) (Data d) ru ∷ []))
 stream-data {o} {i} {line} d ru rest s parts good pacing first whole =
     let t : Through (s .place) ru rest (o .given) =
-    walk-prefix (s .place) (o .given) ru rest (subst (λ (bs : List ℕ). walk (s .place) bs ≡ At (o .given)) parts (s .held)) in
+    walk-prefix (s .place) (o .given) ru rest (rw parts at (s .held)) in
     let b : Books = booksOut o (s .place) in
-    let f : fits (i .max) b (Data d) (nextNumber (o .number)) ru ≡ true =
-    all5 (ruGood (i .max) (Data d) ru) (agree (d .pacing) (eqb (o .position) 0)) (eqb (nextNumber (o .number)) (nextNumber (o .number)))
-    (agree (isFirst (d .begins)) (not (o .chain))) (recordsFit (d .ends) (walk (s .place) ru))
-    (subst (λ (m : ℕ). ruGood m (Data d) ru ≡ true) (s .max) good) (agree-same _ _ pacing) (eq-eqb (nextNumber (o .number)) (nextNumber (o .number)) refl) (agree-same _ _ first)
-    (marked (d .ends) (walk (s .place) ru) (t .middle) (t .first) (whole (t .middle) (t .second))) in
-    let after = requestOut o (not (isLast (d .ends))) rest in
-    let e : next (i .window) b (Data d) ru ≡ booksOut after (t .middle) =
-    ap (λ (w : ℕ). next w b (Data d) ru) (sym (s .window))
-    ∙ ap (λ (x : Position). booksOut after x) (place-is (s .place) (t .middle) (walk (s .place) ru) (t .first)) in
+    let n = nextNumber (o .number) in
+    let f : fits (i .max) b (Data d) n ru ≡ true =
+    rw (
+      ← s .max,
+      good,
+      agree-same _ _ pacing,
+      eq-eqb n n refl,
+      agree-same _ _ first,
+      marked (d .ends) (walk (s .place) ru) (t .middle) (t .first) (whole (t .middle) (t .second)),
+    ) in
+    let e : next (i .window) b (brings d) ru ≡ booksOut (requestOut o (not (isLast (d .ends))) rest) (t .middle) = rw (s .window, t .first) in
     record {
       window = s .window;
       max = s .max;
       place = t .middle;
-      leads = leads-more (s .leads) (stream-unit (i .window) (i .max) b (nextNumber (o .number)) (Data d) ru f ∙ ap ok e);
+      leads = leads-more (s .leads) (stream-unit (i .window) (i .max) b n (Data d) ru f ∙ ap ok e);
       held = t .second;
     }
 
@@ -259,98 +236,70 @@ pub stream-bid : {o : Outside} {i : Inside} {line : List (List ℕ)} (p : Bool)
 unfolding ruGood sameBytes
 stream-bid {o} {i} {line} p s pacing chain =
     let b : Books = booksOut o (s .place) in
-    let f : fits (i .max) b (Bid p) (nextNumber (o .number)) (fixedRu (Bid p)) ≡ true =
-    all4 true (agree p (eqb (o .position) 0)) (eqb (nextNumber (o .number)) (nextNumber (o .number))) (agree true (not (o .chain)))
-    refl (agree-same _ _ pacing) (eq-eqb (nextNumber (o .number)) (nextNumber (o .number)) refl) (ap not chain) in
-    let e : next (i .window) b (Bid p) (fixedRu (Bid p)) ≡ booksOut (requestOut o (o .chain) (o .held)) (s .place) =
-    ap (λ (w : ℕ). next w b (Bid p) (fixedRu (Bid p))) (sym (s .window)) in
+    let n = nextNumber (o .number) in
+    let f : fits (i .max) b (Bid p) n (fixedRu (Bid p)) ≡ true = rw (agree-same _ _ pacing, eq-eqb n n refl, chain) in
+    let e : next (i .window) b (asks p) (fixedRu (Bid p)) ≡ booksOut (requestOut o (o .chain) (o .held)) (s .place) = rw (s .window) in
     record {
       window = s .window;
       max = s .max;
       place = s .place;
-      leads = leads-more (s .leads) (stream-unit (i .window) (i .max) b (nextNumber (o .number)) (Bid p) (fixedRu (Bid p)) f ∙ ap ok e);
+      leads = leads-more (s .leads) (stream-unit (i .window) (i .max) b n (Bid p) (fixedRu (Bid p)) f ∙ ap ok e);
       held = s .held;
     }
 
 -- a response goes out, a pacing response under the number 0
-abbrev pub isResponse : Header → Bool
-isResponse (Data d) = false
-isResponse (Bid p) = false
-isResponse PositiveBidResponse = true
-isResponse NegativeBidResponse = true
-isResponse Confirmation = true
-isResponse PacingResponse = true
+abbrev pub mayAnswer : Sort → ℕ → Bool
+mayAnswer (brings d) n = false
+mayAnswer (asks p) n = false
+mayAnswer answers n = true
+mayAnswer paces n = eqb n 0
 
-abbrev pub zeroIfPacing : Header → ℕ → Bool
-zeroIfPacing (Data d) n = true
-zeroIfPacing (Bid p) n = true
-zeroIfPacing PositiveBidResponse n = true
-zeroIfPacing NegativeBidResponse n = true
-zeroIfPacing Confirmation n = true
-zeroIfPacing PacingResponse n = eqb n 0
-
-response-fits : (m : ℕ) (b : Books) (h : Header) (n : ℕ) → isResponse h ≡ true → zeroIfPacing h n ≡ true → fits m b h n (fixedRu h) ≡ true
-unfolding ruGood sameBytes
-response-fits m b (Data d) n e z = absurd (let z : _≡_ {A = ℕ} 0 1 = cc in omega arith)
-response-fits m b (Bid p) n e z = absurd (let z : _≡_ {A = ℕ} 0 1 = cc in omega arith)
-response-fits m b PositiveBidResponse n e z = refl
-response-fits m b NegativeBidResponse n e z = refl
-response-fits m b Confirmation n e z = refl
-response-fits m b PacingResponse n e z = z
-
-response-next : (w : ℕ) (b : Books) (h : Header) (ru : List ℕ) → isResponse h ≡ true → next w b h ru ≡ b
-response-next w b (Data d) ru e = absurd (let z : _≡_ {A = ℕ} 0 1 = cc in omega arith)
-response-next w b (Bid p) ru e = absurd (let z : _≡_ {A = ℕ} 0 1 = cc in omega arith)
-response-next w b PositiveBidResponse ru e = refl
-response-next w b NegativeBidResponse ru e = refl
-response-next w b Confirmation ru e = refl
-response-next w b PacingResponse ru e = refl
+answer-fits : (b : Books) (k : Sort) (w n : ℕ) (ru : List ℕ) → mayAnswer k n ≡ true
+    → (isAsking k ≡ false) × (follows b k n ru ≡ true) × (next w b k ru ≡ b)
+answer-fits b (brings d) w n ru e = never e
+answer-fits b (asks p) w n ru e = never e
+answer-fits b answers w n ru e = (refl, refl, refl)
+answer-fits b paces w n ru e = (refl, e, refl)
 
 pub stream-response : {o : Outside} {i : Inside} {line : List (List ℕ)} (n : ℕ) (h : Header)
-    → Stream o i line → isResponse h ≡ true → zeroIfPacing h n ≡ true → Stream o i (line ++ (unitOf n h (fixedRu h) ∷ []))
-stream-response {o} {i} {line} n h s e z =
+    → Stream o i line → mayAnswer (sortOf h) n ≡ true → Stream o i (line ++ (unitOf n h (fixedRu h) ∷ []))
+stream-response {o} {i} {line} n h s e =
     let b : Books = booksOut o (s .place) in
+    let a = answer-fits b (sortOf h) (i .window) n (fixedRu h) e in
+    let f : fits (i .max) b h n (fixedRu h) ≡ true = rw (fixed-good (i .max) h (a .0), a .1) in
     record {
       window = s .window;
       max = s .max;
       place = s .place;
-      leads =
-          leads-more (s .leads)
-          (stream-unit (i .window) (i .max) b n h (fixedRu h) (response-fits (i .max) b h n e z) ∙ ap ok (response-next (i .window) b h (fixedRu h) e));
+      leads = leads-more (s .leads) (stream-unit (i .window) (i .max) b n h (fixedRu h) f ∙ ap ok (a .2));
       held = s .held;
     }
 
 -- ---- at the receiving end
 
--- the receiving end after the unit u
-abbrev pub taken : Inside → Header → List ℕ → Inside
-taken i h ru =
-    let b = next (i .window) (booksIn i) h ru in
+-- the receiving end after a unit of the sort k
+abbrev pub taken : Inside → Sort → List ℕ → Inside
+taken i k ru =
+    let b = next (i .window) (booksIn i) k ru in
     record { window = i .window; max = i .max; number = b .number; position = b .position; chain = b .chain; taken = b .place }
 
 pub record Heads (o : Outside) (i : Inside) (u : List ℕ) (line : List (List ℕ)) : Type 0 where
   pub long : leb RU-START (length u) ≡ true
   pub header : headerGood (headerIn u) ≡ true
   pub fitting : fits (i .max) (booksIn i) (headerTaken u) (numberIn u) (ruTaken u) ≡ true
-  pub rest : Stream o (taken i (headerTaken u) (ruTaken u)) line
+  pub rest : Stream o (taken i (sortOf (headerTaken u)) (ruTaken u)) line
 
 -- the oldest unit fits, and what is left of the line follows it
 pub stream-take : {o : Outside} {i : Inside} {u : List ℕ} {line : List (List ℕ)} → Stream o i (u ∷ line) → Heads o i u line
+unfolding streamStep
 stream-take {o} {i} {u} {line} s =
     let q : Parted (streamStep (i .window) (i .max)) (booksIn i) u line (booksOut o (s .place)) = parted (s .leads) in
-    let f = fitting-is (i .window) (i .max) (booksIn i) u (q .via) (q .head) in
+    let f = fitting-at _ _ _ _ _ (q .head) in
     record {
-      long = f .long;
-      header = f .header;
-      fitting = f .fitting;
-      rest =
-          record {
-            window = s .window;
-            max = s .max;
-            place = s .place;
-            leads = subst (λ (b : Books). Leads (streamStep (i .window) (i .max)) b line (booksOut o (s .place))) (f .books) (q .rest);
-            held = s .held;
-          };
+      long = f .0;
+      header = f .1;
+      fitting = f .2;
+      rest = record { window = s .window; max = s .max; place = s .place; leads = rw (f .3) at (q .rest); held = s .held };
     }
 
 -- ---- as opened

@@ -3,11 +3,11 @@
 use Prim.Native.Nat.{ℕ, _+_, _-_, _≤_, _<_}
 use mathlib.Core.Path.{_≡_, refl, sym, ap, _∙_, subst}
 use mathlib.Core.Bool.{Bool, true, false, not, cond, _&&_, _||_}
-use mathlib.Core.List.{List, [], _∷_, _++_, append-nil, append-assoc}
+use mathlib.Core.List.{List, [], _∷_, _++_, append-nil}
 use native.Mathlib.Omega.{arith}
 use borrow.Author.Tests.{leb-false, le-leb, eqb-false}
 use lib.Dec.{eqb, leb}
-use lib.ListN.{length, take, drop, length-append, length-drop, take-append-drop}
+use lib.ListN.{length, take, drop, length-append, length-drop}
 use lib.Seq.{length-take-le}
 use Rattle.cells.specs.Cells.{front, written}
 use Rattle.logical_record.specs.Positions.{isWhole}
@@ -19,12 +19,10 @@ use Rattle.unit.specs.Unit.{unitOf, numberIn}
 use Rattle.header.specs.declared.Follows.{Follows}
 use Rattle.header.specs.declared.ChainEnd.the-variants.{Continues, Last}
 use Rattle.header.specs.declared.DataHeader.{DataHeader}
-use Rattle.header.specs.declared.Header.{Header}
-use Rattle.header.specs.declared.Header.the-variants.{Data, Bid, PositiveBidResponse, NegativeBidResponse, Confirmation, PacingResponse}
+use Rattle.header.specs.declared.Header.the-variants.{Data, Confirmation, PacingResponse}
 use Rattle.pacing.specs.Pacing.{paced, advanced, answered}
 use Rattle.control.specs.Tests.{isReset}
-use Rattle.transitions.specs.Transitions.{beginOf, allocated, spilled, closed, confirmationMade, markAnswered, dataTaken, bidTaken, bidAnswer, grantTaken, refusalTaken, confirmationTaken}
-use Rattle.control.specs.declared.Control.{Control}
+use Rattle.transitions.specs.Transitions.{beginOf, spilled, closed, confirmationMade, dataTaken, bidAnswer}
 use Rattle.sides.specs.Shared.{nextNumber}
 use Rattle.sides.specs.Sending.{requestMade}
 use Rattle.sides.specs.Receiving.{requestTaken}
@@ -39,14 +37,16 @@ use Rattle.end.specs.Receive.{bytesRead}
 use Rattle.joined.specs.Joined.{Acted, Took}
 use Rattle.joined.specs.Ends.{Lane, normal, acts, takes}
 use Rattle.bools.proofs.Tests.{left}
-use Rattle.calls.proofs.CallCases.{CloseAsked, SendAsked, allocate-cases, close-cases, confirmed-cases, pace-cases, read-cases, send-cases, spilledRu, spilledUnit}
+use Rattle.calls.proofs.CallCases.{CloseAsked, SendAsked, control-within, take-cases, allocate-cases, close-cases, confirmed-cases, pace-cases, read-cases, send-cases, spilledRu, spilledUnit}
 use Rattle.calls.specs.Calls.{Reply, Station, Verb}
 use Rattle.control.proofs.States.{reset-not-send}
 use Rattle.end.proofs.Within.{facts}
-use Rattle.joined.proofs.CallsOnLanes.{Laned, take-cases, tookKind}
-use Rattle.joined.proofs.Chains.{allocated-out, allocated-in, closed-in, answered-out, answered-in, bid-out, bid-in, begins-first}
-use Rattle.joined.proofs.BytesInOrder.{held-more, held-rest}
-use Rattle.joined.proofs.RequestStream.{Outside, Inside, outsideOf, insideOf, Stream, stream-keep, stream-data, stream-bid, stream-response, isResponse, zeroIfPacing, taken, stream-take}
+use Rattle.joined.proofs.CallsOnLanes.{Laned, LanedTake}
+use Rattle.joined.proofs.Chains.{closed-in, begins-first}
+use Rattle.calls.proofs.ControlMoved.{allocate-moves, mark-moves}
+use Rattle.calls.proofs.UnitsByHeader.{Sort, sortOf, answer-sort}
+use Rattle.joined.proofs.BytesInOrder.{held-more, held-rest, spilled-parts}
+use Rattle.joined.proofs.RequestStream.{Outside, Inside, outsideOf, insideOf, Stream, holding, stream-keep, stream-data, stream-bid, stream-response, taken, stream-take}
 use Rattle.control.proofs.Within.{closed-outside-send}
 
 -- ---- one field at a time
@@ -55,20 +55,18 @@ abbrev chained : Outside → Bool → Outside
 chained o b =
     record { window = o .window; max = o .max; number = o .number; position = o .position; chain = b; held = o .held; given = o .given }
 
-abbrev holding : Outside → List ℕ → Position → Outside
-holding o h p =
-    record { window = o .window; max = o .max; number = o .number; position = o .position; chain = o .chain; held = h; given = p }
-
 abbrev linked : Inside → Bool → Inside
 linked i b = record { window = i .window; max = i .max; number = i .number; position = i .position; chain = b; taken = i .taken }
 
-same-chain : {o : Outside} {i : Inside} {line : List (List ℕ)} (b : Bool) → b ≡ o .chain → Stream o i line → Stream (chained o b) i line
-same-chain {o} {i} {line} b e s = subst (λ (x : Bool). Stream (chained o x) i line) (sym e) s
+module _ {o : Outside} {i : Inside} {line : List (List ℕ)} where
+  same-chain : (b : Bool) → b ≡ o .chain → Stream o i line → Stream (chained o b) i line
+  same-chain b e s = rw e s
 
-same-held : {o : Outside} {i : Inside} {line : List (List ℕ)} (h : List ℕ) (p : Position)
-    → h ≡ o .held → p ≡ o .given → Stream o i line → Stream (holding o h p) i line
-same-held {o} {i} {line} h p e f s =
-    subst (λ (x : List ℕ). Stream (holding o x p) i line) (sym e) (subst (λ (x : Position). Stream (holding o (o .held) x) i line) (sym f) s)
+  same-link : (b : Bool) → b ≡ i .chain → Stream o i line → Stream o (linked i b) line
+  same-link b e s = rw e s
+
+  same-held : (h : List ℕ) (p : Position) → h ≡ o .held → p ≡ o .given → Stream o i line → Stream (holding o h p) i line
+  same-held h p e f s = rw (e, f) s
 
 -- ---- data units that calls make
 
@@ -110,9 +108,6 @@ module _ (s : Station) (i : Inside) (line : List (List ℕ)) (st : Stream (outsi
   abbrev After : Acted Lane Station Reply (List ℕ) → Type 0
   After m = Stream (outsideOf (m .end)) i (line ++ m .sent normal)
 
-  quiet-line : {o : Outside} → Stream o i line → Stream o i (line ++ [])
-  quiet-line {o} j = subst (λ (l : List (List ℕ)). Stream o i l) (sym (append-nil line)) j
-
   spill : (bytes : List ℕ) → SendAsked s bytes → keeps (s .end .sending) (length bytes) ≡ false
       → Stream
       (outsideOf
@@ -124,11 +119,8 @@ module _ (s : Station) (i : Inside) (line : List (List ℕ)) (st : Stream (outsi
       let kept = stream-keep bytes (a .place) st (a .walked) in
       let rest = drop (gone e) bytes in
       let d : DataHeader = record { begins = beginOf (e .control); ends = Continues; pacing = paced (e .sending .window) } in
-      let parts : heldBytes e (s .send) ++ bytes ≡ spilledRu s bytes ++ rest =
-      ap (λ (bs : List ℕ). heldBytes e (s .send) ++ bs) (sym (take-append-drop (gone e) bytes))
-      ∙ sym (append-assoc (heldBytes e (s .send)) (take (gone e) bytes) rest) in
       let sent =
-      stream-data d (spilledRu s bytes) rest kept parts
+      stream-data d (spilledRu s bytes) rest kept (spilled-parts s bytes)
       (full-good (e .sending .max) d (spilledRu s bytes) (spilled-length s bytes a k) (facts e (a .good) .sending .max .least)) refl (begins-first (e .control)) (λ x w. refl) in
       same-held (take (length bytes - gone e) (front rest (s .send))) (placeOr (e .sending .given) (walk (e .sending .given) bytes))
       (held-rest (length bytes - gone e) rest (s .send) (sym (length-drop (gone e) bytes))) (ap (placeOr (e .sending .given)) (a .walked)) sent
@@ -150,61 +142,39 @@ module _ (s : Station) (i : Inside) (line : List (List ℕ)) (st : Stream (outsi
   pub stream-acts : (v : Verb) → After (acts s v)
   unfolding acts bytesKept bytesRead bidMade requestMade advanced confirmationMade
   stream-acts Verb.allocate =
-      allocate-cases (Laned After) s (λ q n. quiet-line st)
-      (λ g a w. quiet-line (same-chain (allocated (s .end .control) .outchain) (allocated-out (s .end .control)) st))
+      let c = s .end .control in
+      allocate-cases (Laned After) s (λ q n. rw append-nil st)
+      (λ g a w. rw append-nil (same-chain _ (allocate-moves c (control-within (s .end) g) a .out) st))
       (λ g a w k.
-      let shut : s .end .control .outchain ≡ false =
-      closed-outside-send ((s .end) .control) (facts (s .end) g .control) (reset-not-send (s .end .control .state) (left (isReset (s .end .control .state)) (not (s .end .control .bid)) a)) in
-      same-chain (allocated (s .end .control) .outchain) (allocated-out (s .end .control)) (stream-bid (paced (s .end .sending .window)) st refl shut))
-  stream-acts Verb.confirmed = confirmed-cases (Laned After) s (λ q n. quiet-line st) (λ g a. stream-response (s .end .owed) Confirmation st refl refl)
-  stream-acts Verb.pace = pace-cases (Laned After) s (λ q n. quiet-line st) (λ g a. stream-response 0 PacingResponse st refl refl)
+      let shut = closed-outside-send c (facts (s .end) g .control) (reset-not-send (c .state) (left (isReset (c .state)) _ a)) in
+      same-chain _ (allocate-moves c (control-within (s .end) g) a .out) (stream-bid (paced (s .end .sending .window)) st refl shut))
+  stream-acts Verb.confirmed = confirmed-cases (Laned After) s (λ q n. rw append-nil st) (λ g a. stream-response (s .end .owed) Confirmation st refl)
+  stream-acts Verb.pace = pace-cases (Laned After) s (λ q n. rw append-nil st) (λ g a. stream-response 0 PacingResponse st refl)
   stream-acts (Verb.sendData bytes) =
-      send-cases (Laned After) s bytes (λ q n. quiet-line st)
+      let o = s .end .sending in
+      send-cases (Laned After) s bytes (λ q n. rw append-nil st)
       (λ a k.
       let h = facts (s .end) (a .good) .sending .held in
       let b = a .buffer in
-      quiet-line
-      (same-held (take (s .end .sending .held + length bytes) (written (s .end .sending .held) bytes (s .send)))
-      (placeOr (s .end .sending .given) (walk (s .end .sending .given) bytes))
-      (held-more (s .end .sending .held) bytes (s .send) (omega arith)) (ap (placeOr (s .end .sending .given)) (a .walked))
-      (stream-keep bytes (a .place) st (a .walked))))
+      rw append-nil
+      (same-held (take (o .held + length bytes) (written (o .held) bytes (s .send))) (placeOr (o .given) (walk (o .given) bytes))
+      (held-more (o .held) bytes (s .send) (omega arith)) (ap (placeOr (o .given)) (a .walked)) (stream-keep bytes (a .place) st (a .walked))))
       (λ a k h. spill bytes a k)
-  stream-acts (Verb.close f c) = close-cases (Laned After) s f c (λ q n. quiet-line st) (λ a n. quiet-line st) (λ a n k. last f c a n)
+  stream-acts (Verb.close f c) = close-cases (Laned After) s f c (λ q n. rw append-nil st) (λ a n. rw append-nil st) (λ a n k. last f c a n)
   stream-acts (Verb.receive buffer) =
-      read-cases (Laned After) s buffer (λ q w n. quiet-line st) (λ a h. quiet-line st)
-      (λ a h m. quiet-line (same-chain (markAnswered (s .end .control) .outchain) (answered-out (s .end .control)) st))
+      read-cases (Laned After) s buffer (λ q w n. rw append-nil st) (λ a h. rw append-nil st)
+      (λ a h m. rw append-nil (same-chain _ (mark-moves (s .end .control) (control-within (s .end) (a .good)) m .out) st))
 
   -- a take at this end: only a bid has it make a unit, which is a response
   abbrev Left : Took Lane Station Reply (List ℕ) → Type 0
   Left t = Stream (outsideOf (t .end)) i (line ++ t .sent normal)
 
-  answers : (c : Control) → isResponse (bidAnswer c) ≡ true
-  answers c = by (isReset (c .state))
-    where
-      by : (b : Bool) → isResponse (cond b PositiveBidResponse NegativeBidResponse) ≡ true
-      by true = refl
-      by false = refl
-
-  answers-any : (c : Control) (n : ℕ) → zeroIfPacing (bidAnswer c) n ≡ true
-  answers-any c n = by (isReset (c .state))
-    where
-      by : (b : Bool) → zeroIfPacing (cond b PositiveBidResponse NegativeBidResponse) n ≡ true
-      by true = refl
-      by false = refl
-
-  kind-out : (h : Header) (n : ℕ) (ru : List ℕ) → Left (tookKind s h n ru)
-  unfolding dataJoined bidAnswered creditRaised dataTaken grantTaken refusalTaken confirmationTaken answered
-  kind-out (Data d) n ru = quiet-line st
-  kind-out (Bid p) n ru =
-      same-chain (bidTaken (s .end .control) .outchain) (bid-out (s .end .control))
-      (stream-response n (bidAnswer (s .end .control)) st (answers (s .end .control)) (answers-any (s .end .control) n))
-  kind-out PositiveBidResponse n ru = quiet-line st
-  kind-out NegativeBidResponse n ru = quiet-line st
-  kind-out Confirmation n ru = quiet-line st
-  kind-out PacingResponse n ru = quiet-line st
-
   pub stream-takes : (naming : List ℕ → ℕ) (u : List ℕ) → Left (takes naming normal s u)
-  stream-takes naming u = take-cases Left naming s u (λ q w n. quiet-line st) (λ a k. kind-out (headerTaken u) (numberIn u) (ruTaken u))
+  unfolding takes dataJoined bidAnswered creditRaised dataTaken answered
+  stream-takes naming u =
+      take-cases (LanedTake Left) naming s u (λ q w n. rw append-nil st) (λ d a e k. rw append-nil st)
+      (λ p a e k m. same-chain _ (m .out) (stream-response (numberIn u) (bidAnswer (s .end .control)) st (rw (answer-sort (s .end .control)))))
+      (λ c a e m. rw append-nil (same-chain _ (m .out) st)) (λ a e k. rw append-nil st)
 
 -- ---- as the receiving end
 
@@ -212,44 +182,31 @@ module _ (s : Station) (o : Outside) (back : List (List ℕ)) where
   abbrev AfterIn : Acted Lane Station Reply (List ℕ) → Type 0
   AfterIn m = Stream o (insideOf (m .end)) back
 
-  same-link : {i : Inside} (b : Bool) → b ≡ i .chain → Stream o i back → Stream o (linked i b) back
-  same-link {i} b e st = subst (λ (x : Bool). Stream o (linked i x) back) (sym e) st
-
   pub stream-in-acts : Stream o (insideOf s) back → (v : Verb) → AfterIn (acts s v)
   unfolding acts bytesKept bytesSpilled bytesRead bidMade lastMade requestMade spilled confirmationMade answered
   stream-in-acts st Verb.allocate =
-      allocate-cases (Laned AfterIn) s (λ q n. st) (λ g a w. same-link (allocated (s .end .control) .inchain) (allocated-in (s .end .control)) st)
-      (λ g a w k. same-link (allocated (s .end .control) .inchain) (allocated-in (s .end .control)) st)
+      let c = s .end .control in
+      allocate-cases (Laned AfterIn) s (λ q n. st) (λ g a w. same-link _ (allocate-moves c (control-within (s .end) g) a .into) st)
+      (λ g a w k. same-link _ (allocate-moves c (control-within (s .end) g) a .into) st)
   stream-in-acts st Verb.confirmed = confirmed-cases (Laned AfterIn) s (λ q n. st) (λ g a. st)
   stream-in-acts st Verb.pace = pace-cases (Laned AfterIn) s (λ q n. st) (λ g a. st)
   stream-in-acts st (Verb.sendData bytes) = send-cases (Laned AfterIn) s bytes (λ q n. st) (λ a k. st) (λ a k h. st)
   stream-in-acts st (Verb.close f c) =
       close-cases (Laned AfterIn) s f c (λ q n. st) (λ a n. st) (λ a n k. same-link _ (closed-in f c (s .end .control)) st)
   stream-in-acts st (Verb.receive buffer) =
-      read-cases (Laned AfterIn) s buffer (λ q w n. st) (λ a h. st) (λ a h m. same-link _ (answered-in (s .end .control)) st)
+      read-cases (Laned AfterIn) s buffer (λ q w n. st) (λ a h. st)
+      (λ a h m. same-link _ (mark-moves (s .end .control) (control-within (s .end) (a .good)) m .into) st)
 
-  -- a take: the end is where the unit leads
-  kind-in : (h : Header) (n : ℕ) (ru : List ℕ) → Stream o (taken (insideOf s) h ru) back → Stream o (insideOf (tookKind s h n ru .end)) back
-  unfolding dataJoined bidAnswered creditRaised requestTaken advanced dataTaken grantTaken refusalTaken confirmationTaken
-  kind-in (Data d) n ru st = st
-  kind-in (Bid p) n ru st = same-link (bidTaken (s .end .control) .inchain) (bid-in (s .end .control)) st
-  kind-in PositiveBidResponse n ru st = st
-  kind-in NegativeBidResponse n ru st = st
-  kind-in Confirmation n ru st = st
-  kind-in PacingResponse n ru st = st
+  module _ (u : List ℕ) (st : Stream o (insideOf s) (u ∷ back)) where
+    abbrev LeftIn : Took Lane Station Reply (List ℕ) → Type 0
+    LeftIn t = Stream o (insideOf (t .end)) (cond (t .removed) back (u ∷ back))
 
-  pub stream-in-takes : (naming : List ℕ → ℕ) (u : List ℕ)
-      → Stream o (insideOf s) (u ∷ back)
-      → (let t = takes naming normal s u in Stream o (insideOf (t .end)) (cond (t .removed) back (u ∷ back)))
-  stream-in-takes naming u st =
-      take-cases (λ (t : Took Lane Station Reply (List ℕ)). Stream o (insideOf (t .end)) (cond (t .removed) back (u ∷ back))) naming s u (λ q w n. st)
-      (λ a k. removed (headerTaken u) (kind-in (headerTaken u) (numberIn u) (ruTaken u) (stream-take st .rest)))
-    where
-      removed : (h : Header) → Stream o (insideOf (tookKind s h (numberIn u) (ruTaken u) .end)) back
-          → Stream o (insideOf (tookKind s h (numberIn u) (ruTaken u) .end)) (cond (tookKind s h (numberIn u) (ruTaken u) .removed) back (u ∷ back))
-      removed (Data d) x = x
-      removed (Bid p) x = x
-      removed PositiveBidResponse x = x
-      removed NegativeBidResponse x = x
-      removed Confirmation x = x
-      removed PacingResponse x = x
+    -- the end is where the unit leads
+    led : (k : Sort) → sortOf (headerTaken u) ≡ k → Stream o (taken (insideOf s) k (ruTaken u)) back
+    led k e = rw e at (stream-take st .rest)
+
+    pub stream-in-takes : (naming : List ℕ → ℕ) → LeftIn (takes naming normal s u)
+    unfolding takes dataJoined bidAnswered creditRaised requestTaken advanced dataTaken
+    stream-in-takes naming =
+        take-cases (LanedTake LeftIn) naming s u (λ q w n. rw n st) (λ d a e k. led _ e) (λ p a e k m. same-link _ (m .into) (led _ e))
+        (λ c a e m. same-link _ (m .into) (led _ e)) (λ a e k. led _ e)

@@ -1,0 +1,78 @@
+-- A call that changes the finite part and no more: both chains stay as they were, Send is not left, and question 5 stays answered; checked by computation
+-- at every value of the finite part.
+-- Assumes nothing.
+use mathlib.Core.Path.{_≡_, refl, sym, ap}
+use mathlib.Core.Bool.{Bool, true, false, not, _&&_, _||_}
+use Rattle.bools.proofs.Tests.{left, right, join, or-right, off}
+use Rattle.control.specs.Tests.{isSend, isNothing, agree}
+use Rattle.control.specs.Questions.{mayAllocate, mayConfirm, grantFits, refusalFits, confirmationFits}
+use Rattle.control.specs.Within.{controlGood}
+use Rattle.control.specs.declared.Control.{Control}
+use Rattle.control.proofs.Finite.{controls}
+use Rattle.control.proofs.Within.{within}
+use Rattle.transitions.specs.Transitions.{allocated, confirmationMade, markAnswered, bidTaken, grantTaken, refusalTaken, confirmationTaken}
+use Rattle.transitions.proofs.KeptWithin.{allocated-keeps, answered-keeps, bid-keeps, confirmation-keeps, confirmed-keeps, grant-keeps, refusal-keeps}
+
+pub record Moved (c d : Control) : Type 0 where
+  pub out : d .outchain ≡ c .outchain
+  pub into : d .inchain ≡ c .inchain
+  pub send : isSend (d .state) ≡ false → isSend (c .state) ≡ false
+  pub keeps : (some none : Bool) → within c some none ≡ true → within d some none ≡ true
+
+-- two tests that agree have one outcome
+pub agrees : (a b : Bool) → agree a b ≡ true → a ≡ b
+agrees true b e = sym e
+agrees false true e = e
+agrees false false e = refl
+
+abbrev movesAt : Control → Control → Bool
+movesAt c d = agree (d .outchain) (c .outchain) && (agree (d .inchain) (c .inchain) && (not (isSend (c .state)) || isSend (d .state)))
+
+-- wherever the question is answered yes
+moves : (Control → Bool) → (Control → Control) → Bool
+moves asked next = controls .all (λ c. not (asked c && controlGood c) || movesAt c (next c))
+
+module _ (c : Control) (g : controlGood c ≡ true) where
+  moved : (asked : Control → Bool) (next : Control → Control) → moves asked next ≡ true → asked c ≡ true
+      → ((some none : Bool) → within c some none ≡ true → within (next c) some none ≡ true) → Moved c (next c)
+  unfolding moves
+  moved asked next t a k =
+      let d = next c in
+      let h =
+      or-right (not (asked c && controlGood c)) (movesAt c d) (controls .at (λ c. not (asked c && controlGood c) || movesAt c (next c)) t c)
+      (ap not (join (asked c) (controlGood c) a g)) in
+      let rest = right (agree (d .outchain) (c .outchain)) _ h in
+      record {
+        out = agrees (d .outchain) (c .outchain) (left (agree (d .outchain) (c .outchain)) _ h);
+        into = agrees (d .inchain) (c .inchain) (left (agree (d .inchain) (c .inchain)) _ rest);
+        send = off (isSend (c .state)) (isSend (d .state)) (right (agree (d .inchain) (c .inchain)) _ rest);
+        keeps = k;
+      }
+
+  pub allocate-moves : mayAllocate c ≡ true → Moved c (allocated c)
+  unfolding moves controlGood allocated
+  allocate-moves a = moved mayAllocate allocated refl a (λ x y. allocated-keeps c x y a)
+
+  pub confirmed-moves : mayConfirm c ≡ true → Moved c (confirmationMade c)
+  unfolding moves controlGood confirmationMade
+  confirmed-moves a = moved mayConfirm confirmationMade refl a (λ x y. confirmed-keeps c x y a)
+
+  pub mark-moves : not (isNothing (c .mark)) ≡ true → Moved c (markAnswered c)
+  unfolding moves controlGood markAnswered
+  mark-moves a = moved (λ x. not (isNothing (x .mark))) markAnswered refl a (λ x y. answered-keeps c x y a)
+
+  pub bid-moves : Moved c (bidTaken c)
+  unfolding moves controlGood bidTaken
+  bid-moves = moved (λ x. true) bidTaken refl refl (bid-keeps c)
+
+  pub grant-moves : grantFits c ≡ true → Moved c (grantTaken c)
+  unfolding moves controlGood grantTaken
+  grant-moves a = moved grantFits grantTaken refl a (λ x y. grant-keeps c x y a)
+
+  pub refusal-moves : refusalFits c ≡ true → Moved c (refusalTaken c)
+  unfolding moves controlGood refusalTaken
+  refusal-moves a = moved refusalFits refusalTaken refl a (λ x y. refusal-keeps c x y a)
+
+  pub confirmation-moves : confirmationFits c ≡ true → Moved c (confirmationTaken c)
+  unfolding moves controlGood confirmationTaken
+  confirmation-moves a = moved confirmationFits confirmationTaken refl a (λ x y. confirmation-keeps c x y a)
