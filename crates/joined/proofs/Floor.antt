@@ -15,7 +15,7 @@ use Rattle.header.specs.declared.ChainEnd.{ChainEnd}
 use Rattle.header.specs.declared.ChainEnd.the-variants.{Continues, Last}
 use Rattle.header.specs.declared.Header.{Header}
 use Rattle.header.specs.declared.Header.the-variants.{Data, Bid, PositiveBidResponse, NegativeBidResponse, Confirmation, PacingResponse}
-use Rattle.control.specs.Tests.{isFirstSpeaker, isBidder, isReset, isSend, isReceive, isConfirmOwed, isNothing, agree}
+use Rattle.control.specs.Tests.{isFirstSpeaker, isBidder, isReset, isReceive, isConfirmOwed, isNothing, agree}
 use Rattle.transitions.specs.Transitions.{afterLast, afterOwed, markOf}
 use Rattle.control.specs.declared.Role.{Role}
 use Rattle.control.specs.declared.Role.the-variants.{FirstSpeaker, Bidder}
@@ -206,13 +206,6 @@ reset-state Receive e = never e
 reset-state ConfirmOwed e = never e
 reset-state ConfirmAwaited e = never e
 
-pub send-state : (s : State) → isSend s ≡ true → s ≡ Send
-send-state Reset e = never e
-send-state Send e = refl
-send-state Receive e = never e
-send-state ConfirmOwed e = never e
-send-state ConfirmAwaited e = never e
-
 pub receive-state : (s : State) → isReceive s ≡ true → s ≡ Receive
 receive-state Reset e = never e
 receive-state Send e = never e
@@ -226,6 +219,10 @@ owed-state Send e = never e
 owed-state Receive e = never e
 owed-state ConfirmOwed e = refl
 owed-state ConfirmAwaited e = never e
+
+pub bidder-speaks : (r : Role) → isBidder r ≡ true → isFirstSpeaker r ≡ false
+bidder-speaks FirstSpeaker e = sym e
+bidder-speaks Bidder e = refl
 
 pub nothing-mark : (m : WhatReceived) → isNothing m ≡ true → m ≡ mark.Nothing
 nothing-mark mark.Nothing e = refl

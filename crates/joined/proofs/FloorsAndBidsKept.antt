@@ -1,59 +1,287 @@
 -- Every call at an end keeps the order of a conversation: floors and bids still fit.
 -- Assumes nothing.
 use Prim.Native.Nat.{ℕ}
-use mathlib.Core.Path.{_≡_, refl}
-use mathlib.Core.Bool.{cond}
+use mathlib.Core.Path.{_≡_, refl, sym, ap, _∙_}
+use mathlib.Core.Bool.{Bool, true, false, not, cond}
 use mathlib.Core.List.{List, [], _∷_, _++_, append-nil}
-use Rattle.unit.specs.Unit.{numberIn}
+use borrow.Author.Tests.{eq-eqb}
+use lib.Dec.{eqb}
+use Rattle.header.specs.Header.{beginsBracket}
+use Rattle.unit.specs.Ru.{bidRu, fixedRu, positiveRu, negativeRu}
+use Rattle.unit.specs.Unit.{unitOf, numberIn}
+use Rattle.header.specs.declared.Follows.{Follows}
+use Rattle.header.specs.declared.ChainEnd.{ChainEnd}
+use Rattle.header.specs.declared.ChainEnd.the-variants.{Continues, Last}
 use Rattle.header.specs.declared.Header.{Header}
 use Rattle.header.specs.declared.Header.the-variants.{Data, Bid, PositiveBidResponse, NegativeBidResponse, Confirmation, PacingResponse}
-use Rattle.pacing.specs.Pacing.{paced}
+use Rattle.control.specs.Tests.{isFirstSpeaker, isBidder, isReset, isSend, isReceive, isNothing}
+use Rattle.control.specs.Questions.{mayAllocate, maySend}
+use Rattle.control.specs.Parts.{setState, setBid, setMark}
+use Rattle.transitions.specs.Transitions.{allocated, beginOf, spilled, closed, afterLast, afterOwed, confirmationMade, afterMark, markAnswered, markOf, dataTaken, bidTaken, grantTaken, refusalTaken, confirmationTaken}
+use Rattle.control.specs.declared.Control.{Control}
 use Rattle.control.specs.declared.Role.{Role}
-use Rattle.end.specs.SendData.{heldBytes}
-use Rattle.sides.specs.Receiving.{windowAnswered}
-use Rattle.end.specs.ReceiveUnit.{headerTaken, ruTaken}
+use Rattle.control.specs.declared.Role.the-variants.{FirstSpeaker, Bidder}
+use Rattle.control.specs.declared.State.the-variants.{Reset, Send, Receive, ConfirmOwed, ConfirmAwaited}
+use Rattle.control.specs.declared.WhatReceived.{WhatReceived}
+use Rattle.control.specs.declared.WhatReceived.the-variants as mark
+use Rattle.end.specs.Record.{recordGood}
+use Rattle.sides.specs.Shared.{nextNumber}
+use Rattle.sides.specs.Sending.{requestMade}
+use Rattle.sides.specs.Receiving.{requestTaken}
+use Rattle.end.specs.Requests.{dataHeader}
+use Rattle.end.specs.Outcome.{withControl, withSending, withReceiving, withBidding}
+use Rattle.end.specs.Allocate.{bidMade}
+use Rattle.end.specs.SendData.{bytesKept, bytesSpilled, heldBytes}
+use Rattle.end.specs.Close.{lastMade}
+use Rattle.end.specs.Receive.{bytesRead}
+use Rattle.end.specs.ReceiveUnit.{headerTaken, dataJoined, bidAnswered, creditRaised, ruTaken}
 use Rattle.end.specs.declared.End.{End}
+use Rattle.sides.specs.declared.Receiving.{Receiving}
+use Rattle.end.proofs.Within.{facts}
+use Rattle.joined.proofs.LineAutomaton.{never, ok, goes}
+use Rattle.bools.proofs.Cases.{on}
+use Rattle.bools.proofs.Tests.{left, right, or-right, not-true}
+use Rattle.joined.proofs.TwoLines.{other, led-as, led-past, led-took, led-moved, led-still}
+use Rattle.joined.proofs.Floor.{Floor, reset, sendBB, send, receive, afterMarkFloor, floorAt, floorOf, isResetFloor, dataMoves, afterWait, confirmedFloor, Floors, reset-state, receive-state, owed-state, nothing-mark, sentFloor, quiet-sending, sent-moves, sent-partners, afterOwe, confirmed-moves, confirmed-floor, last-floor, mark-floor, bidder-speaks}
+use Rattle.joined.proofs.Bids.{Pending, none, some, bidAt, bidOf, bidMoves, bidOn, Bids, bids-moved, bid-speaker, bid-off}
+use Rattle.pacing.specs.Pacing.{paced}
 use Rattle.joined.specs.Joined.{Acted, Took}
 use Rattle.joined.specs.Ends.{Lane, normal, acts, takes}
-use Rattle.calls.proofs.CallCases.{TakeAsked, kind-cases, tookKind, allocate-cases, close-cases, confirmed-cases, pace-cases, read-cases, readCount, send-cases, spilledRu}
+use Rattle.calls.proofs.CallCases.{TakeAsked, kind-cases, tookKind, allocate-cases, close-cases, confirmed-cases, pace-cases, read-cases, send-cases, spilledRu, bidNumber}
 use Rattle.calls.specs.Calls.{Reply, Station, Verb}
 use Rattle.joined.proofs.CallsOnLanes.{Laned, LanedTake}
-use Rattle.joined.proofs.FloorsAndBids.{Order, order-receiving, order-kept, order-read, order-mark, order-paced, order-spoke, order-bid, order-spilled, order-last, order-confirmed, order-took-data, order-took-bid, order-took-grant, order-took-refusal, order-took-confirmation, order-took-pacing}
+use Rattle.joined.proofs.FloorsAndBids.{Order, floor-in, due-outside, due-speaks, no-mark, data-moves, bid-moves, grant-moves, bid-answered, confirmation-moves, waiting}
+use Rattle.control.proofs.States.{send-is}
+
+-- an end after a call, its role and its partner as they were
+order-with : {r : Role} {e e′ f : End} {line line′ back back′ : List (List ℕ)} → e′ .control .role ≡ e .control .role
+    → Floors r (floorOf e′) (floorOf f) line′ back′ → Bids r (bidOf e′) (bidOf f) line′ back′ → Order r e f line back → Order r e′ f line′ back′
+order-with p x y i = record { role = p ∙ i .role; partner = i .partner; floors = x; bids = y }
+
+-- a call that leaves floor and bid
+order-same : {r : Role} {e e′ f : End} {line back : List (List ℕ)} → floorOf e′ ≡ floorOf e → bidOf e′ ≡ bidOf e → e′ .control .role ≡ e .control .role
+    → Order r e f line back → Order r e′ f line back
+order-same p q s i = order-with s (led-as (sym p) (i .floors)) (led-as (sym q) (i .bids)) i
+
+-- the bid of an end after a call that leaves role and flag
+same-bid : (e : End) (c : Control) → c .role ≡ e .control .role → c .bid ≡ e .control .bid → bidAt (c .role) (c .bid) (e .bidding) ≡ bidOf e
+same-bid e c p q = rw (p, q)
+
+-- ---- allocate
+
+-- a first speaker's partner is in Reset, and stays there until the bracket begins
+spoke-floors :
+    (r : Role) {y : Floor} {line back : List (List ℕ)} → isFirstSpeaker r ≡ true → Floors r reset y line back → Floors r sendBB y line back
+spoke-floors FirstSpeaker s i = led-still sendBB refl (λ v p. p) i
+spoke-floors Bidder s i = never s
+
+-- a bidder that has no bid makes one
+bid-bids :
+    (r : Role) {q : Pending} {line back : List (List ℕ)} (n k : ℕ) (b : Bool) (ru : List ℕ) → isFirstSpeaker r ≡ false
+    → Bids r (bidAt r false k) q line back → Bids r (bidAt r true n) q (line ++ (unitOf n (Bid b) ru ∷ [])) back
+bid-bids FirstSpeaker n k b ru s i = never (sym s)
+bid-bids Bidder n k b ru s i = bids-moved n (Bid b) ru (some n) refl refl i
+
+-- ---- a mark is read: the floor has counted it already
+
+mark-read :
+    (c : Control) (m : WhatReceived) (owed sent : ℕ) → not (isNothing m) ≡ true → c .due ≡ false
+    → let k = setMark mark.Nothing (afterMark m c) in
+    (floorAt (k .state) (k .due) (k .follows) (k .mark) owed sent ≡ afterMarkFloor m owed) × (k .role ≡ c .role) × (k .bid ≡ c .bid)
+mark-read c mark.Nothing owed sent n d = never n
+mark-read c mark.Turn owed sent n d = (rw d, refl, refl)
+mark-read c mark.End owed sent n d = (refl, refl, refl)
+mark-read c mark.Confirm owed sent n d = (refl, refl, refl)
+mark-read c mark.ConfirmTurn owed sent n d = (refl, refl, refl)
+mark-read c mark.ConfirmEnd owed sent n d = (refl, refl, refl)
+
+-- ---- the finite part and the number sent after a last unit
+
+last-control :
+    (c : Control) (x : Follows) (confirm : Bool) (owed n : ℕ) → isNothing (c .mark) ≡ true
+    → let k = closed x confirm c in
+    (floorAt (k .state) (k .due) (k .follows) (k .mark) owed n ≡ sentFloor (Last x confirm) n) × (k .role ≡ c .role) × (k .bid ≡ c .bid)
+unfolding closed
+last-control c x true owed n m = (refl, refl, refl)
+last-control c x false owed n m = (last-floor x (c .follows) (c .mark) owed n m, refl, refl)
+
+-- ---- calls that the end answers by itself
 
 module _ (r : Role) (s : Station) (f : End) (line back : List (List ℕ)) (i : Order r (s .end) f line back) where
-  -- what an act leaves
   abbrev After : Acted Lane Station Reply (List ℕ) → Type 0
   After m = Order r (m .end .end) f (line ++ m .sent normal) back
 
+  -- data is made, by an end that then stands where the unit leaves it
+  sent : (e′ : End) (ends : ChainEnd) (n : ℕ) (ru : List ℕ) → recordGood (s .end) ≡ true → maySend (s .end .control) ≡ true
+      → floorOf e′ ≡ sentFloor ends n → bidOf e′ ≡ bidOf (s .end) → e′ .control .role ≡ s .end .control .role
+      → Order r e′ f (line ++ (unitOf n (dataHeader (s .end) ends) ru ∷ [])) back
+  unfolding dataHeader
+  sent e′ ends n ru g m p q t =
+      let e = s .end in
+      let c = e .control in
+      let after = afterMarkFloor (markOf ends) n in
+      let due = rw (i .role) at (facts e g .control .due) in
+      order-with t
+      (led-as (sym p)
+      (led-moved n (dataHeader e ends) ru (sentFloor ends n) (quiet-sending r (c .due))
+      (λ v w. (
+        after,
+        (
+          goes (dataMoves (other r) v (beginsBracket (beginOf c))) after (sent-moves r (c .due) (c .outchain) (isSend (c .state)) v due w),
+          sent-partners r ends n,
+        ),
+      ))
+      (led-as (floor-in e Send (send-is (c .state) m)) (i .floors))))
+      (led-as (sym q) (led-past n (dataHeader e ends) ru (λ v. refl) (i .bids))) i
+
+  spoke : recordGood (s .end) ≡ true → mayAllocate (s .end .control) ≡ true → isFirstSpeaker (s .end .control .role) ≡ true
+      → Order r (withControl (allocated (s .end .control)) (s .end)) f line back
+  unfolding allocated
+  spoke g a w =
+      let e = s .end in
+      let p = reset-state (e .control .state) (left (isReset (e .control .state)) _ a) in
+      on (λ (k : Control). Order r (withControl k e) f line back) (isFirstSpeaker (e .control .role)) _ w
+      (order-with refl (spoke-floors r (rw (i .role) at w) (led-as (floor-in e Reset p) (i .floors))) (i .bids) i)
+
+  bid : mayAllocate (s .end .control) ≡ true → isFirstSpeaker (s .end .control .role) ≡ false
+      → Order r (bidMade (s .end) .end) f
+      (line ++ (unitOf (bidNumber (s .end)) (Bid (paced (s .end .sending .window))) bidRu ∷ [])) back
+  unfolding bidMade allocated requestMade
+  bid a w =
+      let e = s .end in
+      let c = e .control in
+      let n = bidNumber e in
+      let b = paced (e .sending .window) in
+      let p = reset-state (c .state) (left (isReset (c .state)) _ a) in
+      let flag = not-true (c .bid) (right (isReset (c .state)) (not (c .bid)) a) in
+      let bidder : c .role ≡ r = i .role in
+      let made : Control → End = λ k. withBidding n (withSending (requestMade (e .sending .held) (e .sending .given) (e .sending)) (withControl k e)) in
+      let h : Order r (made (setBid true c)) f (line ++ (unitOf n (Bid b) bidRu ∷ [])) back =
+      order-with refl
+      (led-as (floor-in e Reset p ∙ sym (floor-in (made (setBid true c)) Reset p)) (led-past n (Bid b) bidRu (λ v. refl) (i .floors)))
+      (rw bidder (bid-bids r n (e .bidding) b bidRu (rw bidder at w) (led-as (rw (bidder, flag)) (i .bids)))) i in
+      rw w h
+
   pub order-acts : (v : Verb) → After (acts s v)
-  unfolding acts
+  unfolding acts bytesKept bytesSpilled spilled lastMade requestMade confirmationMade bytesRead markAnswered
   order-acts Verb.allocate =
-      allocate-cases (Laned After) s (λ q n. rw append-nil i) (λ g a w. rw append-nil (order-spoke w a i))
-      (λ g a w k. order-bid (paced (s .end .sending .window)) w a i)
-  order-acts Verb.confirmed = confirmed-cases (Laned After) s (λ q n. rw append-nil i) (λ g a. order-confirmed g a i)
+      allocate-cases (Laned After) s (λ q n. rw append-nil i) (λ g a w. rw append-nil (spoke g a w)) (λ g a w k. bid a w)
+  order-acts Verb.confirmed =
+      confirmed-cases (Laned After) s (λ q n. rw append-nil i)
+      (λ g a.
+      let e = s .end in
+      let c = e .control in
+      let p = owed-state (c .state) a in
+      order-with refl
+      (led-as
+      (sym
+      (ap (λ (b : Bool). floorAt (afterOwed (c .follows)) b (c .follows) (c .mark) (e .owed) (e .sending .number)) (due-outside e g (rw p))
+      ∙ confirmed-floor (c .follows) (c .mark) (e .owed) (e .sending .number) (no-mark e g (rw p))))
+      (led-moved (e .owed) Confirmation [] (afterOwe (c .follows)) refl (confirmed-moves r (c .follows) (e .owed))
+      (led-as (floor-in e ConfirmOwed p) (i .floors))))
+      (led-past (e .owed) Confirmation [] (λ v. refl) (i .bids)) i)
   order-acts Verb.pace =
-      pace-cases (Laned After) s (λ q n. rw append-nil i) (λ g a. order-receiving (windowAnswered (s .end .receiving)) (order-paced 0 [] i))
+      pace-cases (Laned After) s (λ q n. rw append-nil i)
+      (λ g a. order-with refl (led-past 0 PacingResponse [] (λ v. refl) (i .floors)) (led-past 0 PacingResponse [] (λ v. refl) (i .bids)) i)
   order-acts (Verb.sendData bytes) =
-      send-cases (Laned After) s bytes (λ q n. rw append-nil i) (λ a k. rw append-nil (order-kept bytes i))
-      (λ a k h. order-spilled bytes (s .send) (spilledRu s bytes) (a .good) (a .sending) i)
+      send-cases (Laned After) s bytes (λ q n. rw append-nil i) (λ a k. rw append-nil (order-same refl refl refl i))
+      (λ a k h.
+      sent (bytesSpilled (s .end) bytes (s .send) .end) Continues (nextNumber (s .end .sending .number)) (spilledRu s bytes) (a .good) (a .sending)
+      (floor-in (bytesSpilled (s .end) bytes (s .send) .end) Send (send-is (s .end .control .state) (a .sending))) refl refl)
   order-acts (Verb.close x c) =
       close-cases (Laned After) s x c (λ q n. rw append-nil i) (λ a n. rw append-nil i)
-      (λ a n k. order-last x c (s .send) (heldBytes (s .end) (s .send)) (a .good) (a .sending) i)
+      (λ a n k.
+      let e = s .end in
+      let m = nextNumber (e .sending .number) in
+      let q = last-control (e .control) x c (e .owed) m (no-mark e (a .good) (rw (send-is (e .control .state) (a .sending)))) in
+      sent (lastMade e x c (s .send) .end) (Last x c) m (heldBytes e (s .send)) (a .good) (a .sending) (q .0)
+      (same-bid e (closed x c (e .control)) (q .1) (q .2)) (q .1))
   order-acts (Verb.receive buffer) =
-      read-cases (Laned After) s buffer (λ q w n. rw append-nil i) (λ a h. rw append-nil (order-read (readCount s buffer) (s .inbox) i))
-      (λ a h m. rw append-nil (order-mark (a .good) m i))
+      read-cases (Laned After) s buffer (λ q w n. rw append-nil i) (λ a h. rw append-nil (order-same refl refl refl i))
+      (λ a h m.
+      let e = s .end in
+      let c = e .control in
+      let p = receive-state (c .state) (or-right (isNothing (c .mark)) (isReceive (c .state)) (facts e (a .good) .control .mark) (not-true _ m)) in
+      let k = mark-read c (c .mark) (e .owed) (e .sending .number) m (due-outside e (a .good) (rw p)) in
+      rw append-nil (order-same (k .0 ∙ sym (floor-in e Receive p)) (same-bid e (markAnswered c) (k .1) (k .2)) (k .1) i))
+
+-- ---- takes
+
+-- a bid that a first speaker takes, it answers; then there is none again
+answered-bids :
+    (r : Role) (p : Pending) {q : Pending} {line back : List (List ℕ)} (n : ℕ) (h : Header) (ru : List ℕ)
+    → bidOn Bidder (some n) h n ≡ ok none
+    → (bidMoves r p ≡ true) × Bids r (some n) q line back
+    → Bids r p q (line ++ (unitOf n h ru ∷ [])) back
+answered-bids FirstSpeaker none n h ru g i = bids-moved n h ru none refl g (i .1)
+answered-bids FirstSpeaker (some k) n h ru g i = never (i .0)
+answered-bids Bidder p n h ru g i = never (i .0)
+
+-- in Reset it grants, and the partner, in Reset too, will send
+granted-floors :
+    (r : Role) {y : Floor} {line back : List (List ℕ)} (n : ℕ) (ru : List ℕ)
+    → isFirstSpeaker r ≡ true
+    → Floors r reset y line back
+    → Floors r receive y (line ++ (unitOf n PositiveBidResponse ru ∷ [])) back
+granted-floors FirstSpeaker n ru s i = led-moved {x = reset} n PositiveBidResponse ru receive refl (λ v p. (send, (rw p, refl))) i
+granted-floors Bidder n ru s i = never s
 
 module _ (r : Role) (s : Station) (f : End) (u : List ℕ) (line back : List (List ℕ)) (i : Order r (s .end) f line (u ∷ back)) where
   abbrev Left : Took Lane Station Reply (List ℕ) → Type 0
   Left t = Order r (t .end .end) f (line ++ t .sent normal) (cond (t .removed) back (u ∷ back))
 
+  -- a bid, by whether the end is in Reset
+  took-bid :
+      (idle b : Bool) (v : Receiving) → isReset (s .end .control .state) ≡ idle → isNothing (s .end .control .mark) ≡ true → headerTaken u ≡ Bid b
+      → let h = cond idle PositiveBidResponse NegativeBidResponse in
+      Order r (withReceiving v (withControl (cond idle (setState Receive (s .end .control)) (s .end .control)) (s .end))) f
+      (line ++ (unitOf (numberIn u) h (fixedRu h) ∷ [])) back
+  took-bid true b v q m h =
+      let e = s .end in
+      let n = numberIn u in
+      order-with refl
+      (led-as (ap (λ (x : WhatReceived). afterMarkFloor x (e .owed)) (sym (nothing-mark (e .control .mark) m)))
+      (granted-floors r n positiveRu (bid-speaker r (bidOf e) (bid-moves i b h .0))
+      (led-as (floor-in e Reset (reset-state (e .control .state) q)) (led-took (floorOf e) h refl (i .floors)))))
+      (answered-bids r (bidOf e) n PositiveBidResponse positiveRu (goes (eqb n n) none (eq-eqb n n refl)) (bid-moves i b h)) i
+  took-bid false b v q m h =
+      let e = s .end in
+      let n = numberIn u in
+      order-with refl (led-past n NegativeBidResponse negativeRu (λ w. refl) (led-took (floorOf e) h refl (i .floors)))
+      (answered-bids r (bidOf e) n NegativeBidResponse negativeRu (goes (eqb n n) none (eq-eqb n n refl)) (bid-moves i b h)) i
+
   took-kind : (h : Header) → headerTaken u ≡ h → TakeAsked s u → LanedTake Left (tookKind s h (numberIn u) (ruTaken u))
-  took-kind (Data d) e a = rw append-nil (order-took-data d (ruTaken u) e i)
-  took-kind (Bid b) e a = order-took-bid b (a .unmarked) e i
-  took-kind PositiveBidResponse e a = rw append-nil (order-took-grant (a .good) e i)
-  took-kind NegativeBidResponse e a = rw append-nil (order-took-refusal e i)
-  took-kind Confirmation e a = rw append-nil (order-took-confirmation (a .good) e i)
-  took-kind PacingResponse e a = rw append-nil (order-took-pacing e i)
+  unfolding dataJoined dataTaken bidAnswered bidTaken creditRaised grantTaken refusalTaken confirmationTaken
+  took-kind (Data d) h a =
+      let e = s .end in
+      rw append-nil
+      (order-with refl (led-as (sym (mark-floor (d .ends) (numberIn u) (e .owed))) (data-moves i d h .1)) (led-took (bidOf e) h refl (i .bids)) i)
+  took-kind (Bid b) h a =
+      let e = s .end in
+      took-bid (isReset (e .control .state)) b (requestTaken (e .receiving .held) (e .receiving .taken) (e .receiving)) refl (a .unmarked) h
+  took-kind PositiveBidResponse h a =
+      let e = s .end in
+      let p = grant-moves i h in
+      let due = due-speaks e (a .good) (rw (i .role) (bidder-speaks r (left (isBidder r) (isResetFloor (floorOf e)) (p .0)))) in
+      rw append-nil
+      (order-with refl (led-as (ap (λ (x : Bool). cond x sendBB send) (sym due)) (p .1))
+      (led-as (sym (bid-off (e .control .role) (e .bidding))) (bid-answered i PositiveBidResponse (λ p n. refl) h .1)) i)
+  took-kind NegativeBidResponse h a =
+      let e = s .end in
+      rw append-nil
+      (order-with refl (led-took (floorOf e) h refl (i .floors))
+      (led-as (sym (bid-off (e .control .role) (e .bidding))) (bid-answered i NegativeBidResponse (λ p n. refl) h .1)) i)
+  took-kind Confirmation h a =
+      let e = s .end in
+      let c = e .control in
+      let p = waiting i h .0 in
+      let after : floorAt (afterLast (c .follows)) (c .due) (c .follows) (c .mark) (e .owed) (e .sending .number) ≡ afterWait (c .follows) =
+      ap (λ (b : Bool). floorAt (afterLast (c .follows)) b (c .follows) (c .mark) (e .owed) (e .sending .number)) (due-outside e (a .good) (rw p))
+      ∙ last-floor (c .follows) (c .follows) (c .mark) (e .owed) (e .sending .number) (no-mark e (a .good) (rw p)) in
+      rw append-nil
+      (order-with refl (led-as (ap confirmedFloor (floor-in e ConfirmAwaited p) ∙ sym after) (confirmation-moves i h .1)) (led-took (bidOf e) h refl (i .bids)) i)
+  took-kind PacingResponse h a =
+      rw append-nil (order-with refl (led-took (floorOf (s .end)) h refl (i .floors)) (led-took (bidOf (s .end)) h refl (i .bids)) i)
 
   pub order-takes : (naming : List ℕ → ℕ) → Left (takes naming normal s u)
   unfolding takes

@@ -56,7 +56,7 @@ module _ (r : Role) (s f : Station) (o : Outside) (u : List ℕ) (line back : Li
       let t1 = both (agree (d .pacing) (eqb (r .window .position) 0)) _ (t0 .1) in
       let t2 = both (eqb n (nextNumber (r .number))) _ (t1 .1) in
       let t3 = both (agree (isFirst (d .begins)) (not (s .end .control .inchain))) _ (t2 .1) in
-      let fit = order-fits-data d m e order in
+      let fit = order-fits-data order d m e in
       rw (t0 .0, pacing-yes (d .pacing) (ap (λ (h : Header). bitOf (sortOf h)) e) g (t1 .0), t2 .0, t3 .0, fit .0, fit .1, t3 .1)
   kind-yes (Bid p) e g m t =
       let r = s .end .receiving in
@@ -64,10 +64,10 @@ module _ (r : Role) (s f : Station) (o : Outside) (u : List ℕ) (line back : Li
       let t0 = both (ruGood (r .max) (Bid p) (ruTaken u)) _ t in
       let t1 = both (agree p (eqb (r .window .position) 0)) _ (t0 .1) in
       let t2 = both (eqb n (nextNumber (r .number))) (agree true (not (s .end .control .inchain))) (t1 .1) in
-      rw (t0 .0, pacing-yes p (ap (λ (h : Header). bitOf (sortOf h)) e) g (t1 .0), t2 .0, t2 .1, order-fits-bid p e order)
-  kind-yes PositiveBidResponse e g m t = rw (left (ruGood (s .end .receiving .max) PositiveBidResponse (ruTaken u)) true t, order-fits-grant m e order)
-  kind-yes NegativeBidResponse e g m t = rw (left (ruGood (s .end .receiving .max) NegativeBidResponse (ruTaken u)) true t, order-fits-refusal e order)
-  kind-yes Confirmation e g m t = rw (left (ruGood (s .end .receiving .max) Confirmation (ruTaken u)) true t, order-fits-confirmation e order)
+      rw (t0 .0, pacing-yes p (ap (λ (h : Header). bitOf (sortOf h)) e) g (t1 .0), t2 .0, t2 .1, order-fits-bid order p e)
+  kind-yes PositiveBidResponse e g m t = rw (left (ruGood (s .end .receiving .max) PositiveBidResponse (ruTaken u)) true t, order-fits-grant order m e)
+  kind-yes NegativeBidResponse e g m t = rw (left (ruGood (s .end .receiving .max) NegativeBidResponse (ruTaken u)) true t, order-fits-refusal order e)
+  kind-yes Confirmation e g m t = rw (left (ruGood (s .end .receiving .max) Confirmation (ruTaken u)) true t, order-fits-confirmation order e)
   kind-yes PacingResponse e g m t =
       let t0 = both (ruGood (s .end .receiving .max) PacingResponse (ruTaken u)) (eqb (numberIn u) 0) t in
       rw (t0 .0, paces-unanswered flags (ap (λ (h : Header). isPacing (sortOf h)) e), t0 .1)
