@@ -1,19 +1,11 @@
 -- Lists of which each is a byte, below 256: their parts, and what is put together from them.
 -- Assumes nothing.
-use Prim.Native.Nat.{ℕ, zero, suc, _+_, _<_}
-use mathlib.Core.Path.{_≡_}
-use mathlib.Core.Bool.{Bool, true, _&&_}
-use mathlib.Core.List.{List, [], _∷_, _++_}
-use native.Mathlib.Omega.{arith}
+use Rattle.calls.proofs.Words.{ℕ, _<_, _+_, take, drop, length, Bool, true, _&&_, List, [], _∷_, _++_, _≡_, arith, both, front, written, numberIn}
+use Rattle.calls.proofs.Words.{nextNumber, AllBytes}
+use Prim.Native.Nat.{zero, suc}
 use borrow.Author.Tests.{ltb-true}
 use lib.Dec.{ltb}
-use lib.ListN.{length, take, drop}
 use lib.Seq.{getD-drop}
-use Rattle.cells.specs.Cells.{front, written}
-use Rattle.unit.specs.Unit.{numberIn}
-use Rattle.sides.specs.Shared.{nextNumber}
-use Rattle.bools.proofs.Tests.{both}
-use Rattle.calls.specs.Laws.{AllBytes}
 
 pub none-bytes : AllBytes []
 none-bytes k = omega arith

@@ -1,70 +1,47 @@
 -- What each call leaves, refused or accepted, read off its definition: the one view of a call that every proof above goes by.
 -- Assumes nothing.
-use Prim.Native.Nat.{ℕ, _+_, _≤_}
-use mathlib.Core.Path.{_≡_, refl, sym, ap, _∙_, subst}
-use mathlib.Core.Bool.{Bool, true, false, not, cond, _&&_, _||_}
-use mathlib.Core.List.{List, [], _∷_, _++_}
-use native.Mathlib.Omega.{arith}
-use borrow.Author.Tests.{eqb-true, ne-eqb, leb-true}
-use lib.Dec.{eqb, leb}
-use lib.ListN.{length, take, drop}
-use Rattle.cells.specs.Cells.{front, written}
+use Rattle.calls.proofs.Words.{ℕ, _+_, _≤_, eqb-true, leb-true, ne-eqb, eqb, leb, take, drop, length, Bool, true, false, cond, not, _&&_, _||_, List}
+use Rattle.calls.proofs.Words.{[], _∷_, _++_, _≡_, refl, sym, ap, _∙_, arith, cases, both, left, or-right, front, written, walk, placeOr, Position}
+use Rattle.calls.proofs.Words.{Walked, At, BadLength, headerGood, ChainEnd, Continues, Last, DataHeader, Follows, Header, bidRu, fixedRu, ruGood}
+use Rattle.calls.proofs.Words.{RU-START, unitOf, numberIn, headerIn, unit-length, paced, hasCredit, mayAllocate, mayConfirm, grantFits, refusalFits}
+use Rattle.calls.proofs.Words.{confirmationFits, isSend, isNothing, agree, isFirstSpeaker, controlGood, Control, bidAnswer, allocated}
+use Rattle.calls.proofs.Words.{confirmationMade, markAnswered, bidTaken, grantTaken, refusalTaken, confirmationTaken, accepted, refused}
+use Rattle.calls.proofs.Words.{refusedNaming, firstNo, yes, windowAnswered, keeps, nextNumber, bidMade, allocateRefusal, allocateDecision, allocate}
+use Rattle.calls.proofs.Words.{lastMade, nothingGoes, closeRefusal, closeDecision, close, confirmedRefusal, confirmedDecision, confirmed}
+use Rattle.calls.proofs.Words.{withControl, withReceiving, Decision, decided, paceRefusal, paceDecision, pace, bytesRead, inboxMoved, someHeld}
+use Rattle.calls.proofs.Words.{readRefusal, markRead, readDecision, receive, ruTaken, dataJoined, bidAnswered, creditRaised, headerTaken}
+use Rattle.calls.proofs.Words.{takeRefusal, takeDecision, receiveUnit, recordGood, dataHeader, heldBytes, gone, bytesKept, bytesSpilled, sendRefusal}
+use Rattle.calls.proofs.Words.{sendDecision, sendData, End, ReadDone, facts, Called, Station, Verb, called, taken}
+use lib.Dec.{T}
+use lib.ListN.{getD}
 use Rattle.cells.proofs.Fronts.{front-bytes}
-use Rattle.logical_record.specs.Walk.{walk, placeOr}
 use Rattle.logical_record.specs.Positions.{isWhole}
 use Rattle.logical_record.specs.Reading.{rest}
-use Rattle.logical_record.specs.declared.Position.{Position}
-use Rattle.logical_record.specs.declared.Walked.{Walked}
-use Rattle.logical_record.specs.declared.Walked.the-variants.{At, BadLength}
-use Rattle.header.specs.Rules.{headerGood}
-use Rattle.unit.specs.Ru.{marks, bidRu, fixedRu, ruGood}
-use Rattle.unit.specs.Unit.{RU-START, unitOf, numberIn, headerIn}
-use Rattle.header.specs.declared.Follows.{Follows}
-use Rattle.header.specs.declared.ChainEnd.{ChainEnd}
-use Rattle.header.specs.declared.ChainEnd.the-variants.{Continues, Last}
-use Rattle.header.specs.declared.DataHeader.{DataHeader}
-use Rattle.header.specs.declared.Header.{Header}
+use Rattle.unit.specs.Ru.{marks}
 use Rattle.header.specs.declared.Header.the-variants.{Data, Bid, PositiveBidResponse, NegativeBidResponse, Confirmation, PacingResponse}
-use Rattle.unit.proofs.Units.{unit-length}
-use Rattle.pacing.specs.Pacing.{hasCredit, paced}
-use Rattle.control.specs.Tests.{isFirstSpeaker, isSend, isNothing, agree}
-use Rattle.control.specs.Within.{controlGood}
-use Rattle.control.specs.declared.Control.{Control}
 use Rattle.control.proofs.States.{fits-not-send}
 use Rattle.control.proofs.Within.{control-good}
 use Rattle.pacing.specs.declared.Window.{Window}
-use Rattle.control.specs.Questions.{mayAllocate, maySend, mayConfirm, grantFits, refusalFits, confirmationFits}
-use Rattle.transitions.specs.Transitions.{allocated, confirmationMade, markAnswered, bidTaken, bidAnswer, grantTaken, refusalTaken, confirmationTaken}
-use Rattle.answers.specs.Answers.{accepted, refused, refusedNaming, readRefused}
-use Rattle.end.specs.Record.{recordGood, sendLent, unitLent, inboxLent}
-use Rattle.sides.specs.Shared.{nextNumber}
-use Rattle.end.specs.Requests.{dataHeader}
-use Rattle.end.specs.Outcome.{aUnit, cellsOut, Decision, refuse, doneOf, made, withControl, withReceiving}
-use Rattle.end.specs.Allocate.{allocateQuestions, allocateRefusal, bidMade, allocateDecision, allocate}
+use Rattle.control.specs.Questions.{maySend}
+use Rattle.answers.specs.Answers.{readRefused}
+use Rattle.end.specs.Record.{sendLent, unitLent, inboxLent}
+use Rattle.end.specs.Outcome.{aUnit, cellsOut, doneOf, made}
+use Rattle.end.specs.Allocate.{allocateQuestions}
 use Rattle.logical_record.specs.Walk.{isGood}
-use Rattle.sides.specs.Sending.{keeps}
-use Rattle.end.specs.SendData.{heldBytes, gone, sendQuestions, sendRefusal, bytesKept, bytesSpilled, sendDecision, sendCells, sendData}
-use Rattle.end.specs.Close.{nothingGoes, closeQuestions, closeRefusal, lastMade, closeDecision, close}
-use Rattle.end.specs.Confirmed.{confirmedQuestions, confirmedRefusal, confirmedDecision, confirmed}
-use Rattle.end.specs.ReceiveUnit.{headQuestions, kindQuestions, headerTaken, ruTaken, takeRefusal, dataJoined, bidAnswered, creditRaised, kindTaken, takeDecision, kindJoined, inboxCells, answerNaming, receiveUnit}
-use Rattle.end.specs.Receive.{recordRest, someHeld, readQuestions, readRefusal, copyCount, bytesRead, markRead, readDecision, inboxMoved, receive}
+use Rattle.end.specs.SendData.{sendQuestions, sendCells}
+use Rattle.end.specs.Close.{closeQuestions}
+use Rattle.end.specs.Confirmed.{confirmedQuestions}
+use Rattle.end.specs.ReceiveUnit.{headQuestions, kindQuestions, kindTaken, kindJoined, inboxCells, answerNaming}
+use Rattle.end.specs.Receive.{recordRest, readQuestions, copyCount}
 use Rattle.reading.specs.Reading.{restGood}
-use Rattle.sides.specs.Receiving.{recordsFit, mayPace, windowAnswered}
-use Rattle.end.specs.Pace.{paceQuestions, paceRefusal, paceDecision, pace}
-use Rattle.end.specs.declared.End.{End}
-use Rattle.end.specs.declared.ReadDone.{ReadDone}
-use Rattle.answers.proofs.Rows.{yes}
+use Rattle.sides.specs.Receiving.{recordsFit, mayPace}
+use Rattle.end.specs.Pace.{paceQuestions}
+use Rattle.answers.proofs.Rows.{numbered, outcomes}
 use Rattle.answers.proofs.TwoRows.{pass-both}
-use Rattle.bools.proofs.Cases.{cases}
-use Rattle.bools.proofs.Tests.{both, left, right}
-use Rattle.end.proofs.Within.{facts}
+use Rattle.bools.proofs.Cases.{never}
 use Rattle.calls.proofs.ControlMoved.{Moved, agrees, bid-moves, grant-moves, refusal-moves, confirmation-moves}
 use Rattle.calls.proofs.UnitsByHeader.{Sort, brings, asks, answers, paces, sortOf}
-use Rattle.calls.specs.Calls.{Called, Station, Verb, called, copies, makes, plain, sends, taken, unitsOf}
-use Rattle.answers.specs.Questions.{firstNo}
-
-abbrev pub UnitBytes : Type 0
-UnitBytes = List ℕ
+use Rattle.calls.specs.Calls.{copies, makes, plain, sends, unitsOf}
 
 -- question 5 of the finite part
 pub control-within : (e : End) → recordGood e ≡ true → controlGood (e .control) ≡ true
@@ -74,10 +51,6 @@ control-within e g = control-good (e .control) (facts e g .control)
 
 abbrev pub refusedAct : Station → ℕ → Called
 refusedAct s q = record { end = s; answer = plain (refused q); sent = [] }
-
-made-refused : (P : Called → Type 0) (s : Station) (q : ℕ)
-    → eqb q 0 ≡ false → P (refusedAct s q) → P (makes s (made (refuse q (s .end)) (s .unit)))
-made-refused P s q e h = rw e h
 
 -- ---- a unit made is what the caller finds at the front of the unit buffer
 
@@ -105,15 +78,17 @@ unitAct s e n h ru =
 
 made-unit : (P : Called → Type 0) (s : Station) (e : End) (n : ℕ) (h : Header) (ru : List ℕ)
     → P (unitAct s e n h ru) → P (makes s (made (record { refusal = 0; end = e; out = aUnit n h ru }) (s .unit)))
-made-unit P s e n h ru p =
-    subst
-    (λ (us : List UnitBytes).
-    P (record {
-      end = record { end = e; send = s .send; unit = front (unitOf n h ru) (s .unit); inbox = s .inbox };
-      answer = plain (accepted (RU-START + length ru));
-      sent = us;
-    }))
-    (sym (unit-out n h ru (s .unit))) p
+made-unit P s e n h ru p = rw (unit-out n h ru (s .unit)) p
+
+-- a call that is lent the unit buffer: it is refused, or every question was answered yes and its decision stands
+decided-cases :
+    (P : Called → Type 0) (s : Station) (qs : List (Bool × ℕ)) (d : Decision) → T (numbered qs)
+    → ((q : ℕ) → eqb q 0 ≡ false → P (refusedAct s q))
+    → (((k : ℕ) → getD (outcomes qs) k true ≡ true) → P (makes s (made d (s .unit))))
+    → P (makes s (made (decided (firstNo qs) (s .end) d) (s .unit)))
+decided-cases P s qs d t refuses stands =
+    cases (λ (x : Decision). P (makes s (made x (s .unit)))) (eqb (firstNo qs) 0)
+    (λ y. stands (yes qs t (eqb-true (firstNo qs) 0 y))) (λ y. rw y (refuses (firstNo qs) y))
 
 -- ---- allocate
 
@@ -136,22 +111,17 @@ pub allocate-cases :
 unfolding called allocate allocateDecision allocateRefusal bidMade
 allocate-cases P s refuses speaks bids =
     let e = s .end in
-    let n = length (s .unit) in
-    let q : ℕ = allocateRefusal e n in
-    cases (λ (d : Decision). P (makes s (made d (s .unit)))) (eqb q 0)
-    (λ y.
-    let t = yes (allocateQuestions e n) tt (eqb-true q 0 y) in
-    cases (λ (d : Decision). P (makes s (made d (s .unit)))) (isFirstSpeaker (e .control .role))
-    (λ f. speaks (t 1) (t 2) f)
-    (λ f. made-unit P s (bidMade e .end) (bidNumber e) (Bid (paced (e .sending .window))) bidRu
-    (bids (t 1) (t 2) f (subst (λ (b : Bool). b || hasCredit (e .sending .window) ≡ true) f (t 3)))))
-    (λ y. made-refused P s q y (refuses q y))
+    let w = e .sending .window in
+    decided-cases P s (allocateQuestions e (length (s .unit))) _ tt refuses
+    (λ t.
+    cases (λ (d : Decision). P (makes s (made d (s .unit)))) (isFirstSpeaker (e .control .role)) (λ f. speaks (t 1) (t 2) f)
+    (λ f. made-unit P s (bidMade e .end) (bidNumber e) (Bid (paced w)) bidRu (bids (t 1) (t 2) f (or-right _ (hasCredit w) (t 3) f))))
 
 -- ---- send data
 
 good-at : (w : Walked) → isGood w ≡ true → (p : Position) × (w ≡ At p)
 good-at (At p) e = (p, refl)
-good-at BadLength e = absurd (let z : _≡_ {A = ℕ} 0 1 = cc in omega arith)
+good-at BadLength e = never e
 
 -- the bytes are kept
 abbrev pub keptAct : Station → List ℕ → Called
@@ -166,7 +136,7 @@ keptAct s bytes =
 abbrev pub spilledRu : Station → List ℕ → List ℕ
 spilledRu s bytes = heldBytes (s .end) (s .send) ++ take (gone (s .end)) bytes
 
-abbrev pub spilledUnit : Station → List ℕ → UnitBytes
+abbrev pub spilledUnit : Station → List ℕ → List ℕ
 spilledUnit s bytes = unitOf (nextNumber (s .end .sending .number)) (dataHeader (s .end) Continues) (spilledRu s bytes)
 
 abbrev pub spilledAct : Station → List ℕ → Called
@@ -209,12 +179,13 @@ send-cases P s bytes refuses keep spill =
     (λ y.
     let t = yes (sendQuestions e bytes (length (s .send)) (length (s .unit))) tt (eqb-true q 0 y) in
     let w = good-at (walk (e .sending .given) bytes) (t 4) in
+    let many = both (leb 1 (length bytes)) (leb (length bytes) (e .sending .max)) (t 2) in
     let asked : SendAsked s bytes =
     record {
       buffer = leb-true _ _ (left (sendLent e (length (s .send))) (unitLent e (length (s .unit))) (t 0));
       good = t 1;
-      least = leb-true _ _ (left (leb 1 (length bytes)) (leb (length bytes) (e .sending .max)) (t 2));
-      most = leb-true _ _ (right (leb 1 (length bytes)) (leb (length bytes) (e .sending .max)) (t 2));
+      least = leb-true _ _ (many .0);
+      most = leb-true _ _ (many .1);
       sending = t 3;
       place = w .0;
       walked = w .1;
@@ -222,22 +193,8 @@ send-cases P s bytes refuses keep spill =
     cases (λ (d : Decision). P (sends s (record { done = doneOf d; send = sendCells e bytes (d .refusal) (s .send); unit = cellsOut (d .out) (s .unit) }))) ks
     (λ k. rw k (keep asked k))
     (λ k.
-    rw k
-    (subst
-    (λ (us : List UnitBytes).
-    P (record {
-      end =
-          record {
-            end = bytesSpilled (s .end) bytes (s .send) .end;
-            send = front (drop (gone (s .end)) bytes) (s .send);
-            unit = front (spilledUnit s bytes) (s .unit);
-            inbox = s .inbox;
-          };
-      answer = plain (accepted (RU-START + length (spilledRu s bytes)));
-      sent = us;
-    }))
-    (sym (unit-out (nextNumber (e .sending .number)) (dataHeader e Continues) (spilledRu s bytes) (s .unit)))
-    (spill asked k (subst (λ (b : Bool). b || hasCredit (e .sending .window) ≡ true) k (t 5))))))
+    rw (k, unit-out (nextNumber (e .sending .number)) (dataHeader e Continues) (spilledRu s bytes) (s .unit))
+    (spill asked k (or-right ks (hasCredit (e .sending .window)) (t 5) k))))
     (λ y. rw y (refuses q y))
 
 -- ---- flush, confirm, turn, end
@@ -261,10 +218,8 @@ pub close-cases :
 unfolding called close closeDecision closeRefusal lastMade
 close-cases P s f c refuses none goes =
     let e = s .end in
-    let q : ℕ = closeRefusal e f c (length (s .send)) (length (s .unit)) in
-    cases (λ (d : Decision). P (makes s (made d (s .unit)))) (eqb q 0)
-    (λ y.
-    let t = yes (closeQuestions e f c (length (s .send)) (length (s .unit))) tt (eqb-true q 0 y) in
+    decided-cases P s (closeQuestions e f c (length (s .send)) (length (s .unit))) _ tt refuses
+    (λ t.
     let asked : CloseAsked s f c =
     record {
       buffer = leb-true _ _ (left (sendLent e (length (s .send))) (unitLent e (length (s .unit))) (t 0));
@@ -272,11 +227,9 @@ close-cases P s f c refuses none goes =
       sending = t 2;
       whole = t 3;
     } in
-    cases (λ (d : Decision). P (makes s (made d (s .unit)))) (nothingGoes e f c)
-    (λ n. none asked n)
+    cases (λ (d : Decision). P (makes s (made d (s .unit)))) (nothingGoes e f c) (λ n. none asked n)
     (λ n. made-unit P s (lastMade e f c (s .send) .end) (nextNumber (e .sending .number)) (dataHeader e (Last f c)) (heldBytes e (s .send))
-    (goes asked n (subst (λ (b : Bool). b || hasCredit (e .sending .window) ≡ true) n (t 4)))))
-    (λ y. made-refused P s q y (refuses q y))
+    (goes asked n (or-right _ (hasCredit (e .sending .window)) (t 4) n))))
 
 -- ---- confirmed
 
@@ -290,12 +243,8 @@ pub confirmed-cases :
 unfolding called confirmed confirmedDecision confirmedRefusal
 confirmed-cases P s refuses goes =
     let e = s .end in
-    let q : ℕ = confirmedRefusal e (length (s .unit)) in
-    cases (λ (d : Decision). P (makes s (made d (s .unit)))) (eqb q 0)
-    (λ y.
-    let t = yes (confirmedQuestions e (length (s .unit))) tt (eqb-true q 0 y) in
-    made-unit P s (withControl (confirmationMade (e .control)) e) (e .owed) Confirmation [] (goes (t 1) (t 2)))
-    (λ y. made-refused P s q y (refuses q y))
+    decided-cases P s (confirmedQuestions e (length (s .unit))) _ tt refuses
+    (λ t. made-unit P s (withControl (confirmationMade (e .control)) e) (e .owed) Confirmation [] (goes (t 1) (t 2)))
 
 -- ---- pace
 
@@ -309,12 +258,8 @@ pub pace-cases :
 unfolding called pace paceDecision paceRefusal
 pace-cases P s refuses goes =
     let e = s .end in
-    let q : ℕ = paceRefusal e (length (s .unit)) in
-    cases (λ (d : Decision). P (makes s (made d (s .unit)))) (eqb q 0)
-    (λ y.
-    let t = yes (paceQuestions e (length (s .unit))) tt (eqb-true q 0 y) in
-    made-unit P s (withReceiving (windowAnswered (e .receiving)) e) 0 PacingResponse [] (goes (t 1) (t 2)))
-    (λ y. made-refused P s q y (refuses q y))
+    decided-cases P s (paceQuestions e (length (s .unit))) _ tt refuses
+    (λ t. made-unit P s (withReceiving (windowAnswered (e .receiving)) e) 0 PacingResponse [] (goes (t 1) (t 2)))
 
 -- ---- read
 
@@ -376,7 +321,7 @@ read-cases P s buffer refuses copied marked =
     P (copies s (record { done = d; inbox = inboxMoved e (d .answer .copied) (s .inbox); buffer = front (take (d .answer .copied) (s .inbox)) buffer })))
     (someHeld e)
     (λ h. copied asked h)
-    (λ h. marked asked h (subst (λ (b : Bool). b || not (isNothing (e .control .mark)) ≡ true) h (t 4))))
+    (λ h. marked asked h (or-right (someHeld e) _ (t 4) h)))
     (λ y. refuses q refl y)
 
 -- ---- take
@@ -435,8 +380,7 @@ unfolding dataJoined bidAnswered creditRaised
 took-kind P naming s u (Data d) n ru p = p
 took-kind P naming s u (Bid b) n ru p =
     let h = bidAnswer (s .end .control) in
-    let m = answeredAct s n in
-    subst (λ (us : List UnitBytes). P (record { end = m .end; answer = m .answer; sent = us })) (sym (unit-out n h (fixedRu h) (s .unit))) p
+    rw (unit-out n h (fixedRu h) (s .unit)) p
 took-kind P naming s u PositiveBidResponse n ru p = p
 took-kind P naming s u NegativeBidResponse n ru p = p
 took-kind P naming s u Confirmation n ru p = p

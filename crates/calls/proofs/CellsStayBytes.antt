@@ -1,30 +1,11 @@
 -- The cells that a call leaves and the unit that it makes are bytes, if those that it was lent and given are.
 -- Assumes nothing.
-use Prim.Native.Nat.{ℕ, _<_}
-use mathlib.Core.Bool.{Bool, true, false, cond}
-use mathlib.Core.List.{List, [], _∷_}
-use native.Mathlib.Omega.{arith}
-use lib.Dec.{eqb}
-use lib.ListN.{take, drop}
-use Rattle.header.specs.Header.{confirms}
-use Rattle.unit.specs.Ru.{bidRu, fixedRu}
-use Rattle.unit.specs.Unit.{RU-START, unitOf, numberIn}
-use Rattle.header.specs.declared.Follows.{Follows}
-use Rattle.header.specs.declared.ChainEnd.the-variants.{Continues, Last}
-use Rattle.header.specs.declared.Header.{Header}
+use Rattle.calls.proofs.Words.{ℕ, _<_, eqb, take, drop, Bool, true, false, cond, List, [], _∷_, arith, cases, confirms, Continues, Last, Follows}
+use Rattle.calls.proofs.Words.{Header, bidRu, fixedRu, RU-START, unitOf, numberIn, paced, bidAnswer, nextNumber, bidMade, lastMade, bytesRead}
+use Rattle.calls.proofs.Words.{inboxMoved, ruTaken, dataJoined, bidAnswered, creditRaised, dataHeader, heldBytes, gone, bytesKept, bytesSpilled}
+use Rattle.calls.proofs.Words.{Called, Station, Verb, called, taken, AllBytes, BytesOf}
 use Rattle.header.specs.declared.Header.the-variants.{Bid, Confirmation, PacingResponse}
-use Rattle.pacing.specs.Pacing.{paced}
-use Rattle.transitions.specs.Transitions.{bidAnswer}
-use Rattle.sides.specs.Shared.{nextNumber}
-use Rattle.end.specs.Requests.{dataHeader}
-use Rattle.end.specs.Allocate.{bidMade}
-use Rattle.end.specs.SendData.{heldBytes, gone, bytesKept, bytesSpilled}
-use Rattle.end.specs.Close.{lastMade}
-use Rattle.end.specs.ReceiveUnit.{ruTaken, dataJoined, bidAnswered, creditRaised}
-use Rattle.end.specs.Receive.{inboxBytes, bytesRead, inboxMoved}
-use Rattle.bools.proofs.Cases.{cases}
-use Rattle.calls.specs.Calls.{Called, Station, Verb, called, taken}
-use Rattle.calls.specs.Laws.{AllBytes, BytesOf}
+use Rattle.end.specs.Receive.{inboxBytes}
 use Rattle.calls.proofs.ByteLists.{none-bytes, take-bytes, drop-bytes, append-bytes, front-bytes-all, written-bytes-all, next-small, number-small, AllUnits}
 use Rattle.calls.proofs.UnitsByHeader.{unit-bytes, fixed-ru}
 use Rattle.calls.proofs.CallCases.{allocate-cases, bidNumber, send-cases, spilledRu, close-cases, confirmed-cases, pace-cases, read-cases, readCount, take-cases}

@@ -1,16 +1,11 @@
 -- A call that changes the finite part and no more: both chains stay as they were, Send is not left, and question 5 stays answered; checked by computation
 -- at every value of the finite part.
 -- Assumes nothing.
-use mathlib.Core.Path.{_≡_, refl, sym, ap}
-use mathlib.Core.Bool.{Bool, true, false, not, _&&_, _||_}
-use Rattle.bools.proofs.Tests.{left, right, join, or-right, off}
-use Rattle.control.specs.Tests.{isSend, isNothing, agree}
-use Rattle.control.specs.Questions.{mayAllocate, mayConfirm, grantFits, refusalFits, confirmationFits}
-use Rattle.control.specs.Within.{controlGood}
-use Rattle.control.specs.declared.Control.{Control}
+use Rattle.calls.proofs.Words.{Bool, true, false, not, _&&_, _||_, _≡_, refl, sym, ap, join, left, right, or-right, mayAllocate, mayConfirm}
+use Rattle.calls.proofs.Words.{grantFits, refusalFits, confirmationFits, isSend, isNothing, agree, controlGood, Control, within, allocated}
+use Rattle.calls.proofs.Words.{confirmationMade, markAnswered, bidTaken, grantTaken, refusalTaken, confirmationTaken}
+use Rattle.bools.proofs.Tests.{off}
 use Rattle.control.proofs.Finite.{controls}
-use Rattle.control.proofs.Within.{within}
-use Rattle.transitions.specs.Transitions.{allocated, confirmationMade, markAnswered, bidTaken, grantTaken, refusalTaken, confirmationTaken}
 use Rattle.transitions.proofs.KeptWithin.{allocated-keeps, answered-keeps, bid-keeps, confirmation-keeps, confirmed-keeps, grant-keeps, refusal-keeps}
 
 pub record Moved (c d : Control) : Type 0 where

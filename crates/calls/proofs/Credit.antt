@@ -1,35 +1,16 @@
 -- What each call costs or gives: a request made 1 credit, a pacing response taken W; a request taken 1 of open, pace W.
 -- Assumes nothing.
-use Prim.Native.Nat.{ℕ, _+_, _*_}
-use mathlib.Core.Path.{_≡_, refl, ap, _∙_}
-use mathlib.Core.Bool.{Bool, true, false, _&&_}
-use mathlib.Core.List.{List, [], _∷_}
-use native.Mathlib.Omega.{arith}
-use lib.Dec.{eqb}
-use Rattle.header.specs.declared.ChainEnd.{ChainEnd}
-use Rattle.header.specs.declared.ChainEnd.the-variants.{Continues, Last}
-use Rattle.header.specs.declared.Header.{Header}
+use Rattle.calls.proofs.Words.{ℕ, _+_, _*_, eqb, Bool, true, false, _&&_, List, [], _∷_, _≡_, refl, ap, _∙_, arith, left, ChainEnd, Continues, Last}
+use Rattle.calls.proofs.Words.{Header, bidRu, unitOf, paced, hasCredit, advanced, answered, requestTaken, requestMade, nextNumber, bidMade, lastMade}
+use Rattle.calls.proofs.Words.{bytesRead, markRead, dataJoined, bidAnswered, creditRaised, recordGood, dataHeader, heldBytes, bytesKept}
+use Rattle.calls.proofs.Words.{bytesSpilled, facts, Called, Station, Verb, called, taken, refusalIn, count, isPacingResponse, isRequest}
+use Rattle.calls.proofs.Words.{requestsAmong}
 use Rattle.header.specs.declared.Header.the-variants.{Bid, Confirmation, PacingResponse}
-use Rattle.unit.specs.Ru.{bidRu}
-use Rattle.unit.specs.Unit.{unitOf}
-use Rattle.pacing.specs.Pacing.{hasCredit, paced, credit, advanced, answered}
-use Rattle.sides.specs.Shared.{nextNumber}
-use Rattle.sides.specs.Sending.{requestMade}
-use Rattle.sides.specs.Receiving.{requestTaken}
-use Rattle.end.specs.Record.{recordGood, creditOf, openOf}
-use Rattle.end.specs.Requests.{dataHeader}
-use Rattle.end.specs.Allocate.{bidMade}
-use Rattle.end.specs.SendData.{heldBytes, bytesKept, bytesSpilled}
-use Rattle.end.specs.Close.{lastMade}
-use Rattle.end.specs.ReceiveUnit.{dataJoined, bidAnswered, creditRaised}
-use Rattle.end.specs.Receive.{bytesRead, markRead}
-use Rattle.bools.proofs.Tests.{left}
+use Rattle.pacing.specs.Pacing.{credit}
+use Rattle.end.specs.Record.{creditOf, openOf}
 use Rattle.calls.proofs.CallCases.{allocate-cases, bidNumber, close-cases, confirmed-cases, pace-cases, read-cases, send-cases, spilledRu, take-cases}
 use Rattle.calls.proofs.UnitsByHeader.{sortOf, isAsking, pacing-taken, request-taken, requests-unit}
-use Rattle.calls.specs.Calls.{Called, Station, Verb, called, refusalIn, taken}
 use Rattle.calls.specs.Laws.{CreditExact, isPace}
-use Rattle.calls.specs.UnitCounts.{count, isPacingResponse, isRequest, requestsAmong}
-use Rattle.end.proofs.Within.{facts}
 use Rattle.pacing.proofs.Windows.{request-costs, response-raises}
 
 -- ---- the units made and the credit left

@@ -1,3 +1,4 @@
+mod Words
 pub mod ByteLists
 pub mod UnitsByHeader
 pub mod ControlMoved

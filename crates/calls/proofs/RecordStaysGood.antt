@@ -1,56 +1,33 @@
 -- Every call keeps question 5: the record that it leaves is within the section 'The end's record'.
 -- Assumes nothing.
-use Prim.Native.Nat.{ℕ, _+_, _-_, _*_, _≤_, _<_}
-use mathlib.Core.Path.{_≡_, refl, sym, ap, subst}
-use mathlib.Core.Bool.{Bool, true, false, not, cond}
-use mathlib.Core.List.{List}
-use native.Mathlib.Omega.{arith}
-use borrow.Author.Tests.{eq-eqb, eqb-true, eqb-false, leb-true, leb-false, le-leb, ne-eqb}
-use lib.Dec.{eqb, leb}
-use lib.ListN.{length, take}
-use Rattle.unit.specs.Unit.{RU-START, numberIn}
-use Rattle.header.specs.declared.Follows.{Follows}
+use Rattle.calls.proofs.Words.{ℕ, _<_, _+_, _*_, _≤_, eqb-true, leb-true, ne-eqb, eqb, leb, take, length, Bool, true, false, not, List, _≡_, refl}
+use Rattle.calls.proofs.Words.{sym, ap, arith, both, join, left, right, walk, placeOr, Position, Walked, At, BadLength, Follows, RU-START, numberIn}
+use Rattle.calls.proofs.Words.{controlGood, Control, within, allocated, confirmationMade, markAnswered, firstNo, yes, requestTaken, windowAnswered}
+use Rattle.calls.proofs.Words.{requestMade, bidMade, lastMade, withControl, withReceiving, bytesRead, ruTaken, dataJoined, bidAnswered, creditRaised}
+use Rattle.calls.proofs.Words.{recordGood, gone, bytesKept, bytesSpilled, End, facts, Called, Station, Verb, called, taken, AllBytes, BytesOf}
+use Prim.Native.Nat.{_-_}
+use mathlib.Core.Path.{subst}
+use borrow.Author.Tests.{eq-eqb, eqb-false, leb-false, le-leb}
 use Rattle.pacing.specs.Pacing.{sizeGood}
-use Rattle.transitions.specs.Transitions.{allocated, spilled, confirmationMade, markAnswered}
-use Rattle.control.specs.declared.Control.{Control}
+use Rattle.transitions.specs.Transitions.{spilled}
 use Rattle.control.specs.declared.Role.{Role}
-use Rattle.answers.specs.Questions.{firstNo}
-use Rattle.answers.specs.Answers.{accepted, refused}
 use Rattle.sides.specs.Shared.{maxGood}
-use Rattle.end.specs.Record.{recordGood}
-use Rattle.sides.specs.Sending.{requestMade}
-use Rattle.sides.specs.Receiving.{requestTaken}
 use Rattle.sides.specs.Opening.{roleOf, openingQuestions, openingRefusal}
-use Rattle.session.specs.Opening.{freshEnd, zeroEnd, opened}
-use Rattle.end.specs.Outcome.{withControl, withReceiving}
-use Rattle.end.specs.Allocate.{bidMade}
-use Rattle.end.specs.SendData.{given, gone, bytesKept, bytesSpilled}
-use Rattle.end.specs.Close.{lastMade}
-use Rattle.end.specs.ReceiveUnit.{ruTaken, dataJoined, bidAnswered, creditRaised}
-use Rattle.end.specs.Receive.{bytesRead}
-use Rattle.sides.specs.Receiving.{windowAnswered}
+use Rattle.session.specs.Opening.{freshEnd, opened}
+use Rattle.end.specs.SendData.{given}
 use Rattle.sides.specs.declared.Session.{Session}
-use Rattle.end.specs.declared.End.{End}
-use Rattle.end.specs.declared.Done.{Done}
-use Rattle.answers.proofs.Rows.{yes}
-use Rattle.bools.proofs.Tests.{both, join, left, right}
+use Rattle.bools.proofs.Cases.{split}
 use Rattle.calls.proofs.ByteLists.{drop-bytes, take-bytes}
 use Rattle.calls.proofs.CallCases.{allocate-cases, close-cases, confirmed-cases, pace-cases, read-cases, readCount, send-cases, take-cases, control-within}
 use Rattle.calls.proofs.ControlMoved.{Moved, allocate-moves, confirmed-moves, mark-moves}
-use Rattle.calls.specs.Calls.{Called, Station, Verb, called, taken}
-use Rattle.calls.specs.Laws.{AllBytes, BytesOf, StaysGood}
+use Rattle.calls.specs.Laws.{StaysGood}
 use Rattle.calls.proofs.Refusals.{accepted-good, accepted-take-good}
-use Rattle.end.proofs.Within.{facts, good}
+use Rattle.end.proofs.Within.{good}
 use Rattle.pacing.proofs.Windows.{answered-good, fresh-open, fresh-window}
 use Rattle.logical_record.specs.Positions.{isPosition}
-use Rattle.logical_record.specs.Walk.{walk, placeOr}
-use Rattle.logical_record.specs.declared.Position.{Position}
-use Rattle.logical_record.specs.declared.Walked.{Walked}
-use Rattle.logical_record.specs.declared.Walked.the-variants.{At, BadLength}
 use Rattle.logical_record.proofs.Walks.{walk-position}
 use Rattle.transitions.proofs.KeptWithin.{closed-leaves, data-keeps, fresh-within, given-leaves, spilled-leaves}
-use Rattle.control.specs.Within.{controlGood}
-use Rattle.control.proofs.Within.{control-facts, heldFits, within}
+use Rattle.control.proofs.Within.{control-facts, heldFits}
 use Rattle.sides.proofs.Within.{SendingWithin, ReceivingWithin, max-facts, request-made, request-taken, window-answered}
 
 -- ---- the finite part by the bytes held, and the record put together again
@@ -219,18 +196,19 @@ fresh-good r s n m k e =
       read = refl;
     })
 
-chosen-good : (b : Bool) (x y : Done) → (b ≡ true → recordGood (x .end) ≡ true) → (b ≡ false → y .answer .refusal ≡ 0 → ⊥)
-    → cond b x y .answer .refusal ≡ 0 → recordGood (cond b x y .end) ≡ true
-chosen-good true x y f n e = f refl
-chosen-good false x y f n e = absurd (n refl e)
-
--- an accepted opening leaves a good record
-pub good-opened : (s : Session) (n m k : ℕ) → opened s n m k .answer .refusal ≡ 0 → recordGood (opened s n m k .end) ≡ true
-unfolding opened openingRefusal
-good-opened s n m k e =
+-- an accepted opening leaves a fresh end
+pub opened-is : (s : Session) (n m k : ℕ) → opened s n m k .answer .refusal ≡ 0
+    → (openingRefusal s n m k ≡ 0) × (opened s n m k .end ≡ freshEnd (roleOf (s .role)) (s .outwindow) (s .outmax) (s .inwindow) (s .inmax) k)
+unfolding opened
+opened-is s n m k e =
     let q : ℕ = openingRefusal s n m k in
-    chosen-good (eqb q 0) (record { answer = accepted 0; end = freshEnd (roleOf (s .role)) (s .outwindow) (s .outmax) (s .inwindow) (s .inmax) k })
-    (record { answer = refused q; end = zeroEnd }) (λ y. fresh-good (roleOf (s .role)) s n m k (eqb-true q 0 y)) (λ y z. eqb-false q 0 y z) e
+    split (eqb q 0) (λ y. (eqb-true q 0 y, rw y)) (λ y. absurd (eqb-false q 0 y (rw y at e)))
+
+pub good-opened : (s : Session) (n m k : ℕ) → opened s n m k .answer .refusal ≡ 0 → recordGood (opened s n m k .end) ≡ true
+unfolding openingRefusal
+good-opened s n m k e =
+    let o = opened-is s n m k e in
+    rw (o .1) (fresh-good (roleOf (s .role)) s n m k (o .0))
 
 pub stays-good : StaysGood
 stays-good =

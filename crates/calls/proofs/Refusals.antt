@@ -1,35 +1,17 @@
 -- A refused call gives the number of its first question answered no, changes nothing and makes no unit; an accepted call's record was within the section
 -- 'The end's record'.
 -- Assumes nothing.
-use Prim.Native.Nat.{ℕ}
-use mathlib.Core.Path.{_≡_, refl, sym, ap, _∙_}
-use mathlib.Core.Bool.{Bool, true, false, not, cond, _&&_, _||_}
-use mathlib.Core.List.{List, [], _∷_}
-use borrow.Author.Tests.{eqb-true, ne-eqb}
-use lib.Dec.{eqb}
-use lib.ListN.{length}
-use Rattle.unit.specs.Unit.{numberIn}
-use Rattle.control.specs.Tests.{isFirstSpeaker}
-use Rattle.transitions.specs.Transitions.{allocated}
-use Rattle.answers.specs.Questions.{firstNo}
-use Rattle.answers.specs.Answers.{accepted, refused, refusedNaming}
+use Rattle.calls.proofs.Words.{ℕ, eqb-true, ne-eqb, eqb, length, Bool, true, false, cond, not, _&&_, _||_, List, [], _∷_, _≡_, refl, sym, ap, _∙_}
+use Rattle.calls.proofs.Words.{cases, join, left, right, numberIn, isFirstSpeaker, allocated, accepted, refused, refusedNaming, firstNo, keeps}
+use Rattle.calls.proofs.Words.{bidMade, allocateRefusal, allocateDecision, allocate, lastMade, nothingGoes, closeRefusal, closeDecision, close}
+use Rattle.calls.proofs.Words.{confirmedRefusal, confirmedDecision, confirmed, withControl, Decision, decided, paceRefusal, paceDecision, pace}
+use Rattle.calls.proofs.Words.{bytesRead, someHeld, readRefusal, markRead, readDecision, receive, ruTaken, headerTaken, takeRefusal, takeDecision}
+use Rattle.calls.proofs.Words.{receiveUnit, recordGood, bytesKept, bytesSpilled, sendRefusal, sendDecision, sendData, End, ReadDone, Called, Station}
+use Rattle.calls.proofs.Words.{Verb, called, taken, refusalIn}
 use Rattle.answers.specs.declared.Answer.{Answer}
-use Rattle.sides.specs.Sending.{keeps}
-use Rattle.end.specs.Record.{recordGood}
-use Rattle.end.specs.Outcome.{nothing, lengthOut, Decision, accept, decided, answerOf, withControl}
-use Rattle.end.specs.Allocate.{allocateRefusal, bidMade, allocateDecision, allocate}
-use Rattle.end.specs.SendData.{sendRefusal, bytesKept, bytesSpilled, sendDecision, sendData}
-use Rattle.end.specs.Close.{nothingGoes, closeRefusal, lastMade, closeDecision, close}
-use Rattle.end.specs.Confirmed.{confirmedRefusal, confirmedDecision, confirmed}
-use Rattle.end.specs.ReceiveUnit.{headerTaken, ruTaken, takeRefusal, takeDecision, receiveUnit}
-use Rattle.end.specs.Receive.{someHeld, readRefusal, bytesRead, markRead, readDecision, receive}
-use Rattle.end.specs.Pace.{paceRefusal, paceDecision, pace}
-use Rattle.end.specs.declared.End.{End}
-use Rattle.end.specs.declared.ReadDone.{ReadDone}
-use Rattle.bools.proofs.Cases.{cases}
-use Rattle.bools.proofs.Tests.{join, left, never, right}
+use Rattle.end.specs.Outcome.{nothing, lengthOut, accept, answerOf}
+use Rattle.bools.proofs.Tests.{never}
 use Rattle.calls.proofs.CallCases.{allocate-cases, close-cases, confirmed-cases, pace-cases, read-cases, send-cases, kind-cases, take-cases, kind-accepted, passes, kind-passes-5}
-use Rattle.calls.specs.Calls.{Called, Station, Verb, called, refusalIn, taken}
 use Rattle.calls.specs.Laws.{Refusals, questions, takeQuestions}
 
 -- an accepted call was not refused, and a refused one not accepted

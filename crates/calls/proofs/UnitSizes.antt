@@ -1,23 +1,9 @@
 -- A unit that a call makes is at most 1,029 bytes long, and stands within the unit buffer.
 -- Assumes nothing.
-use Prim.Native.Nat.{ℕ, _+_, _≤_, zero-le}
-use mathlib.Core.Path.{_≡_}
-use mathlib.Core.Bool.{true}
-use mathlib.Core.List.{List}
-use native.Mathlib.Omega.{arith}
-use lib.ListN.{length, length-append, length-take}
-use Rattle.cells.specs.Cells.{front}
-use Rattle.unit.specs.Ru.{bidRu, fixedRu}
-use Rattle.unit.specs.Unit.{unitOf, numberIn}
-use Rattle.unit.proofs.Units.{unit-length}
-use Rattle.header.specs.declared.Header.{Header}
-use Rattle.transitions.specs.Transitions.{bidAnswer}
-use Rattle.end.specs.Record.{recordGood}
-use Rattle.end.specs.SendData.{heldBytes}
-use Rattle.end.specs.Receive.{bytesRead, markRead}
-use Rattle.end.specs.declared.End.{End}
-use Rattle.end.proofs.Within.{facts}
-use Rattle.calls.specs.Calls.{Called, Station, Verb, called, taken}
+use Rattle.calls.proofs.Words.{ℕ, _+_, _≤_, length, true, List, _≡_, arith, front, Header, bidRu, fixedRu, unitOf, numberIn, unit-length, bidAnswer}
+use Rattle.calls.proofs.Words.{bytesRead, markRead, recordGood, heldBytes, End, facts, Called, Station, Verb, called, taken}
+use Prim.Native.Nat.{zero-le}
+use lib.ListN.{length-append, length-take}
 use Rattle.calls.specs.Laws.{UnitsFit}
 use Rattle.calls.proofs.CallCases.{spilledRu, allocate-cases, send-cases, close-cases, confirmed-cases, pace-cases, read-cases, take-cases}
 use Rattle.calls.proofs.UnitsByHeader.{fixed-ru}

@@ -1,32 +1,22 @@
 -- What a unit is, by its header alone: the sort of a unit, what is counted of it, and its bytes. Every proof above that asks no more goes by the sort, and a new
 -- kind of header is a line here.
 -- Assumes nothing.
-use Prim.Native.Nat.{ℕ, _+_, _/_, _%_, _≤_, _<_}
-use mathlib.Core.Path.{_≡_, refl, sym, ap, _∙_}
-use mathlib.Core.Bool.{Bool, true, false, not, cond, _&&_}
-use mathlib.Core.List.{List, [], _∷_}
-use native.Mathlib.Omega.{arith}
-use lib.Dec.{eqb}
-use lib.ListN.{length}
+use Rattle.calls.proofs.Words.{ℕ, _<_, _+_, _≤_, eqb, length, Bool, true, false, cond, not, _&&_, List, [], _∷_, _≡_, refl, sym, ap, _∙_, arith}
+use Rattle.calls.proofs.Words.{cases, confirms, headerGood, DataHeader, Header, bidRu, fixedRu, ruGood, unitOf, headerIn, Control, bidAnswer}
+use Rattle.calls.proofs.Words.{ruTaken, headerTaken, AllBytes, count, isPacingResponse, isRequest, requestsAmong}
+use Prim.Native.Nat.{_/_, _%_}
 use Rattle.cells.specs.Equal.{sameBytes}
 use Rattle.header.specs.Weights.{on, bit, FIRST, LAST, DR1, DR2, EXCEPTION, PACING, BB, CD, CEB}
-use Rattle.header.specs.Rules.{bytes, isData, sameHeader, headerGood}
-use Rattle.header.specs.Header.{headerBytes, fieldsOf, dataFields, isFirst, beginsBracket, isLast, confirms, followsOf, turns, endsBracket}
-use Rattle.unit.specs.Ru.{bidRu, positiveRu, negativeRu, fixedRu, ruGood}
-use Rattle.unit.specs.Unit.{unitBytes, unitOf, headerIn}
+use Rattle.header.specs.Rules.{bytes, isData, sameHeader}
+use Rattle.header.specs.Header.{headerBytes, fieldsOf, dataFields, isFirst, beginsBracket, isLast, followsOf, turns, endsBracket}
+use Rattle.unit.specs.Ru.{positiveRu, negativeRu}
+use Rattle.unit.specs.Unit.{unitBytes}
 use Rattle.header.specs.declared.HeaderBytes.{HeaderBytes}
-use Rattle.header.specs.declared.DataHeader.{DataHeader}
-use Rattle.header.specs.declared.Header.{Header}
 use Rattle.header.specs.declared.Header.the-variants.{Data, Bid, PositiveBidResponse, NegativeBidResponse, Confirmation, PacingResponse}
 use Rattle.header.proofs.RoundTrip.{built-fields, read-bytes}
 use Rattle.unit.proofs.Units.{unit-header, unit-ru}
 use Rattle.control.specs.Tests.{isReset}
-use Rattle.control.specs.declared.Control.{Control}
-use Rattle.transitions.specs.Transitions.{bidAnswer}
-use Rattle.end.specs.ReceiveUnit.{headerTaken, ruTaken}
-use Rattle.bools.proofs.Cases.{cases}
-use Rattle.calls.specs.Laws.{AllBytes}
-use Rattle.calls.specs.UnitCounts.{count, dataRu, isPacingResponse, isRequest, requestsAmong}
+use Rattle.calls.specs.UnitCounts.{dataRu}
 use Rattle.calls.proofs.ByteLists.{are-bytes, cons-bytes}
 
 -- ---- sorts

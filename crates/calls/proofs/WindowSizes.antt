@@ -1,17 +1,8 @@
 -- No call changes the size of a window.
 -- Assumes nothing.
-use Prim.Native.Nat.{ℕ}
-use mathlib.Core.Path.{_≡_, refl}
-use mathlib.Core.List.{List}
-use Rattle.pacing.specs.Pacing.{advanced, answered}
-use Rattle.sides.specs.Sending.{requestMade}
-use Rattle.end.specs.Allocate.{bidMade}
-use Rattle.end.specs.SendData.{bytesKept, bytesSpilled}
-use Rattle.end.specs.Close.{lastMade}
-use Rattle.end.specs.ReceiveUnit.{dataJoined, bidAnswered, creditRaised}
-use Rattle.end.specs.Receive.{bytesRead}
+use Rattle.calls.proofs.Words.{ℕ, List, _≡_, refl, advanced, answered, requestMade, bidMade, lastMade, bytesRead, dataJoined, bidAnswered}
+use Rattle.calls.proofs.Words.{creditRaised, bytesKept, bytesSpilled, Called, Station, Verb, called, taken}
 use Rattle.calls.proofs.CallCases.{allocate-cases, close-cases, confirmed-cases, pace-cases, read-cases, send-cases, take-cases}
-use Rattle.calls.specs.Calls.{Called, Station, Verb, called, taken}
 
 abbrev pub sizeOf : Station → ℕ
 sizeOf s = s .end .sending .window .size

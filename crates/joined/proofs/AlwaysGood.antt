@@ -1,29 +1,14 @@
 -- After every list of calls that give bytes, both records are within the section 'The end's record': question 5 is answered yes at each end.
 -- Assumes nothing.
-use Prim.Native.Nat.{ℕ, _+_, _<_}
-use mathlib.Core.Path.{_≡_, refl}
-use mathlib.Core.Bool.{Bool, true, false}
-use mathlib.Core.List.{List, [], _∷_}
-use native.Mathlib.Omega.{arith}
-use lib.Dec.{eqb}
-use lib.ListN.{length}
-use Rattle.end.specs.Record.{recordGood}
-use Rattle.sides.specs.Opening.{openingRefusal}
-use Rattle.session.specs.Opening.{opened}
-use Rattle.sides.specs.declared.Session.{Session}
-use Rattle.end.specs.declared.Done.{Done}
-use Rattle.joined.specs.Lanes.{Lines}
-use Rattle.joined.specs.Joined.{Call, act, At, first, second, takeOldest, apply, step, run}
+use Rattle.joined.proofs.Words.{ℕ, _+_, length, Bool, true, false, List, [], _∷_, _≡_, refl, arith, cases, Session, recordGood, Station, Verb, count}
+use Rattle.joined.proofs.Words.{opened-is, Pair, Lane, normal, acts, takes, sameLane, Buffers, OpeningAccepted, openedWith, openedBoth, Log, At}
+use Rattle.joined.proofs.Words.{Call, act, first, second, takeOldest, apply, step, run, Lines}
 use Rattle.joined.specs.Joined as J
-use Rattle.joined.specs.Ends.{Lane, normal, sameLane, Buffers, OpeningAccepted, openedWith, openedBoth, acts, takes}
-use Rattle.joined.specs.Histories.{Log, refusedWith}
-use Rattle.bools.proofs.Cases.{cases}
+use Rattle.joined.specs.Histories.{refusedWith}
 use Rattle.calls.proofs.ByteLists.{AllUnits, append-units}
 use Rattle.calls.proofs.RecordStaysGood.{good-acts, good-opened, good-takes}
 use Rattle.calls.proofs.Refusals.{never-5, take-never-5}
-use Rattle.calls.specs.Calls.{Station, Verb}
-use Rattle.calls.specs.UnitCounts.{count}
-use Rattle.joined.specs.Claim.{Pair, LentBytes, BytesIn, BytesAt, BytesOfAll, AlwaysGood}
+use Rattle.joined.specs.Claim.{LentBytes, BytesIn, BytesAt, BytesOfAll, AlwaysGood}
 use Rattle.calls.proofs.CellsStayBytes.{Cells, cells-acts, cells-takes}
 
 -- ---- lists of calls
@@ -40,8 +25,7 @@ record Rests (e : Station) (waiting sent : List (List ℕ)) (es : Log) : Type 0 
   never : refusedWith 5 es ≡ 0
 
 one-more : (b : Bool) (n : ℕ) → b ≡ false → n ≡ 0 → count b + n ≡ 0
-one-more true n e z = absurd (let y : _≡_ {A = ℕ} 0 1 = cc in omega arith)
-one-more false n e z = omega arith
+one-more b n e z = rw (e, z)
 
 module _ (naming : List ℕ → ℕ) where
   -- us are the line of the normal lane
@@ -108,16 +92,12 @@ module _ (naming : List ℕ → ℕ) where
 
 -- ---- from openings
 
-opened-owed : (s : Session) (n m k : ℕ) → opened s n m k .end .owed < 65536
-unfolding opened
-opened-owed s n m k = cases (λ (d : Done). d .end .owed < 65536) (eqb (openingRefusal s n m k) 0) (λ y. omega arith) (λ y. omega arith)
-
 opened-sound : (s : Session) (b : Buffers) → OpeningAccepted s b → LentBytes b → Sound (openedWith s b .end)
 opened-sound s b a l =
     let n = length (b .send) in
     let m = length (b .unit) in
     let k = length (b .inbox) in
-    record { good = good-opened s n m k a; cells = record { send = l .send; inbox = l .inbox; owed = opened-owed s n m k } }
+    record { good = good-opened s n m k a; cells = record { send = l .send; inbox = l .inbox; owed = rw (opened-is s n m k a .1) (omega arith) } }
 
 -- after every list of calls from two accepted openings, question 5 is answered yes at both ends, and it was at every call
 pub always-good : AlwaysGood

@@ -1,18 +1,9 @@
 -- The bid: made and unanswered, or none, as an automaton over the units that wait for an end.
 -- Assumes nothing.
-use Prim.Native.Nat.{ℕ}
-use mathlib.Core.Path.{_≡_, refl, sym, subst}
-use mathlib.Core.Bool.{Bool, true, false, cond}
-use mathlib.Core.List.{List, [], _∷_, _++_}
-use lib.Dec.{eqb}
-use Rattle.unit.specs.Unit.{unitOf}
-use Rattle.header.specs.declared.Header.{Header}
+use Rattle.joined.proofs.Words.{ℕ, eqb, Bool, true, false, cond, List, [], _∷_, _++_, _≡_, refl, sym, subst, never, Header, unitOf, isFirstSpeaker}
+use Rattle.joined.proofs.Words.{Role, FirstSpeaker, Bidder, End}
 use Rattle.header.specs.declared.Header.the-variants.{Data, Bid, PositiveBidResponse, NegativeBidResponse, Confirmation, PacingResponse}
-use Rattle.control.specs.Tests.{isFirstSpeaker}
-use Rattle.control.specs.declared.Role.{Role}
-use Rattle.control.specs.declared.Role.the-variants.{FirstSpeaker, Bidder}
-use Rattle.end.specs.declared.End.{End}
-use Rattle.joined.proofs.LineAutomaton.{never, Ran, ok, stuck, ok-is, went}
+use Rattle.joined.proofs.LineAutomaton.{Ran, ok, stuck, ok-is, went}
 use Rattle.joined.proofs.TwoLines.{other, other-other, Automaton, Led, led-moved}
 
 -- no bid, or one of this number that has no answer yet

@@ -1,23 +1,14 @@
 -- Bytes are conserved in order: those accepted are those read, then those in the inbox, on the line and in the send buffer.
 -- Assumes nothing.
-use Prim.Native.Nat.{ℕ, _+_, _-_, _≤_}
-use mathlib.Core.Path.{_≡_, sym, ap, _∙_}
-use mathlib.Core.List.{List, [], _∷_, _++_, append-nil, append-assoc}
-use lib.ListN.{length, take, drop, length-drop, take-append-drop}
-use lib.Seq.{take-take, length-take-le}
-use Rattle.cells.specs.Cells.{front, written}
+use Rattle.joined.proofs.Words.{ℕ, _+_, _-_, _≤_, length, take, drop, length-drop, take-take, length-take-le, List, [], _∷_, _++_, append-nil, _≡_}
+use Rattle.joined.proofs.Words.{sym, ap, _∙_, front, written, DataHeader, Header, unitOf, headerTaken, ruTaken, heldBytes, gone, Station, spilledRu}
+use Rattle.joined.proofs.Words.{sortOf, dataOf, bytesOnLine}
+use mathlib.Core.List.{append-assoc}
+use lib.ListN.{take-append-drop}
 use Rattle.cells.proofs.Fronts.{front-bytes, written-bytes}
-use Rattle.unit.specs.Unit.{unitOf}
-use Rattle.header.specs.declared.DataHeader.{DataHeader}
-use Rattle.header.specs.declared.Header.{Header}
 use Rattle.header.specs.declared.Header.the-variants.{Data}
-use Rattle.end.specs.ReceiveUnit.{headerTaken, ruTaken}
-use Rattle.end.specs.SendData.{heldBytes, gone}
-use Rattle.calls.specs.Calls.{Station}
-use Rattle.calls.proofs.CallCases.{spilledRu}
-use Rattle.joined.specs.Histories.{bytesOnLine}
 use Rattle.calls.specs.UnitCounts.{dataRu}
-use Rattle.calls.proofs.UnitsByHeader.{sortOf, data-ru, data-unit, dataOf}
+use Rattle.calls.proofs.UnitsByHeader.{data-ru, data-unit}
 
 pub record Carried (accepted held : List ℕ) (line : List (List ℕ)) (read inbox : List ℕ) : Type 0 where
   pub bytes : accepted ≡ read ++ (inbox ++ (bytesOnLine line ++ held))

@@ -1,45 +1,20 @@
 -- Every call conserves the bytes in order, as the sending end and as the receiving end.
 -- Assumes nothing.
-use Prim.Native.Nat.{ℕ, _-_, _≤_, min}
-use mathlib.Core.Path.{_≡_, refl, sym, ap}
-use mathlib.Core.Bool.{Bool, true, false, cond}
-use mathlib.Core.List.{List, [], _∷_, _++_, append-nil}
-use native.Mathlib.Nat.{min-le-left, min-le-right, le-trans}
-use native.Mathlib.Omega.{arith}
+use Rattle.joined.proofs.Words.{ℕ, _-_, _≤_, min, eqb, length, take, drop, length-drop, Bool, true, false, cond, List, [], _∷_, _++_, append-nil}
+use Rattle.joined.proofs.Words.{_≡_, refl, sym, ap, min-le-right, le-trans, arith, front, Continues, Last, DataHeader, Follows, Header, fixedRu}
+use Rattle.joined.proofs.Words.{bidRu, unitOf, numberIn, paced, bidAnswer, beginOf, readRefused, requestTaken, requestMade, nextNumber, restBytes}
+use Rattle.joined.proofs.Words.{bidMade, lastMade, bytesRead, recordRest, copyCount, headerTaken, ruTaken, dataJoined, bidAnswered, creditRaised}
+use Rattle.joined.proofs.Words.{recordGood, dataHeader, heldBytes, bytesKept, bytesSpilled, gone, facts, Station, Reply, Verb, allocate-cases}
+use Rattle.joined.proofs.Words.{bidNumber, close-cases, confirmed-cases, pace-cases, read-cases, send-cases, spilledRu, take-cases, ReadAsked}
+use Rattle.joined.proofs.Words.{SendAsked, readCount, spilledUnit, Sort, sortOf, answer-sort, dataOf, Lane, normal, acts, takes, onNormal}
+use Rattle.joined.proofs.Words.{bytesInSendBuffer, Log, bytesAccepted, bytesInInbox, Acted, Took, took, acted}
+use native.Mathlib.Nat.{min-le-left}
 use borrow.Author.Tests.{eqb-true}
-use lib.Dec.{eqb}
-use lib.ListN.{length, take, drop, length-drop}
-use Rattle.cells.specs.Cells.{front}
-use Rattle.unit.specs.Ru.{fixedRu, bidRu}
-use Rattle.unit.specs.Unit.{unitOf, numberIn}
-use Rattle.header.specs.declared.Follows.{Follows}
-use Rattle.header.specs.declared.ChainEnd.the-variants.{Continues, Last}
-use Rattle.header.specs.declared.DataHeader.{DataHeader}
-use Rattle.header.specs.declared.Header.{Header}
 use Rattle.header.specs.declared.Header.the-variants.{Bid, Confirmation, PacingResponse}
-use Rattle.pacing.specs.Pacing.{paced}
-use Rattle.transitions.specs.Transitions.{beginOf, bidAnswer}
-use Rattle.sides.specs.Shared.{nextNumber}
-use Rattle.sides.specs.Sending.{requestMade}
-use Rattle.sides.specs.Receiving.{requestTaken}
-use Rattle.end.specs.Requests.{dataHeader}
-use Rattle.end.specs.Allocate.{bidMade}
-use Rattle.end.specs.SendData.{heldBytes, gone, bytesKept, bytesSpilled}
-use Rattle.end.specs.Close.{lastMade}
-use Rattle.end.specs.ReceiveUnit.{headerTaken, ruTaken, dataJoined, bidAnswered, creditRaised}
-use Rattle.reading.specs.Reading.{restBytes}
-use Rattle.end.specs.Receive.{recordRest, copyCount, bytesRead, inboxMoved}
+use Rattle.end.specs.Receive.{inboxMoved}
 use Rattle.end.specs.Receive as R
-use Rattle.joined.specs.Joined.{Acted, Took, acted, took}
-use Rattle.joined.specs.Ends.{Lane, normal, onNormal, acts, takes}
-use Rattle.joined.specs.Histories.{Log, bytesAccepted, bytesInSendBuffer, bytesInInbox}
 use Rattle.joined.specs.Histories as H
-use Rattle.calls.proofs.CallCases.{ReadAsked, SendAsked, take-cases, allocate-cases, bidNumber, close-cases, confirmed-cases, pace-cases, read-cases, readCount, send-cases, spilledRu, spilledUnit}
-use Rattle.calls.proofs.UnitsByHeader.{Sort, sortOf, dataOf, answer-sort}
-use Rattle.answers.specs.Answers.{readRefused}
-use Rattle.end.specs.Record.{recordGood}
-use Rattle.calls.specs.Calls.{Reply, Station, Verb}
-use Rattle.end.proofs.Within.{facts, held-in-inbox}
+use Rattle.end.proofs.Within.{held-in-inbox}
 use Rattle.joined.proofs.CallsOnLanes.{Laned, LanedTake}
 use Rattle.joined.proofs.OneEnd.{refused-accepts}
 use Rattle.joined.proofs.BytesInOrder.{Carried, carried-kept, carried-sent, carried-other, carried-read, carried-taken, held-more, held-rest, copied-is, inbox-parts, inbox-left, spilled-parts}

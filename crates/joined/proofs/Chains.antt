@@ -1,13 +1,7 @@
 -- The chains: where a unit begins one, and what a last unit leaves of the receiving one.
 -- Assumes nothing.
-use mathlib.Core.Path.{_≡_, refl}
-use mathlib.Core.Bool.{Bool, true, false, not, cond}
-use Rattle.bools.proofs.Cases.{cases}
-use Rattle.header.specs.Header.{isFirst}
-use Rattle.header.specs.declared.Follows.{Follows}
-use Rattle.header.specs.declared.ChainBegin.the-variants.{Continued, First, FirstWithBracket}
-use Rattle.transitions.specs.Transitions.{beginOf, closed}
-use Rattle.control.specs.declared.Control.{Control}
+use Rattle.joined.proofs.Words.{Bool, true, false, not, cond, _≡_, refl, cases, isFirst, Continued, First, FirstWithBracket, Follows, Control}
+use Rattle.joined.proofs.Words.{beginOf, closed}
 
 pub closed-in : (f : Follows) (b : Bool) (c : Control) → closed f b c .inchain ≡ c .inchain
 unfolding closed

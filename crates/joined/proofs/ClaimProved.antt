@@ -1,35 +1,18 @@
 -- The claim over every list of calls, composed from its parts.
 -- Assumes nothing.
-use Prim.Native.Nat.{ℕ, _+_, _*_}
-use mathlib.Core.Path.{_≡_, refl, sym, ap, _∙_, subst}
-use mathlib.Core.Bool.{Bool, true, false, cond}
-use mathlib.Core.List.{List, [], _∷_, _++_}
-use native.Mathlib.Omega.{arith}
-use borrow.Author.Tests.{eqb-false}
-use lib.Dec.{eqb}
-use lib.ListN.{length}
-use Rattle.logical_record.specs.Walk.{thenWalk}
+use Rattle.joined.proofs.Words.{ℕ, _+_, _*_, length, List, [], _∷_, _++_, _≡_, refl, sym, ap, _∙_, subst, arith, thenWalk, credit, Role}
+use Rattle.joined.proofs.Words.{FirstSpeaker, Bidder, send-is, Session, freshEnd, Station, Reply, Verb, opened-is, Pair, Lane, normal, acts, takes}
+use Rattle.joined.proofs.Words.{sameLane, Buffers, OpeningAccepted, openedWith, openedBoth, bytesInSendBuffer, Log, bytesAccepted, bytesOnLine}
+use Rattle.joined.proofs.Words.{bytesInInbox, requestsMade, pacingResponsesTaken, breaches, badReads, CompleteIsRight, NoneCrosses, At, Lines}
 use Rattle.logical_record.specs.Records.{wholeRecords}
 use Rattle.logical_record.proofs.Splits.{whole-records-append}
-use Rattle.pacing.specs.Pacing.{credit}
-use Rattle.control.specs.declared.Role.{Role}
-use Rattle.control.specs.declared.Role.the-variants.{FirstSpeaker, Bidder}
-use Rattle.sides.specs.Opening.{roleOf, openingRefusal}
-use Rattle.session.specs.Opening.{freshEnd, zeroEnd, opened}
-use Rattle.answers.specs.Answers.{accepted, refused}
-use Rattle.sides.specs.declared.Session.{Session}
-use Rattle.end.specs.declared.End.{End}
-use Rattle.end.specs.declared.Done.{Done}
-use Rattle.joined.specs.Lanes.{Lines}
-use Rattle.joined.specs.Joined.{At}
-use Rattle.joined.specs.Ends.{Lane, normal, sameLane, Buffers, OpeningAccepted, JoinedOpenings, openedWith, openedBoth, acts, takes}
-use Rattle.joined.specs.Histories.{Log, bytesAccepted, bytesRead, bytesOnLine, bytesInInbox, bytesInSendBuffer, requestsMade, pacingResponsesTaken, breaches, badReads, CompleteIsRight, NoneCrosses}
-use Rattle.joined.specs.Claim.{Pair, JoinedEnd, after, BytesConserved, Joint, Claim, RecordsArrive, ReadsRight, TheRecords}
+use Rattle.sides.specs.Opening.{roleOf}
+use Rattle.joined.specs.Ends.{JoinedOpenings}
+use Rattle.joined.specs.Histories.{bytesRead}
+use Rattle.joined.specs.Claim.{JoinedEnd, after, BytesConserved, Joint, Claim, RecordsArrive, ReadsRight, TheRecords}
 use Rattle.joined.proofs.Confluence.{confluent}
 use Rattle.joined.proofs.EveryList.{Fact, Keeps, AfterAct, AfterTake, Ways, run-ways}
-use Rattle.control.proofs.States.{send-is}
 use Rattle.calls.proofs.WindowSizes.{sizeOf, size-acts, size-takes}
-use Rattle.calls.specs.Calls.{Reply, Station, Verb}
 use Rattle.joined.proofs.TwoLines.{other}
 use Rattle.joined.proofs.FloorsAndBids.{Order, order-flip, order-fresh, not-both}
 use Rattle.joined.proofs.FloorsAndBidsKept.{order-acts, order-takes}
@@ -153,19 +136,6 @@ module _ (naming : List ℕ → ℕ) (r : Role) (v w : ℕ) where
 
 -- ---- openings
 
-chosen : (b : Bool) (x y : Done) → (b ≡ false → y .answer .refusal ≡ 0 → ⊥) → cond b x y .answer .refusal ≡ 0 → cond b x y .end ≡ x .end
-chosen true x y n e = refl
-chosen false x y n e = absurd (n refl e)
-
--- an accepted opening leaves a fresh end
-opened-is : (s : Session) (n m k : ℕ) → opened s n m k .answer .refusal ≡ 0
-    → opened s n m k .end ≡ freshEnd (roleOf (s .role)) (s .outwindow) (s .outmax) (s .inwindow) (s .inmax) k
-unfolding opened
-opened-is s n m k e =
-    let q : ℕ = openingRefusal s n m k in
-    chosen (eqb q 0) (record { answer = accepted 0; end = freshEnd (roleOf (s .role)) (s .outwindow) (s .outmax) (s .inwindow) (s .inmax) k })
-    (record { answer = refused q; end = zeroEnd }) (λ h z. eqb-false q 0 h z) e
-
 -- a fresh end with its buffers
 abbrev station : Role → Session → Buffers → Station
 station r s b =
@@ -177,10 +147,7 @@ station r s b =
     }
 
 opened-as : (r : Role) (s : Session) (b : Buffers) → roleOf (s .role) ≡ r → OpeningAccepted s b → openedWith s b .end ≡ station r s b
-opened-as r s b e a =
-    ap (λ (x : End). record { end = x; send = b .send; unit = b .unit; inbox = b .inbox })
-    (opened-is s (length (b .send)) (length (b .unit)) (length (b .inbox)) a
-    ∙ ap (λ (x : Role). freshEnd x (s .outwindow) (s .outmax) (s .inwindow) (s .inmax) (length (b .inbox))) e)
+opened-as r s b e a = rw (opened-is s (length (b .send)) (length (b .unit)) (length (b .inbox)) a .1, e)
 
 local-fresh : (r : Role) (s : Session) (b : Buffers) → Local (valuesOf (station r s b)) []
 unfolding thenWalk bytesAccepted bytesRead requestsMade pacingResponsesTaken CompleteIsRight NoneCrosses badReads breaches credit

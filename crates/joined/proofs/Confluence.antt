@@ -1,12 +1,11 @@
 -- Lists with the same calls in the same order at each end leave the same ends, lines and answers, whatever the lanes,
 -- if neither takes with nothing waiting.
 -- Assumes nothing.
-use mathlib.Core.Path.{_≡_, refl, sym, ap, _∙_, fun-ext, subst}
-use mathlib.Core.List.{List, [], _∷_, _++_, nil≢cons, head-eq-of-cons-eq, tail-eq-of-cons-eq}
-use mathlib.Core.Bool.{Bool, true, false, cond}
-use mathlib.Core.HLevel.{Discrete}
-use Rattle.joined.specs.Lanes.{Lines, join, chosen, put}
-use Rattle.joined.specs.Joined.{Call, act, take, At, first, second, Acted, Took, Both, Local, Event, took, firsts, seconds, Some, Fed, deliver, takeOldest, apply, here, step, run, AllFed}
+use Rattle.joined.proofs.Words.{Bool, true, false, cond, Discrete, List, [], _∷_, _++_, _≡_, refl, sym, ap, _∙_, subst, fun-ext, Acted, Took, At}
+use Rattle.joined.proofs.Words.{Call, act, first, second, Both, Local, Event, took, takeOldest, apply, step, run, Lines, join, put}
+use mathlib.Core.List.{nil≢cons, head-eq-of-cons-eq, tail-eq-of-cons-eq}
+use Rattle.joined.specs.Lanes.{chosen}
+use Rattle.joined.specs.Joined.{take, firsts, seconds, Some, Fed, deliver, here, AllFed}
 
 cond-append : {A : Type 0}
     (b : Bool) (x y z : List A) → cond b (x ++ z) (y ++ z) ≡ cond b x y ++ z

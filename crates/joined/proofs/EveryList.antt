@@ -1,11 +1,9 @@
 -- What every call keeps holds after every list of calls, whatever the lanes.
 -- Assumes nothing.
-use mathlib.Core.Path.{_≡_, refl, sym, subst, fun-ext}
-use mathlib.Core.List.{List, [], _∷_, append-nil}
-use mathlib.Core.Bool.{cond}
-use mathlib.Core.HLevel.{Discrete}
-use Rattle.joined.specs.Lanes.{Lines, none, join, put}
-use Rattle.joined.specs.Joined.{Call, act, take, At, first, second, Acted, Took, Event, acted, took, Side, Both, Local, takeOldest, apply, step, run}
+use Rattle.joined.proofs.Words.{cond, Discrete, List, [], _∷_, append-nil, _≡_, refl, sym, subst, fun-ext, Acted, Took, At, Call, act, first, second}
+use Rattle.joined.proofs.Words.{Both, Local, Event, took, takeOldest, apply, step, run, acted, Lines, join, put}
+use Rattle.joined.specs.Lanes.{none}
+use Rattle.joined.specs.Joined.{take, Side}
 
 -- A fact of one way: the sender and its log, the lines, the lines back, the receiver and its log.
 -- It names the parts and no side: a goal then shows no record that is written out, inside which `simp` cannot rewrite.

@@ -1,31 +1,17 @@
 -- The floor: whose turn it is, what is owed and what is waited for, as an automaton over the units that wait for an end.
 -- Assumes nothing.
-use Prim.Native.Nat.{ℕ}
-use mathlib.Core.Path.{_≡_, refl, sym, ap, subst}
-use mathlib.Core.Bool.{Bool, true, false, not, cond, _&&_, _||_}
-use mathlib.Core.List.{List}
-use native.Mathlib.Omega.{arith}
-use borrow.Author.Tests.{eq-eqb}
-use lib.Dec.{eqb}
-use Rattle.header.specs.Header.{beginsBracket, confirms}
-use Rattle.header.specs.declared.Follows.{Follows}
-use Rattle.header.specs.declared.Follows.the-variants.{Stay, ChangeDirection, EndBracket}
-use Rattle.header.specs.declared.ChainBegin.the-variants.{Continued, First, FirstWithBracket}
-use Rattle.header.specs.declared.ChainEnd.{ChainEnd}
-use Rattle.header.specs.declared.ChainEnd.the-variants.{Continues, Last}
-use Rattle.header.specs.declared.Header.{Header}
+use Rattle.joined.proofs.Words.{ℕ, eq-eqb, eqb, Bool, true, false, not, cond, _&&_, _||_, List, _≡_, refl, sym, ap, arith, never, both, or-right}
+use Rattle.joined.proofs.Words.{beginsBracket, Continued, First, FirstWithBracket, ChainEnd, Continues, Last, Follows, Stay, ChangeDirection}
+use Rattle.joined.proofs.Words.{EndBracket, Header, agree, isFirstSpeaker, isBidder, isReset, isReceive, isConfirmAwaited, isNothing, Role}
+use Rattle.joined.proofs.Words.{FirstSpeaker, Bidder, State, WhatReceived, afterLast, afterOwed, markOf, End}
+use Rattle.header.specs.Header.{confirms}
 use Rattle.header.specs.declared.Header.the-variants.{Data, Bid, PositiveBidResponse, NegativeBidResponse, Confirmation, PacingResponse}
-use Rattle.control.specs.Tests.{isFirstSpeaker, isBidder, isReset, isReceive, isConfirmOwed, isNothing, agree}
-use Rattle.transitions.specs.Transitions.{afterLast, afterOwed, markOf}
-use Rattle.control.specs.declared.Role.{Role}
-use Rattle.control.specs.declared.Role.the-variants.{FirstSpeaker, Bidder}
-use Rattle.control.specs.declared.State.{State}
+use Rattle.control.specs.Tests.{isConfirmOwed}
 use Rattle.control.specs.declared.State.the-variants.{Reset, Send, Receive, ConfirmOwed, ConfirmAwaited}
-use Rattle.control.specs.declared.WhatReceived.{WhatReceived}
 use Rattle.control.specs.declared.WhatReceived.the-variants as mark
-use Rattle.end.specs.declared.End.{End}
-use Rattle.joined.proofs.LineAutomaton.{never, Ran, ok, stuck, ok-is, went, goes}
-use Rattle.bools.proofs.Tests.{left, right}
+use Rattle.joined.proofs.LineAutomaton.{Ran, ok, stuck, ok-is, went}
+use Rattle.bools.proofs.Finite.{pairs, bools}
+use Rattle.control.proofs.Finite.{roles, states}
 use Rattle.joined.proofs.TwoLines.{other, other-other, Automaton, Led}
 
 -- ---- floors
@@ -74,21 +60,32 @@ isReceiveFloor receive = true
 isReceiveFloor (owes f n) = false
 isReceiveFloor (waits f n) = false
 
+abbrev pub isWaiting : Floor → Bool
+isWaiting reset = false
+isWaiting sendBB = false
+isWaiting send = false
+isWaiting receive = false
+isWaiting (owes f n) = false
+isWaiting (waits f n) = true
+
+abbrev pub waitNumber : Floor → ℕ
+waitNumber reset = 0
+waitNumber sendBB = 0
+waitNumber send = 0
+waitNumber receive = 0
+waitNumber (owes f n) = n
+waitNumber (waits f n) = n
+
 -- it waits for a confirmation of n
 abbrev pub waitsFor : Floor → ℕ → Bool
-waitsFor reset n = false
-waitsFor sendBB n = false
-waitsFor send n = false
-waitsFor receive n = false
-waitsFor (owes f m) n = false
-waitsFor (waits f m) n = eqb n m
+waitsFor x n = isWaiting x && eqb n (waitNumber x)
 
 -- data with BB comes to a bidder with no conversation, all other data to an end that receives
 abbrev pub dataMoves : Role → Floor → Bool → Bool
-dataMoves r x bb = cond bb (isBidder r && isResetFloor x) (isReceiveFloor x)
+dataMoves r x bb = cond bb (isResetFloor x && isBidder r) (isReceiveFloor x)
 
 abbrev pub grantMoves : Role → Floor → Bool
-grantMoves r x = isBidder r && isResetFloor x
+grantMoves r x = isResetFloor x && isBidder r
 
 -- the floor after a confirmation that was waited for
 abbrev pub afterWait : Follows → Floor
@@ -137,46 +134,31 @@ partners-turned Bidder x y p = p
 -- ---- floors that no unit leaves
 
 abbrev pub quiet : Role → Floor → Bool
-quiet r reset = isFirstSpeaker r
-quiet r sendBB = true
-quiet r send = true
-quiet r receive = false
-quiet r (owes f n) = true
-quiet r (waits f n) = false
+quiet r x = not (isReceiveFloor x || ((isResetFloor x && isBidder r) || isWaiting x))
 
-quiet-data : {X : Type 0} (r : Role) (x : Floor) (bb : Bool) → quiet r x ≡ true → dataMoves r x bb ≡ true → X
-quiet-data FirstSpeaker reset true q e = never e
-quiet-data FirstSpeaker reset false q e = never e
-quiet-data Bidder reset bb q e = never q
-quiet-data FirstSpeaker sendBB true q e = never e
-quiet-data Bidder sendBB true q e = never e
-quiet-data r sendBB false q e = never e
-quiet-data FirstSpeaker send true q e = never e
-quiet-data Bidder send true q e = never e
-quiet-data r send false q e = never e
-quiet-data r receive bb q e = never q
-quiet-data FirstSpeaker (owes f n) true q e = never e
-quiet-data Bidder (owes f n) true q e = never e
-quiet-data r (owes f n) false q e = never e
-quiet-data r (waits f n) bb q e = never q
+quiet-data : {X : Type 0} (receives resets waits bb : Bool) → not (receives || (resets || waits)) ≡ true → cond bb resets receives ≡ true → X
+quiet-data true b c bb q e = never q
+quiet-data false true c bb q e = never q
+quiet-data false false c true q e = never e
+quiet-data false false c false q e = never e
 
-quiet-confirmation : {X : Type 0} (r : Role) (x : Floor) (n : ℕ) → quiet r x ≡ true → waitsFor x n ≡ true → X
-quiet-confirmation r reset n q e = never e
-quiet-confirmation r sendBB n q e = never e
-quiet-confirmation r send n q e = never e
-quiet-confirmation r receive n q e = never e
-quiet-confirmation r (owes f m) n q e = never e
-quiet-confirmation r (waits f m) n q e = never q
+quiet-confirmation : {X : Type 0} (receives resets waits asked : Bool) → not (receives || (resets || waits)) ≡ true → waits && asked ≡ true → X
+quiet-confirmation true b c n q e = never q
+quiet-confirmation false true c n q e = never q
+quiet-confirmation false false true n q e = never q
+quiet-confirmation false false false n q e = never e
 
 pub quiet-on :
     (r : Role) (x x′ : Floor) → quiet r x ≡ true → (h : Header) (n : ℕ) (t : Floor)
     → floorOn r x h n ≡ ok t → (t ≡ x) × (floorOn r x′ h n ≡ ok x′)
 quiet-on r x x′ q (Data d) n t e =
-    quiet-data r x (beginsBracket (d .begins)) q (went (dataMoves r x (beginsBracket (d .begins))) (afterMarkFloor (markOf (d .ends)) n) t e .0)
+    quiet-data (isReceiveFloor x) (isResetFloor x && isBidder r) (isWaiting x) (beginsBracket (d .begins)) q (went _ (afterMarkFloor (markOf (d .ends)) n) t e .0)
 quiet-on r x x′ q (Bid p) n t e = (sym (ok-is e), refl)
-quiet-on r x x′ q PositiveBidResponse n t e = quiet-data r x true q (went (grantMoves r x) send t e .0)
+quiet-on r x x′ q PositiveBidResponse n t e =
+    quiet-data (isReceiveFloor x) (isResetFloor x && isBidder r) (isWaiting x) true q (went (grantMoves r x) send t e .0)
 quiet-on r x x′ q NegativeBidResponse n t e = (sym (ok-is e), refl)
-quiet-on r x x′ q Confirmation n t e = quiet-confirmation r x n q (went (waitsFor x n) (confirmedFloor x) t e .0)
+quiet-on r x x′ q Confirmation n t e =
+    quiet-confirmation (isReceiveFloor x) (isResetFloor x && isBidder r) (isWaiting x) (eqb n (waitNumber x)) q (went (waitsFor x n) (confirmedFloor x) t e .0)
 quiet-on r x x′ q PacingResponse n t e = (sym (ok-is e), refl)
 
 -- ---- the floors of two joined ends
@@ -199,26 +181,15 @@ Floors = Led floors
 
 -- ---- the floor of a state
 
-pub reset-state : (s : State) → isReset s ≡ true → s ≡ Reset
-reset-state Reset e = refl
-reset-state Send e = never e
-reset-state Receive e = never e
-reset-state ConfirmOwed e = never e
-reset-state ConfirmAwaited e = never e
-
-pub receive-state : (s : State) → isReceive s ≡ true → s ≡ Receive
-receive-state Reset e = never e
-receive-state Send e = never e
-receive-state Receive e = refl
-receive-state ConfirmOwed e = never e
-receive-state ConfirmAwaited e = never e
-
-pub owed-state : (s : State) → isConfirmOwed s ≡ true → s ≡ ConfirmOwed
-owed-state Reset e = never e
-owed-state Send e = never e
-owed-state Receive e = never e
-owed-state ConfirmOwed e = refl
-owed-state ConfirmAwaited e = never e
+-- the state that a test tells
+pub state-is : (s : State)
+    → (isReset s ≡ true → s ≡ Reset) × (isReceive s ≡ true → s ≡ Receive) × (isConfirmOwed s ≡ true → s ≡ ConfirmOwed)
+    × (isConfirmAwaited s ≡ true → s ≡ ConfirmAwaited)
+state-is Reset = (λ e. refl, λ e. cc, λ e. cc, λ e. cc)
+state-is Send = (λ e. cc, λ e. cc, λ e. cc, λ e. cc)
+state-is Receive = (λ e. cc, λ e. refl, λ e. cc, λ e. cc)
+state-is ConfirmOwed = (λ e. cc, λ e. cc, λ e. refl, λ e. cc)
+state-is ConfirmAwaited = (λ e. cc, λ e. cc, λ e. cc, λ e. refl)
 
 pub bidder-speaks : (r : Role) → isBidder r ≡ true → isFirstSpeaker r ≡ false
 bidder-speaks FirstSpeaker e = sym e
@@ -244,12 +215,12 @@ quiet-sending r true = refl
 quiet-sending r false = refl
 
 sends-to : (v : Floor) → send ≡ mirror v → v ≡ receive
-sends-to reset e = absurd (let z : _≡_ {A = ℕ} 0 1 = cc in omega arith)
-sends-to sendBB e = absurd (let z : _≡_ {A = ℕ} 0 1 = cc in omega arith)
-sends-to send e = absurd (let z : _≡_ {A = ℕ} 0 1 = cc in omega arith)
+sends-to reset e = cc
+sends-to sendBB e = cc
+sends-to send e = cc
 sends-to receive e = refl
-sends-to (owes f n) e = absurd (let z : _≡_ {A = ℕ} 0 1 = cc in omega arith)
-sends-to (waits f n) e = absurd (let z : _≡_ {A = ℕ} 0 1 = cc in omega arith)
+sends-to (owes f n) e = cc
+sends-to (waits f n) e = cc
 
 -- it moves the partner on: with BB from Reset, without from Receive
 pub sent-moves :
@@ -259,28 +230,32 @@ pub sent-moves :
     → dataMoves (other r) v (beginsBracket (cond chained Continued (cond due FirstWithBracket First))) ≡ true
 sent-moves FirstSpeaker true true true v g p = never g
 sent-moves FirstSpeaker true true false v g p = never g
-sent-moves FirstSpeaker true false sending v g p = subst (λ (w : Floor). dataMoves Bidder w true ≡ true) (sym p) refl
-sent-moves FirstSpeaker false true sending v g p = subst (λ (w : Floor). dataMoves Bidder w false ≡ true) (sym p) refl
-sent-moves FirstSpeaker false false sending v g p = subst (λ (w : Floor). dataMoves Bidder w false ≡ true) (sym p) refl
+sent-moves FirstSpeaker true false sending v g p = rw p
+sent-moves FirstSpeaker false true sending v g p = rw p
+sent-moves FirstSpeaker false false sending v g p = rw p
 sent-moves Bidder true chained sending v g p = never g
-sent-moves Bidder false true sending v g p = subst (λ (w : Floor). dataMoves FirstSpeaker w false ≡ true) (sym (sends-to v p)) refl
-sent-moves Bidder false false sending v g p = subst (λ (w : Floor). dataMoves FirstSpeaker w false ≡ true) (sym (sends-to v p)) refl
+sent-moves Bidder false true sending v g p = rw (sends-to v p)
+sent-moves Bidder false false sending v g p = rw (sends-to v p)
+
+-- floors that are partners whichever end has which
+abbrev Mirrored : Floor → Floor → Type 0
+Mirrored x y = (y ≡ mirror x) × (x ≡ mirror y)
+
+partners : (r : Role) {x y : Floor} → Mirrored x y → Partners r x y
+partners FirstSpeaker m = m .0
+partners Bidder m = m .1
+
+sent-mirrored : (ends : ChainEnd) (n : ℕ) → Mirrored (sentFloor ends n) (afterMarkFloor (markOf ends) n)
+sent-mirrored Continues n = (refl, refl)
+sent-mirrored (Last Stay true) n = (refl, refl)
+sent-mirrored (Last Stay false) n = (refl, refl)
+sent-mirrored (Last ChangeDirection true) n = (refl, refl)
+sent-mirrored (Last ChangeDirection false) n = (refl, refl)
+sent-mirrored (Last EndBracket true) n = (refl, refl)
+sent-mirrored (Last EndBracket false) n = (refl, refl)
 
 pub sent-partners : (r : Role) (ends : ChainEnd) (n : ℕ) → Partners r (sentFloor ends n) (afterMarkFloor (markOf ends) n)
-sent-partners FirstSpeaker Continues n = refl
-sent-partners Bidder Continues n = refl
-sent-partners FirstSpeaker (Last Stay true) n = refl
-sent-partners FirstSpeaker (Last Stay false) n = refl
-sent-partners FirstSpeaker (Last ChangeDirection true) n = refl
-sent-partners FirstSpeaker (Last ChangeDirection false) n = refl
-sent-partners FirstSpeaker (Last EndBracket true) n = refl
-sent-partners FirstSpeaker (Last EndBracket false) n = refl
-sent-partners Bidder (Last Stay true) n = refl
-sent-partners Bidder (Last Stay false) n = refl
-sent-partners Bidder (Last ChangeDirection true) n = refl
-sent-partners Bidder (Last ChangeDirection false) n = refl
-sent-partners Bidder (Last EndBracket true) n = refl
-sent-partners Bidder (Last EndBracket false) n = refl
+sent-partners r ends n = partners r (sent-mirrored ends n)
 
 -- ---- a confirmation is made, or taken
 
@@ -291,42 +266,32 @@ afterOwe ChangeDirection = send
 afterOwe EndBracket = reset
 
 owes-to : (v : Floor) (f : Follows) (n : ℕ) → owes f n ≡ mirror v → v ≡ waits f n
-owes-to reset f n e = absurd (let z : _≡_ {A = ℕ} 0 1 = cc in omega arith)
-owes-to sendBB f n e = absurd (let z : _≡_ {A = ℕ} 0 1 = cc in omega arith)
-owes-to send f n e = absurd (let z : _≡_ {A = ℕ} 0 1 = cc in omega arith)
-owes-to receive f n e = absurd (let z : _≡_ {A = ℕ} 0 1 = cc in omega arith)
-owes-to (owes g m) f n e = absurd (let z : _≡_ {A = ℕ} 0 1 = cc in omega arith)
+owes-to reset f n e = cc
+owes-to sendBB f n e = cc
+owes-to send f n e = cc
+owes-to receive f n e = cc
+owes-to (owes g m) f n e = cc
 owes-to (waits g m) f n e = cc
 
 owed-partner : (r : Role) (v : Floor) (f : Follows) (n : ℕ) → Partners r (owes f n) v → v ≡ waits f n
 owed-partner FirstSpeaker v f n p = p
 owed-partner Bidder v f n p = owes-to v f n p
 
-confirmed-partners : (r : Role) (f : Follows) → Partners r (afterOwe f) (afterWait f)
-confirmed-partners FirstSpeaker Stay = refl
-confirmed-partners FirstSpeaker ChangeDirection = refl
-confirmed-partners FirstSpeaker EndBracket = refl
-confirmed-partners Bidder Stay = refl
-confirmed-partners Bidder ChangeDirection = refl
-confirmed-partners Bidder EndBracket = refl
+confirmed-mirrored : (f : Follows) → Mirrored (afterOwe f) (afterWait f)
+confirmed-mirrored Stay = (refl, refl)
+confirmed-mirrored ChangeDirection = (refl, refl)
+confirmed-mirrored EndBracket = (refl, refl)
 
 -- it moves the partner, who waits for it, on
 pub confirmed-moves :
     (r : Role) (f : Follows) (n : ℕ) (v : Floor) → Partners r (owes f n) v
     → (w : Floor) × ((floorOn (other r) v Confirmation n ≡ ok w) × Partners r (afterOwe f) w)
-confirmed-moves r f n v p = (
-  afterWait f,
-  (
-    subst (λ (x : Floor). floorOn (other r) x Confirmation n ≡ ok (afterWait f)) (sym (owed-partner r v f n p))
-        (goes (eqb n n) (afterWait f) (eq-eqb n n refl)),
-    confirmed-partners r f,
-  ),
-)
+confirmed-moves r f n v p = (afterWait f, (rw (owed-partner r v f n p, eq-eqb n n refl), partners r (confirmed-mirrored f)))
 
 -- the floor after `confirmed`, by its state
 pub confirmed-floor :
     (f : Follows) (m : WhatReceived) (owed sent : ℕ) → isNothing m ≡ true → floorAt (afterOwed f) false f m owed sent ≡ afterOwe f
-confirmed-floor Stay m owed sent e = ap (λ (k : WhatReceived). afterMarkFloor k owed) (nothing-mark m e)
+confirmed-floor Stay m owed sent e = rw (nothing-mark m e)
 confirmed-floor ChangeDirection m owed sent e = refl
 confirmed-floor EndBracket m owed sent e = refl
 
@@ -334,28 +299,8 @@ confirmed-floor EndBracket m owed sent e = refl
 pub last-floor :
     (f g : Follows) (m : WhatReceived) (owed sent : ℕ) → isNothing m ≡ true → floorAt (afterLast f) false g m owed sent ≡ afterWait f
 last-floor Stay g m owed sent e = refl
-last-floor ChangeDirection g m owed sent e = ap (λ (k : WhatReceived). afterMarkFloor k owed) (nothing-mark m e)
+last-floor ChangeDirection g m owed sent e = rw (nothing-mark m e)
 last-floor EndBracket g m owed sent e = refl
-
-waits-mark : {X : Type 0} (m : WhatReceived) (owed n : ℕ) → waitsFor (afterMarkFloor m owed) n ≡ true → X
-waits-mark mark.Nothing owed n e = never e
-waits-mark mark.Turn owed n e = never e
-waits-mark mark.End owed n e = never e
-waits-mark mark.Confirm owed n e = never e
-waits-mark mark.ConfirmTurn owed n e = never e
-waits-mark mark.ConfirmEnd owed n e = never e
-
--- only an end in Waits takes one, of the last number sent
-pub waits-state :
-    (s : State) (due : Bool) (f : Follows) (m : WhatReceived) (owed sent n : ℕ)
-    → waitsFor (floorAt s due f m owed sent) n ≡ true
-    → (s ≡ ConfirmAwaited) × (eqb n sent ≡ true)
-waits-state Reset due f m owed sent n e = never e
-waits-state Send true f m owed sent n e = never e
-waits-state Send false f m owed sent n e = never e
-waits-state Receive due f m owed sent n e = waits-mark m owed n e
-waits-state ConfirmOwed due f m owed sent n e = never e
-waits-state ConfirmAwaited due f m owed sent n e = (refl, e)
 
 -- ---- data or a grant is taken, no mark standing
 
@@ -370,56 +315,32 @@ mark-floor (Last ChangeDirection false) n owed = refl
 mark-floor (Last EndBracket true) n owed = refl
 mark-floor (Last EndBracket false) n owed = refl
 
-receive-floor :
-    (s : State) (due : Bool) (f : Follows) (m : WhatReceived) (owed sent : ℕ)
-    → isReceiveFloor (floorAt s due f m owed sent) ≡ true → s ≡ Receive
-receive-floor Reset due f m owed sent e = never e
-receive-floor Send true f m owed sent e = never e
-receive-floor Send false f m owed sent e = never e
-receive-floor Receive due f m owed sent e = refl
-receive-floor ConfirmOwed due f m owed sent e = never e
-receive-floor ConfirmAwaited due f m owed sent e = never e
+-- what the floor of an end with no mark tells of its state
+pub unmarked-floor :
+    (s : State) (due : Bool) (f : Follows) (m : WhatReceived) (owed sent n : ℕ) → isNothing m ≡ true
+    → let x = floorAt s due f m owed sent in
+    (isResetFloor x ≡ isReset s) × (isReceiveFloor x ≡ isReceive s) × (waitsFor x n ≡ isConfirmAwaited s && eqb n sent)
+unmarked-floor Reset due f m owed sent n u = (refl, refl, refl)
+unmarked-floor Send true f m owed sent n u = (refl, refl, refl)
+unmarked-floor Send false f m owed sent n u = (refl, refl, refl)
+unmarked-floor Receive due f m owed sent n u = rw (nothing-mark m u) (refl, refl, refl)
+unmarked-floor ConfirmOwed due f m owed sent n u = (refl, refl, refl)
+unmarked-floor ConfirmAwaited due f m owed sent n u = (refl, refl, refl)
 
-unmarked-receives : {X : Type 0} (m : WhatReceived) (owed : ℕ) → isNothing m ≡ true → isResetFloor (afterMarkFloor m owed) ≡ true → X
-unmarked-receives mark.Nothing owed u e = never e
-unmarked-receives mark.Turn owed u e = never u
-unmarked-receives mark.End owed u e = never u
-unmarked-receives mark.Confirm owed u e = never u
-unmarked-receives mark.ConfirmTurn owed u e = never u
-unmarked-receives mark.ConfirmEnd owed u e = never u
+-- data that moves the floor fits role and state, checked by computation
+abbrev dataFits : Role × (State × Bool) → Bool
+dataFits v =
+    let r = v .0 in
+    let s = v .1 .0 in
+    let bb = v .1 .1 in
+    not (cond bb (isReset s && isBidder r) (isReceive s)) || (agree bb (isBidder r && isReset s) && (isReceive s || (isReset s && bb)))
 
-pub reset-floor :
-    (s : State) (due : Bool) (f : Follows) (m : WhatReceived) (owed sent : ℕ)
-    → isNothing m ≡ true → isResetFloor (floorAt s due f m owed sent) ≡ true → s ≡ Reset
-reset-floor Reset due f m owed sent u e = refl
-reset-floor Send true f m owed sent u e = never e
-reset-floor Send false f m owed sent u e = never e
-reset-floor Receive due f m owed sent u e = unmarked-receives m owed u e
-reset-floor ConfirmOwed due f m owed sent u e = never e
-reset-floor ConfirmAwaited due f m owed sent u e = never e
-
-not-both-reset : (r : Role) → agree false (isBidder r && false) ≡ true
-not-both-reset FirstSpeaker = refl
-not-both-reset Bidder = refl
-
--- data that moves the floor fits role and state
 pub data-fits :
-    (r : Role) (s : State) (due : Bool) (f : Follows) (m : WhatReceived) (owed sent : ℕ) (bb : Bool)
-    → isNothing m ≡ true
-    → dataMoves r (floorAt s due f m owed sent) bb ≡ true
+    (r : Role) (s : State) (bb : Bool) → cond bb (isReset s && isBidder r) (isReceive s) ≡ true
     → (agree bb (isBidder r && isReset s) ≡ true) × (isReceive s || (isReset s && bb) ≡ true)
-data-fits r s due f m owed sent true u e =
-    let x = floorAt s due f m owed sent in
-    let z = reset-floor s due f m owed sent u (right (isBidder r) (isResetFloor x) e) in (
-      subst (λ (k : State). isBidder r && isReset k ≡ true) (sym z)
-          (subst (λ (b : Bool). b && true ≡ true) (sym (left (isBidder r) (isResetFloor x) e)) refl),
-      subst (λ (k : State). isReceive k || (isReset k && true) ≡ true) (sym z) refl,
-    )
-data-fits r s due f m owed sent false u e =
-    let z = receive-floor s due f m owed sent e in (
-      subst (λ (k : State). agree false (isBidder r && isReset k) ≡ true) (sym z) (not-both-reset r),
-      subst (λ (k : State). isReceive k || (isReset k && false) ≡ true) (sym z) refl,
-    )
+data-fits r s bb e =
+    both (agree bb (isBidder r && isReset s)) (isReceive s || (isReset s && bb))
+    (or-right _ _ (pairs roles (pairs states bools) .at dataFits refl (r, (s, bb))) (ap not e))
 
 -- ---- never both in Send
 

@@ -1,32 +1,16 @@
 -- The order of a conversation at two joined ends: floors and bids fit, whatever is still under way.
 -- Assumes nothing.
-use Prim.Native.Nat.{ℕ}
-use mathlib.Core.Path.{_≡_, refl, sym, ap, _∙_, subst}
-use mathlib.Core.Bool.{Bool, true, false, not, cond, _&&_, _||_}
-use mathlib.Core.List.{List, [], _∷_}
-use lib.Dec.{eqb}
-use Rattle.header.specs.Header.{beginsBracket}
-use Rattle.unit.specs.Unit.{numberIn}
-use Rattle.header.specs.declared.DataHeader.{DataHeader}
-use Rattle.header.specs.declared.Header.{Header}
+use Rattle.joined.proofs.Words.{ℕ, eqb, Bool, true, false, not, cond, _&&_, _||_, List, [], _∷_, _≡_, refl, sym, ap, _∙_, subst, never, on, left}
+use Rattle.joined.proofs.Words.{beginsBracket, DataHeader, Header, numberIn, confirmationFits, isFirstSpeaker, isBidder, isReset, isReceive}
+use Rattle.joined.proofs.Words.{isConfirmAwaited, isNothing, isSend, Role, FirstSpeaker, Bidder, State, markOf, headerTaken, recordGood, End, facts}
+use Rattle.joined.proofs.Words.{freshEnd}
 use Rattle.header.specs.declared.Header.the-variants.{Data, Bid, PositiveBidResponse, NegativeBidResponse, Confirmation}
-use Rattle.control.specs.Tests.{isFirstSpeaker, isBidder, isSend, isReceive, isNothing}
-use Rattle.control.specs.Questions.{bracketFits, bidFits, stateFits, grantFits, refusalFits, confirmationFits}
-use Rattle.transitions.specs.Transitions.{markOf}
-use Rattle.control.specs.declared.Role.{Role}
-use Rattle.control.specs.declared.Role.the-variants.{FirstSpeaker, Bidder}
-use Rattle.control.specs.declared.State.{State}
-use Rattle.control.specs.declared.State.the-variants.{Send, ConfirmAwaited}
-use Rattle.end.specs.Record.{recordGood}
-use Rattle.session.specs.Opening.{freshEnd}
-use Rattle.end.specs.ReceiveUnit.{headerTaken}
-use Rattle.end.specs.declared.End.{End}
-use Rattle.end.proofs.Within.{facts}
-use Rattle.joined.proofs.LineAutomaton.{never, ok, stuck}
-use Rattle.bools.proofs.Cases.{on}
-use Rattle.bools.proofs.Tests.{right, or-left}
+use Rattle.control.specs.Questions.{bracketFits, bidFits, stateFits, grantFits, refusalFits}
+use Rattle.control.specs.declared.State.the-variants.{Send}
+use Rattle.joined.proofs.LineAutomaton.{ok, stuck}
+use Rattle.bools.proofs.Tests.{or-left}
 use Rattle.joined.proofs.TwoLines.{other, other-other, led-nowhere, led-flip, led-as, led-goes, led-settled}
-use Rattle.joined.proofs.Floor.{Floor, sendBB, send, afterMarkFloor, floorAt, floorOf, isResetFloor, waitsFor, dataMoves, grantMoves, confirmedFloor, Floors, quiet-sending, waits-state, reset-floor, data-fits, not-both-send}
+use Rattle.joined.proofs.Floor.{Floor, sendBB, send, afterMarkFloor, floorAt, floorOf, isResetFloor, waitsFor, dataMoves, grantMoves, confirmedFloor, Floors, quiet-sending, data-fits, not-both-send, isReceiveFloor, unmarked-floor}
 use Rattle.joined.proofs.Bids.{Pending, none, some, bidOf, bidMoves, answerMoves, bidOn, Bids, bid-speaker, answer-flag}
 
 -- Two joined ends: e has the role r and f the other one, `line` waits for f and `back` for e.
@@ -105,10 +89,13 @@ module _ {r : Role} {e f : End} {u : List ℕ} {line back : List (List ℕ)} (i 
       → (waitsFor (floorOf e) (numberIn u) ≡ true) × Floors r (confirmedFloor (floorOf e)) (floorOf f) line back
   confirmation-moves h = led-goes (waitsFor (floorOf e) (numberIn u)) (confirmedFloor (floorOf e)) h refl (i .floors)
 
-  pub waiting : headerTaken u ≡ Confirmation → (e .control .state ≡ ConfirmAwaited) × (eqb (numberIn u) (e .sending .number) ≡ true)
-  waiting h =
+  -- what the floor tells of the state, no mark standing
+  unmarked : isNothing (e .control .mark) ≡ true
+      → (isResetFloor (floorOf e) ≡ isReset (e .control .state)) × (isReceiveFloor (floorOf e) ≡ isReceive (e .control .state))
+      × (waitsFor (floorOf e) (numberIn u) ≡ isConfirmAwaited (e .control .state) && eqb (numberIn u) (e .sending .number))
+  unmarked m =
       let c = e .control in
-      waits-state (c .state) (c .due) (c .follows) (c .mark) (e .owed) (e .sending .number) (numberIn u) (confirmation-moves h .0)
+      unmarked-floor (c .state) (c .due) (c .follows) (c .mark) (e .owed) (e .sending .number) (numberIn u) m
 
   -- the flag is on and the number is the bid's
   flagged : answerMoves r (bidOf e) (numberIn u) ≡ true → e .control .bid && eqb (numberIn u) (e .bidding) ≡ true
@@ -124,8 +111,8 @@ module _ {r : Role} {e f : End} {u : List ℕ} {line back : List (List ℕ)} (i 
       → (bracketFits (beginsBracket (d .begins)) (e .control) ≡ true) × (stateFits (beginsBracket (d .begins)) (e .control) ≡ true)
   order-fits-data d m h =
       let c = e .control in
-      data-fits (c .role) (c .state) (c .due) (c .follows) (c .mark) (e .owed) (e .sending .number) (beginsBracket (d .begins)) m
-      (subst (λ (x : Role). dataMoves x (floorOf e) (beginsBracket (d .begins)) ≡ true) (sym (i .role)) (data-moves d h .0))
+      let x = unmarked m in
+      data-fits (c .role) (c .state) (beginsBracket (d .begins)) (rw (i .role, ← x .0, ← x .1) (data-moves d h .0))
 
   -- 25, of a bid
   pub order-fits-bid : (b : Bool) → headerTaken u ≡ Bid b → bidFits (e .control) ≡ true
@@ -135,19 +122,14 @@ module _ {r : Role} {e f : End} {u : List ℕ} {line back : List (List ℕ)} (i 
   pub order-fits-grant :
       isNothing (e .control .mark) ≡ true → headerTaken u ≡ PositiveBidResponse → grantFits (e .control) && eqb (numberIn u) (e .bidding) ≡ true
   order-fits-grant m h =
-      let c = e .control in
-      let z =
-      reset-floor (c .state) (c .due) (c .follows) (c .mark) (e .owed) (e .sending .number) m
-      (right (isBidder r) (isResetFloor (floorOf e)) (grant-moves h .0)) in
-      rw z (flagged (bid-answered PositiveBidResponse (λ p n. refl) h .0))
+      rw (← unmarked m .0, left (isResetFloor (floorOf e)) (isBidder r) (grant-moves h .0)) (flagged (bid-answered PositiveBidResponse (λ p n. refl) h .0))
 
   pub order-fits-refusal : headerTaken u ≡ NegativeBidResponse → refusalFits (e .control) && eqb (numberIn u) (e .bidding) ≡ true
   order-fits-refusal h = flagged (bid-answered NegativeBidResponse (λ p n. refl) h .0)
 
-  pub order-fits-confirmation : headerTaken u ≡ Confirmation → confirmationFits (e .control) && eqb (numberIn u) (e .sending .number) ≡ true
-  order-fits-confirmation h =
-      let w = waiting h in
-      rw (w .0) (w .1)
+  pub order-fits-confirmation :
+      isNothing (e .control .mark) ≡ true → headerTaken u ≡ Confirmation → confirmationFits (e .control) && eqb (numberIn u) (e .sending .number) ≡ true
+  order-fits-confirmation m h = sym (unmarked m .2) ∙ confirmation-moves h .0
 
 -- ---- never both in Send
 

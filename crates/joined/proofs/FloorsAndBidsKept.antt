@@ -1,57 +1,30 @@
 -- Every call at an end keeps the order of a conversation: floors and bids still fit.
 -- Assumes nothing.
-use Prim.Native.Nat.{ℕ}
-use mathlib.Core.Path.{_≡_, refl, sym, ap, _∙_}
-use mathlib.Core.Bool.{Bool, true, false, not, cond}
-use mathlib.Core.List.{List, [], _∷_, _++_, append-nil}
-use borrow.Author.Tests.{eq-eqb}
-use lib.Dec.{eqb}
-use Rattle.header.specs.Header.{beginsBracket}
-use Rattle.unit.specs.Ru.{bidRu, fixedRu, positiveRu, negativeRu}
-use Rattle.unit.specs.Unit.{unitOf, numberIn}
-use Rattle.header.specs.declared.Follows.{Follows}
-use Rattle.header.specs.declared.ChainEnd.{ChainEnd}
-use Rattle.header.specs.declared.ChainEnd.the-variants.{Continues, Last}
-use Rattle.header.specs.declared.Header.{Header}
+use Rattle.joined.proofs.Words.{ℕ, eq-eqb, eqb, Bool, true, false, not, cond, List, [], _∷_, _++_, append-nil, _≡_, refl, sym, ap, _∙_, never, on}
+use Rattle.joined.proofs.Words.{left, or-right, beginsBracket, ChainEnd, Continues, Last, Follows, Header, fixedRu, bidRu, unitOf, numberIn, paced}
+use Rattle.joined.proofs.Words.{confirmationFits, isFirstSpeaker, isBidder, isReset, isReceive, isNothing, isSend, Control, Role, FirstSpeaker}
+use Rattle.joined.proofs.Words.{Bidder, WhatReceived, send-is, afterLast, afterOwed, markOf, beginOf, closed, spilled, confirmationMade, dataTaken}
+use Rattle.joined.proofs.Words.{requestTaken, requestMade, nextNumber, bidMade, lastMade, bytesRead, headerTaken, ruTaken, dataJoined, bidAnswered}
+use Rattle.joined.proofs.Words.{creditRaised, recordGood, dataHeader, heldBytes, bytesKept, bytesSpilled, End, facts, Station, Reply, Verb}
+use Rattle.joined.proofs.Words.{allocate-cases, bidNumber, close-cases, confirmed-cases, pace-cases, read-cases, send-cases, spilledRu, TakeAsked}
+use Rattle.joined.proofs.Words.{Lane, normal, acts, takes, Acted, Took}
+use Rattle.unit.specs.Ru.{positiveRu, negativeRu}
 use Rattle.header.specs.declared.Header.the-variants.{Data, Bid, PositiveBidResponse, NegativeBidResponse, Confirmation, PacingResponse}
-use Rattle.control.specs.Tests.{isFirstSpeaker, isBidder, isReset, isSend, isReceive, isNothing}
 use Rattle.control.specs.Questions.{mayAllocate, maySend}
 use Rattle.control.specs.Parts.{setState, setBid, setMark}
-use Rattle.transitions.specs.Transitions.{allocated, beginOf, spilled, closed, afterLast, afterOwed, confirmationMade, afterMark, markAnswered, markOf, dataTaken, bidTaken, grantTaken, refusalTaken, confirmationTaken}
-use Rattle.control.specs.declared.Control.{Control}
-use Rattle.control.specs.declared.Role.{Role}
-use Rattle.control.specs.declared.Role.the-variants.{FirstSpeaker, Bidder}
+use Rattle.transitions.specs.Transitions.{allocated, afterMark, markAnswered, bidTaken, grantTaken, refusalTaken, confirmationTaken}
 use Rattle.control.specs.declared.State.the-variants.{Reset, Send, Receive, ConfirmOwed, ConfirmAwaited}
-use Rattle.control.specs.declared.WhatReceived.{WhatReceived}
 use Rattle.control.specs.declared.WhatReceived.the-variants as mark
-use Rattle.end.specs.Record.{recordGood}
-use Rattle.sides.specs.Shared.{nextNumber}
-use Rattle.sides.specs.Sending.{requestMade}
-use Rattle.sides.specs.Receiving.{requestTaken}
-use Rattle.end.specs.Requests.{dataHeader}
 use Rattle.end.specs.Outcome.{withControl, withSending, withReceiving, withBidding}
-use Rattle.end.specs.Allocate.{bidMade}
-use Rattle.end.specs.SendData.{bytesKept, bytesSpilled, heldBytes}
-use Rattle.end.specs.Close.{lastMade}
-use Rattle.end.specs.Receive.{bytesRead}
-use Rattle.end.specs.ReceiveUnit.{headerTaken, dataJoined, bidAnswered, creditRaised, ruTaken}
-use Rattle.end.specs.declared.End.{End}
 use Rattle.sides.specs.declared.Receiving.{Receiving}
-use Rattle.end.proofs.Within.{facts}
-use Rattle.joined.proofs.LineAutomaton.{never, ok, goes}
-use Rattle.bools.proofs.Cases.{on}
-use Rattle.bools.proofs.Tests.{left, right, or-right, not-true}
+use Rattle.joined.proofs.LineAutomaton.{ok, goes}
+use Rattle.bools.proofs.Tests.{right, not-true}
 use Rattle.joined.proofs.TwoLines.{other, led-as, led-past, led-took, led-moved, led-still}
-use Rattle.joined.proofs.Floor.{Floor, reset, sendBB, send, receive, afterMarkFloor, floorAt, floorOf, isResetFloor, dataMoves, afterWait, confirmedFloor, Floors, reset-state, receive-state, owed-state, nothing-mark, sentFloor, quiet-sending, sent-moves, sent-partners, afterOwe, confirmed-moves, confirmed-floor, last-floor, mark-floor, bidder-speaks}
+use Rattle.joined.proofs.Floor.{Floor, reset, sendBB, send, receive, afterMarkFloor, floorAt, floorOf, isResetFloor, dataMoves, afterWait, confirmedFloor, Floors, nothing-mark, sentFloor, quiet-sending, sent-moves, sent-partners, afterOwe, confirmed-moves, confirmed-floor, last-floor, mark-floor, bidder-speaks, state-is}
 use Rattle.joined.proofs.Bids.{Pending, none, some, bidAt, bidOf, bidMoves, bidOn, Bids, bids-moved, bid-speaker, bid-off}
-use Rattle.pacing.specs.Pacing.{paced}
-use Rattle.joined.specs.Joined.{Acted, Took}
-use Rattle.joined.specs.Ends.{Lane, normal, acts, takes}
-use Rattle.calls.proofs.CallCases.{TakeAsked, kind-cases, tookKind, allocate-cases, close-cases, confirmed-cases, pace-cases, read-cases, send-cases, spilledRu, bidNumber}
-use Rattle.calls.specs.Calls.{Reply, Station, Verb}
+use Rattle.calls.proofs.CallCases.{kind-cases, tookKind}
 use Rattle.joined.proofs.CallsOnLanes.{Laned, LanedTake}
-use Rattle.joined.proofs.FloorsAndBids.{Order, floor-in, due-outside, due-speaks, no-mark, data-moves, bid-moves, grant-moves, bid-answered, confirmation-moves, waiting}
-use Rattle.control.proofs.States.{send-is}
+use Rattle.joined.proofs.FloorsAndBids.{Order, floor-in, due-outside, due-speaks, no-mark, data-moves, bid-moves, grant-moves, bid-answered, confirmation-moves, order-fits-confirmation}
 
 -- an end after a call, its role and its partner as they were
 order-with : {r : Role} {e e′ f : End} {line line′ back back′ : List (List ℕ)} → e′ .control .role ≡ e .control .role
@@ -139,7 +112,7 @@ module _ (r : Role) (s : Station) (f : End) (line back : List (List ℕ)) (i : O
   unfolding allocated
   spoke g a w =
       let e = s .end in
-      let p = reset-state (e .control .state) (left (isReset (e .control .state)) _ a) in
+      let p = state-is (e .control .state) .0 (left (isReset (e .control .state)) _ a) in
       on (λ (k : Control). Order r (withControl k e) f line back) (isFirstSpeaker (e .control .role)) _ w
       (order-with refl (spoke-floors r (rw (i .role) at w) (led-as (floor-in e Reset p) (i .floors))) (i .bids) i)
 
@@ -152,7 +125,7 @@ module _ (r : Role) (s : Station) (f : End) (line back : List (List ℕ)) (i : O
       let c = e .control in
       let n = bidNumber e in
       let b = paced (e .sending .window) in
-      let p = reset-state (c .state) (left (isReset (c .state)) _ a) in
+      let p = state-is (c .state) .0 (left (isReset (c .state)) _ a) in
       let flag = not-true (c .bid) (right (isReset (c .state)) (not (c .bid)) a) in
       let bidder : c .role ≡ r = i .role in
       let made : Control → End = λ k. withBidding n (withSending (requestMade (e .sending .held) (e .sending .given) (e .sending)) (withControl k e)) in
@@ -171,7 +144,7 @@ module _ (r : Role) (s : Station) (f : End) (line back : List (List ℕ)) (i : O
       (λ g a.
       let e = s .end in
       let c = e .control in
-      let p = owed-state (c .state) a in
+      let p = state-is (c .state) .2 a in
       order-with refl
       (led-as
       (sym
@@ -201,7 +174,7 @@ module _ (r : Role) (s : Station) (f : End) (line back : List (List ℕ)) (i : O
       (λ a h m.
       let e = s .end in
       let c = e .control in
-      let p = receive-state (c .state) (or-right (isNothing (c .mark)) (isReceive (c .state)) (facts e (a .good) .control .mark) (not-true _ m)) in
+      let p = state-is (c .state) .1 (or-right (isNothing (c .mark)) (isReceive (c .state)) (facts e (a .good) .control .mark) (not-true _ m)) in
       let k = mark-read c (c .mark) (e .owed) (e .sending .number) m (due-outside e (a .good) (rw p)) in
       rw append-nil (order-same (k .0 ∙ sym (floor-in e Receive p)) (same-bid e (markAnswered c) (k .1) (k .2)) (k .1) i))
 
@@ -242,7 +215,7 @@ module _ (r : Role) (s : Station) (f : End) (u : List ℕ) (line back : List (Li
       order-with refl
       (led-as (ap (λ (x : WhatReceived). afterMarkFloor x (e .owed)) (sym (nothing-mark (e .control .mark) m)))
       (granted-floors r n positiveRu (bid-speaker r (bidOf e) (bid-moves i b h .0))
-      (led-as (floor-in e Reset (reset-state (e .control .state) q)) (led-took (floorOf e) h refl (i .floors)))))
+      (led-as (floor-in e Reset (state-is (e .control .state) .0 q)) (led-took (floorOf e) h refl (i .floors)))))
       (answered-bids r (bidOf e) n PositiveBidResponse positiveRu (goes (eqb n n) none (eq-eqb n n refl)) (bid-moves i b h)) i
   took-bid false b v q m h =
       let e = s .end in
@@ -262,7 +235,7 @@ module _ (r : Role) (s : Station) (f : End) (u : List ℕ) (line back : List (Li
   took-kind PositiveBidResponse h a =
       let e = s .end in
       let p = grant-moves i h in
-      let due = due-speaks e (a .good) (rw (i .role) (bidder-speaks r (left (isBidder r) (isResetFloor (floorOf e)) (p .0)))) in
+      let due = due-speaks e (a .good) (rw (i .role) (bidder-speaks r (right (isResetFloor (floorOf e)) (isBidder r) (p .0)))) in
       rw append-nil
       (order-with refl (led-as (ap (λ (x : Bool). cond x sendBB send) (sym due)) (p .1))
       (led-as (sym (bid-off (e .control .role) (e .bidding))) (bid-answered i PositiveBidResponse (λ p n. refl) h .1)) i)
@@ -274,7 +247,7 @@ module _ (r : Role) (s : Station) (f : End) (u : List ℕ) (line back : List (Li
   took-kind Confirmation h a =
       let e = s .end in
       let c = e .control in
-      let p = waiting i h .0 in
+      let p = state-is (c .state) .3 (left (confirmationFits c) _ (order-fits-confirmation i (a .unmarked) h)) in
       let after : floorAt (afterLast (c .follows)) (c .due) (c .follows) (c .mark) (e .owed) (e .sending .number) ≡ afterWait (c .follows) =
       ap (λ (b : Bool). floorAt (afterLast (c .follows)) b (c .follows) (c .mark) (e .owed) (e .sending .number)) (due-outside e (a .good) (rw p))
       ∙ last-floor (c .follows) (c .follows) (c .mark) (e .owed) (e .sending .number) (no-mark e (a .good) (rw p)) in

@@ -1,3 +1,4 @@
+mod Words
 pub mod CallsOnLanes
 pub mod Confluence
 pub mod EveryList

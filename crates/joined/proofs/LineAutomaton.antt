@@ -1,14 +1,6 @@
 -- An automaton over the units of a line: it goes on from unit to unit, or is stuck at one.
 -- Assumes nothing.
-use mathlib.Core.Path.{_≡_, refl, sym, subst}
-use mathlib.Core.Bool.{Bool, true, false, cond, false≢true}
-use mathlib.Core.List.{List, [], _∷_, _++_}
-use native.Mathlib.Omega.{arith}
-use Prim.Native.Nat.{ℕ}
-
--- no is not yes
-pub never : {X : Type 0} → false ≡ true → X
-never e = absurd (false≢true e)
+use Rattle.joined.proofs.Words.{ℕ, Bool, true, false, cond, List, [], _∷_, _++_, _≡_, refl, sym, subst, arith, never}
 
 pub data Ran (S : Type 0) : Type 0 where
   ok : S → Ran S

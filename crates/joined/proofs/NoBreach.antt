@@ -1,33 +1,17 @@
 -- The oldest unit of a line is never refused as a breach of protocol: every question from 20 on is answered yes.
 -- Assumes nothing.
-use Prim.Native.Nat.{ℕ}
-use mathlib.Core.Path.{_≡_, refl, ap, _∙_}
-use mathlib.Core.Bool.{Bool, true, false, not, _&&_}
-use mathlib.Core.List.{List, _∷_}
-use lib.Dec.{eqb, leb}
-use lib.ListN.{length}
-use Rattle.header.specs.Header.{isFirst}
-use Rattle.header.specs.Rules.{headerGood}
-use Rattle.unit.specs.Ru.{ruGood}
-use Rattle.unit.specs.Unit.{RU-START, numberIn, headerIn}
-use Rattle.header.specs.declared.Header.{Header}
+use Rattle.joined.proofs.Words.{ℕ, eqb, leb, length, Bool, true, false, not, _&&_, List, _∷_, _≡_, refl, ap, _∙_, left, both, isFirst, headerGood}
+use Rattle.joined.proofs.Words.{Header, ruGood, RU-START, numberIn, headerIn, hasCredit, paced, agree, isNothing, Role, nextNumber, headerTaken}
+use Rattle.joined.proofs.Words.{ruTaken, takeRefusal, recordGood, facts, Station, sortOf, isPacing, bitOf, isBreach}
 use Rattle.header.specs.declared.Header.the-variants.{Data, Bid, PositiveBidResponse, NegativeBidResponse, Confirmation, PacingResponse}
-use Rattle.pacing.specs.Pacing.{hasCredit, paced}
-use Rattle.control.specs.Tests.{isNothing, agree}
-use Rattle.control.specs.declared.Role.{Role}
 use Rattle.answers.specs.Questions.{firstNo}
-use Rattle.end.specs.Record.{recordGood, inboxLent, unitLent}
-use Rattle.sides.specs.Shared.{nextNumber}
+use Rattle.end.specs.Record.{inboxLent, unitLent}
 use Rattle.sides.specs.Receiving.{pacingFits}
-use Rattle.end.specs.ReceiveUnit.{kindQuestions, headerTaken, ruTaken, takeRefusal}
-use Rattle.bools.proofs.Tests.{both, left, join}
-use Rattle.calls.specs.Calls.{Station}
-use Rattle.end.proofs.Within.{facts}
+use Rattle.end.specs.ReceiveUnit.{kindQuestions}
+use Rattle.bools.proofs.Tests.{join}
 use Rattle.pacing.proofs.Windows.{credit-there}
-use Rattle.joined.specs.Histories.{isBreach}
 use Rattle.joined.proofs.FloorsAndBids.{Order, order-fits-data, order-fits-bid, order-fits-grant, order-fits-refusal, order-fits-confirmation}
 use Rattle.calls.proofs.ControlMoved.{agrees}
-use Rattle.calls.proofs.UnitsByHeader.{sortOf, isPacing, bitOf}
 use Rattle.joined.proofs.PacingFlags.{paces-owed, paces-unanswered}
 use Rattle.joined.proofs.PacingFlagsKept.{PacesOf}
 use Rattle.joined.proofs.RequestStream.{Outside, insideOf, booksIn, fits, Stream, Heads, stream-take}
@@ -67,7 +51,7 @@ module _ (r : Role) (s f : Station) (o : Outside) (u : List ℕ) (line back : Li
       rw (t0 .0, pacing-yes p (ap (λ (h : Header). bitOf (sortOf h)) e) g (t1 .0), t2 .0, t2 .1, order-fits-bid order p e)
   kind-yes PositiveBidResponse e g m t = rw (left (ruGood (s .end .receiving .max) PositiveBidResponse (ruTaken u)) true t, order-fits-grant order m e)
   kind-yes NegativeBidResponse e g m t = rw (left (ruGood (s .end .receiving .max) NegativeBidResponse (ruTaken u)) true t, order-fits-refusal order e)
-  kind-yes Confirmation e g m t = rw (left (ruGood (s .end .receiving .max) Confirmation (ruTaken u)) true t, order-fits-confirmation order e)
+  kind-yes Confirmation e g m t = rw (left (ruGood (s .end .receiving .max) Confirmation (ruTaken u)) true t, order-fits-confirmation order m e)
   kind-yes PacingResponse e g m t =
       let t0 = both (ruGood (s .end .receiving .max) PacingResponse (ruTaken u)) (eqb (numberIn u) 0) t in
       rw (t0 .0, paces-unanswered flags (ap (λ (h : Header). isPacing (sortOf h)) e), t0 .1)

@@ -1,62 +1,32 @@
 -- Every call keeps what holds at its end by itself.
 -- Assumes nothing.
-use Prim.Native.Nat.{ℕ, _+_, _*_, _≤_, _<_, min}
-use mathlib.Core.Path.{_≡_, refl, sym, ap, _∙_, subst}
-use mathlib.Core.Bool.{Bool, true, false, not, _||_}
-use mathlib.Core.List.{List, [], _∷_}
-use native.Mathlib.Nat.{le-min, le-trans, min-le-right}
-use native.Mathlib.Omega.{arith}
+use Rattle.joined.proofs.Words.{ℕ, _+_, _*_, _≤_, min, _<_, eqb, length, take, drop, take-take, length-take-le, Bool, true, false, not, _||_, List}
+use Rattle.joined.proofs.Words.{[], _∷_, _≡_, refl, sym, ap, _∙_, subst, min-le-right, le-trans, arith, front, isWhole, ended, thenWalk, walk}
+use Rattle.joined.proofs.Words.{placeOr, Position, Walked, walk-append, walk-prefix, Through, Continues, Last, Follows, Stay, ChangeDirection}
+use Rattle.joined.proofs.Words.{EndBracket, marks, fixedRu, bidRu, RU-START, unitOf, numberIn, paced, advanced, answered, credit, isSend, bidAnswer}
+use Rattle.joined.proofs.Words.{closed, spilled, dataTaken, readRefused, accepted, requestTaken, requestMade, nextNumber, restBytes, bidMade}
+use Rattle.joined.proofs.Words.{lastMade, bytesRead, recordRest, copyCount, headerTaken, ruTaken, dataJoined, bidAnswered, creditRaised, takeRefusal}
+use Rattle.joined.proofs.Words.{dataHeader, heldBytes, bytesKept, bytesSpilled, facts, Station, Reply, Verb, count, isPacingResponse, requestsAmong}
+use Rattle.joined.proofs.Words.{allocate-cases, bidNumber, close-cases, confirmed-cases, pace-cases, read-cases, send-cases, spilledRu, take-cases}
+use Rattle.joined.proofs.Words.{ReadAsked, readCount, control-within, TakeAsked, allocate-moves, mark-moves, Sort, sortOf, isAsking, isPacing}
+use Rattle.joined.proofs.Words.{answer-sort, Lane, normal, acts, takes, onNormal, Log, bytesInInbox, isBreach, Acted, Took, took, acted}
+use native.Mathlib.Nat.{le-min}
 use borrow.Author.Tests.{leb-true}
-use lib.Dec.{eqb}
-use lib.ListN.{length, take, drop}
-use lib.Seq.{length-take-le, take-take}
-use Rattle.cells.specs.Cells.{front}
-use Rattle.logical_record.specs.Positions.{isWhole}
-use Rattle.logical_record.specs.Walk.{thenWalk, walk}
-use Rattle.logical_record.proofs.Walks.{walk-append, walk-prefix, Through}
-use Rattle.logical_record.specs.Records.{ended}
 use Rattle.logical_record.proofs.Ends.{Inside}
 use Rattle.logical_record.proofs.Rests.{rest-some, rest-walks, rest-inside, RestIs}
-use Rattle.logical_record.specs.declared.Position.{Position}
-use Rattle.logical_record.specs.declared.Walked.{Walked}
 use Rattle.logical_record.specs.declared.Walked.the-variants.{At, BadLength}
 use Rattle.logical_record.specs.declared.Rest.{Rest}
 use Rattle.logical_record.specs.declared.Rest.the-variants as restIs
-use Rattle.unit.specs.Ru.{marks, fixedRu, bidRu}
-use Rattle.unit.specs.Unit.{unitOf, numberIn, RU-START}
-use Rattle.header.specs.declared.Follows.{Follows}
-use Rattle.header.specs.declared.Follows.the-variants.{Stay, ChangeDirection, EndBracket}
-use Rattle.header.specs.declared.ChainEnd.the-variants.{Continues, Last}
 use Rattle.header.specs.declared.Header.the-variants.{Bid, Confirmation, PacingResponse}
-use Rattle.pacing.specs.Pacing.{paced, credit, advanced, answered}
-use Rattle.control.specs.Tests.{isSend}
-use Rattle.transitions.specs.Transitions.{spilled, closed, dataTaken, bidAnswer}
 use Rattle.control.specs.declared.WhatReceived.the-variants as mark
-use Rattle.answers.specs.Answers.{readRefused}
-use Rattle.sides.specs.Shared.{nextNumber}
-use Rattle.sides.specs.Sending.{requestMade}
-use Rattle.sides.specs.Receiving.{requestTaken}
-use Rattle.end.specs.Requests.{dataHeader}
-use Rattle.end.specs.Allocate.{bidMade}
-use Rattle.logical_record.specs.Walk.{placeOr}
-use Rattle.end.specs.SendData.{heldBytes, bytesKept, bytesSpilled}
-use Rattle.end.specs.Close.{lastMade}
-use Rattle.end.specs.ReceiveUnit.{headerTaken, ruTaken, dataJoined, bidAnswered, creditRaised, takeRefusal}
-use Rattle.end.specs.Receive.{recordRest, someHeld, readQuestions, readRefusal, copyCount, bytesRead, markRead}
-use Rattle.reading.specs.Reading.{restGood, restBytes}
-use Rattle.joined.specs.Joined.{Acted, Took, acted, took}
-use Rattle.joined.specs.Ends.{Lane, normal, onNormal, acts, takes}
-use Rattle.joined.specs.Histories.{Log, isBreach, bytesInInbox}
+use Rattle.end.specs.Receive.{someHeld, readQuestions, readRefusal, markRead}
+use Rattle.reading.specs.Reading.{restGood}
 use Rattle.joined.specs.Histories as H
 use Rattle.bools.proofs.Tests.{never}
-use Rattle.calls.proofs.CallCases.{ReadAsked, TakeAsked, control-within, take-cases, allocate-cases, bidNumber, close-cases, confirmed-cases, pace-cases, read-cases, readCount, send-cases, spilledRu}
 use Rattle.calls.proofs.Credit.{data-asks, none-made, other-made, request-made}
 use Rattle.calls.proofs.Refusals.{not-first}
-use Rattle.calls.proofs.ControlMoved.{allocate-moves, confirmed-moves, mark-moves}
-use Rattle.calls.proofs.UnitsByHeader.{Sort, sortOf, isAsking, isPacing, pacing-taken, answer-sort}
-use Rattle.calls.specs.Calls.{Reply, Station, Verb}
-use Rattle.calls.specs.UnitCounts.{count, isPacingResponse, requestsAmong}
-use Rattle.end.proofs.Within.{facts}
+use Rattle.calls.proofs.ControlMoved.{confirmed-moves}
+use Rattle.calls.proofs.UnitsByHeader.{pacing-taken}
 use Rattle.joined.proofs.CallsOnLanes.{Laned, LanedTake}
 use Rattle.pacing.proofs.Windows.{response-raises}
 use Rattle.joined.proofs.BytesInOrder.{held-more}
@@ -93,13 +63,13 @@ module _ (s : Station) (xs : Log) (l : Local (valuesOf s) xs) where
   closes f c =
       let v = Verb.close f c in
       close-cases (Laned (After v)) s f c (refuses v (λ q. refl))
-      (λ a n. local-act v 0 mark.Nothing [] (onNormal []) (valuesOf s) l here (l .whole) refl refl refl refl
+      (λ a n. local-act v (accepted 0) mark.Nothing [] (onNormal []) (valuesOf s) l here (l .whole) refl
       (none-made (credit (s .end .sending .window))) refl)
       (λ a n k.
       let h = dataHeader (s .end) (Last f c) in
       let ru = heldBytes (s .end) (s .send) in
       let u = unitOf (nextNumber (s .end .sending .number)) h ru in
-      local-act v (RU-START + length ru) mark.Nothing [] (onNormal (u ∷ [])) _ l here (closed-whole f c (s .end .sending .given) (a .whole)) refl refl refl refl
+      local-act v (accepted (RU-START + length ru)) mark.Nothing [] (onNormal (u ∷ [])) _ l here (closed-whole f c (s .end .sending .given) (a .whole)) refl
       (request-made s (nextNumber (s .end .sending .number)) h ru (data-asks s (Last f c)) (a .good) k) refl)
 
   at-place : (g p : Position) (w : Walked) → w ≡ At p → w ≡ At (placeOr g w)
@@ -172,8 +142,8 @@ module _ (s : Station) (xs : Log) (l : Local (valuesOf s) xs) where
       (at-place (s .end .receiving .read) (t .middle) (walk (s .end .receiving .read) (take k (s .inbox))) (t .first))
       (inside buffer a) (moved-left s k (inbox-room s (a .inbox) (a .good))) refl refl refl refl refl)
       (λ a h m.
-      local-act (Verb.receive buffer) 0 (s .end .control .mark) buffer (onNormal []) _ l here (λ n. l .whole (mark-moves (s .end .control) (control-within (s .end) (a .good)) m .send n))
-      refl refl refl refl
+      local-act (Verb.receive buffer) (accepted 0) (s .end .control .mark) buffer (onNormal []) _ l here (λ n. l .whole (mark-moves (s .end .control) (control-within (s .end) (a .good)) m .send n))
+      refl
       (none-made (credit (s .end .sending .window))) refl)
 
   pub local-acts : (v : Verb) → After v (acts s v)
@@ -181,34 +151,34 @@ module _ (s : Station) (xs : Log) (l : Local (valuesOf s) xs) where
   local-acts Verb.allocate =
       allocate-cases (Laned (After Verb.allocate)) s (refuses Verb.allocate (λ q. refl))
       (λ g a w.
-      local-act Verb.allocate 0 mark.Nothing [] (onNormal []) _ l here (λ n. l .whole (allocate-moves (s .end .control) (control-within (s .end) g) a .send n))
-      refl refl refl refl (none-made (credit (s .end .sending .window))) refl)
+      local-act Verb.allocate (accepted 0) mark.Nothing [] (onNormal []) _ l here (λ n. l .whole (allocate-moves (s .end .control) (control-within (s .end) g) a .send n))
+      refl (none-made (credit (s .end .sending .window))) refl)
       (λ g a w k.
-      local-act Verb.allocate 10 mark.Nothing [] (onNormal (unitOf (bidNumber (s .end)) (Bid (paced (s .end .sending .window))) bidRu ∷ [])) _ l here
-      (λ n. l .whole (allocate-moves (s .end .control) (control-within (s .end) g) a .send n)) refl refl refl refl
+      local-act Verb.allocate (accepted 10) mark.Nothing [] (onNormal (unitOf (bidNumber (s .end)) (Bid (paced (s .end .sending .window))) bidRu ∷ [])) _ l here
+      (λ n. l .whole (allocate-moves (s .end .control) (control-within (s .end) g) a .send n)) refl
       (request-made s (bidNumber (s .end)) (Bid (paced (s .end .sending .window))) bidRu refl g k) refl)
   local-acts Verb.confirmed =
       confirmed-cases (Laned (After Verb.confirmed)) s (refuses Verb.confirmed (λ q. refl))
       (λ g a.
-      local-act Verb.confirmed 5 mark.Nothing [] (onNormal (unitOf (s .end .owed) Confirmation [] ∷ [])) _ l here
-      (λ n. l .whole (confirmed-moves (s .end .control) (control-within (s .end) g) a .send n)) refl refl refl refl
+      local-act Verb.confirmed (accepted 5) mark.Nothing [] (onNormal (unitOf (s .end .owed) Confirmation [] ∷ [])) _ l here
+      (λ n. l .whole (confirmed-moves (s .end .control) (control-within (s .end) g) a .send n)) refl
       (other-made (s .end .owed) (credit (s .end .sending .window)) Confirmation [] refl) refl)
   local-acts Verb.pace =
       pace-cases (Laned (After Verb.pace)) s (refuses Verb.pace (λ q. refl))
       (λ g a.
-      local-act Verb.pace 5 mark.Nothing [] (onNormal (unitOf 0 PacingResponse [] ∷ [])) _ l here (l .whole) refl refl refl refl
+      local-act Verb.pace (accepted 5) mark.Nothing [] (onNormal (unitOf 0 PacingResponse [] ∷ [])) _ l here (l .whole) refl
       (other-made 0 (credit (s .end .sending .window)) PacingResponse [] refl) refl)
   local-acts (Verb.sendData bytes) =
       let g = s .end .sending .given in
       send-cases (Laned (After (Verb.sendData bytes))) s bytes (refuses (Verb.sendData bytes) (λ q. refl))
       (λ a k.
-      local-act (Verb.sendData bytes) 0 mark.Nothing [] (onNormal []) _ l (at-place g (a .place) (walk g bytes) (a .walked))
-      (λ n. absurd (never (sym (a .sending) ∙ n))) refl refl refl refl (none-made (credit (s .end .sending .window))) refl)
+      local-act (Verb.sendData bytes) (accepted 0) mark.Nothing [] (onNormal []) _ l (at-place g (a .place) (walk g bytes) (a .walked))
+      (λ n. absurd (never (sym (a .sending) ∙ n))) refl (none-made (credit (s .end .sending .window))) refl)
       (λ a k h.
       let hd = dataHeader (s .end) Continues in
-      local-act (Verb.sendData bytes) (RU-START + length (spilledRu s bytes)) mark.Nothing []
+      local-act (Verb.sendData bytes) (accepted (RU-START + length (spilledRu s bytes))) mark.Nothing []
       (onNormal (unitOf (nextNumber (s .end .sending .number)) hd (spilledRu s bytes) ∷ [])) _ l
-      (at-place g (a .place) (walk g bytes) (a .walked)) (λ n. absurd (never (sym (a .sending) ∙ n))) refl refl refl refl
+      (at-place g (a .place) (walk g bytes) (a .walked)) (λ n. absurd (never (sym (a .sending) ∙ n))) refl
       (request-made s (nextNumber (s .end .sending .number)) hd (spilledRu s bytes) (data-asks s Continues) (a .good) h) refl)
   local-acts (Verb.close f c) = closes f c
   local-acts (Verb.receive buffer) = reads buffer
@@ -237,15 +207,15 @@ module _ (s : Station) (xs : Log) (u : List ℕ) (l : Local (valuesOf s) xs) whe
       let same = no-rise (credit w) (w .size) in
       take-cases (LanedTake Left) naming s u (λ q x n. local-take-refused normal u (naming u) q n (nb q x) l)
       (λ d a e k.
-      local-took normal u 0 (onNormal []) false _ l (counts-pacing _ e a) refl (λ m. l .whole (k .away)) refl
+      local-took normal u (accepted 0) (onNormal []) false _ l (counts-pacing _ e a) refl refl (λ m. l .whole (k .away)) refl
       (ap (walk (r .read)) (held-more (r .held) ru (s .inbox) (inbox-room s (a .inbox) (a .good)))
       ∙ walk-append (r .read) (bytesInInbox s) ru ∙ ap (λ (x : Walked). thenWalk x ru) (l .inbox) ∙ k .walked) refl same)
       (λ p a e k m.
-      local-took normal u (RU-START + length (fixedRu h)) (onNormal (unitOf (numberIn u) h (fixedRu h) ∷ [])) false _ l (counts-pacing _ e a) refl
+      local-took normal u (accepted (RU-START + length (fixedRu h))) (onNormal (unitOf (numberIn u) h (fixedRu h) ∷ [])) false _ l (counts-pacing _ e a) refl refl
       (λ n. l .whole (m .send n)) refl (l .inbox) refl
       (other-made (numberIn u) (credit w) h (fixedRu h) (ap isAsking (answer-sort (s .end .control)))
       ∙ (let y : credit w ≡ credit w + w .size * 0 = omega arith in y)))
-      (λ c a e m. local-took normal u 0 (onNormal []) false _ l (counts-pacing _ e a) refl (λ n. l .whole (m .send n)) refl (l .inbox) refl same)
+      (λ c a e m. local-took normal u (accepted 0) (onNormal []) false _ l (counts-pacing _ e a) refl refl (λ n. l .whole (m .send n)) refl (l .inbox) refl same)
       (λ a e k.
-      local-took normal u 0 (onNormal []) true _ l (counts-pacing _ e a) refl (l .whole) refl (l .inbox) refl
+      local-took normal u (accepted 0) (onNormal []) true _ l (counts-pacing _ e a) refl refl (l .whole) refl (l .inbox) refl
       (none-made (credit (answered w)) ∙ response-raises w k ∙ (let y : credit w + w .size ≡ credit w + w .size * 1 = omega arith in y)))

@@ -1,32 +1,12 @@
 -- Every call keeps the pacing flags of two joined ends in step.
 -- Assumes nothing.
-use Prim.Native.Nat.{ℕ}
-use mathlib.Core.Path.{_≡_, refl, ap}
-use mathlib.Core.Bool.{Bool, true, false, not, cond, _||_}
-use mathlib.Core.List.{List, [], _∷_, _++_, append-nil}
-use Rattle.unit.specs.Ru.{fixedRu, bidRu}
-use Rattle.unit.specs.Unit.{unitOf, numberIn}
-use Rattle.header.specs.declared.ChainEnd.{ChainEnd}
-use Rattle.header.specs.declared.ChainEnd.the-variants.{Continues, Last}
-use Rattle.header.specs.declared.Header.{Header}
+use Rattle.joined.proofs.Words.{ℕ, Bool, true, false, not, cond, _||_, List, [], _∷_, _++_, append-nil, _≡_, refl, ap, left, ChainEnd, Continues}
+use Rattle.joined.proofs.Words.{Last, Header, fixedRu, bidRu, unitOf, numberIn, hasCredit, paced, advanced, answered, bidAnswer, requestTaken}
+use Rattle.joined.proofs.Words.{requestMade, nextNumber, bidMade, lastMade, bytesRead, headerTaken, dataJoined, bidAnswered, creditRaised}
+use Rattle.joined.proofs.Words.{dataHeader, heldBytes, bytesKept, bytesSpilled, Station, Reply, Verb, allocate-cases, bidNumber, close-cases}
+use Rattle.joined.proofs.Words.{confirmed-cases, pace-cases, read-cases, send-cases, spilledRu, take-cases, Sort, sortOf, isPacing, bitOf}
+use Rattle.joined.proofs.Words.{answer-sort, Lane, normal, acts, takes, Acted, Took}
 use Rattle.header.specs.declared.Header.the-variants.{Bid, Confirmation, PacingResponse}
-use Rattle.pacing.specs.Pacing.{hasCredit, paced, advanced, answered}
-use Rattle.transitions.specs.Transitions.{bidAnswer}
-use Rattle.sides.specs.Shared.{nextNumber}
-use Rattle.sides.specs.Sending.{requestMade}
-use Rattle.sides.specs.Receiving.{requestTaken}
-use Rattle.end.specs.Requests.{dataHeader}
-use Rattle.end.specs.Allocate.{bidMade}
-use Rattle.end.specs.SendData.{heldBytes, bytesKept, bytesSpilled}
-use Rattle.end.specs.Close.{lastMade}
-use Rattle.end.specs.ReceiveUnit.{headerTaken, dataJoined, bidAnswered, creditRaised}
-use Rattle.end.specs.Receive.{bytesRead}
-use Rattle.joined.specs.Joined.{Acted, Took}
-use Rattle.joined.specs.Ends.{Lane, normal, acts, takes}
-use Rattle.bools.proofs.Tests.{left}
-use Rattle.calls.proofs.CallCases.{allocate-cases, bidNumber, close-cases, confirmed-cases, pace-cases, read-cases, send-cases, spilledRu, take-cases}
-use Rattle.calls.proofs.UnitsByHeader.{Sort, sortOf, isPacing, bitOf, answer-sort}
-use Rattle.calls.specs.Calls.{Reply, Station, Verb}
 use Rattle.joined.proofs.CallsOnLanes.{Laned, LanedTake}
 use Rattle.pacing.proofs.Windows.{no-flag-at-start}
 use Rattle.joined.proofs.PacingFlags.{Paces, paces-out, paces-answer, paces-took}

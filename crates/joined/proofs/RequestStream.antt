@@ -1,41 +1,20 @@
 -- One way between two joined ends, as a stream of requests: numbers, positions in the window, chains and record places. What the receiving end has
 -- taken, led on by the units on the line, is what the sending end has made.
 -- Assumes nothing.
-use Prim.Native.Nat.{ℕ}
-use mathlib.Core.Path.{_≡_, refl, sym, ap, _∙_, subst}
-use mathlib.Core.Bool.{Bool, true, false, not, cond, _&&_, _||_}
-use mathlib.Core.List.{List, [], _∷_, _++_}
-use native.Mathlib.Omega.{arith}
-use borrow.Author.Tests.{le-leb, eq-eqb}
-use lib.Dec.{eqb, leb}
-use lib.ListN.{length}
-use Rattle.logical_record.specs.Walk.{thenWalk, walk}
-use Rattle.logical_record.specs.Positions.{isWhole}
-use Rattle.logical_record.proofs.Walks.{walk-append, walk-prefix, Through}
-use Rattle.logical_record.specs.declared.Position.{Position}
-use Rattle.logical_record.specs.declared.Walked.{Walked}
+use Rattle.joined.proofs.Words.{ℕ, le-leb, eq-eqb, eqb, leb, length, Bool, true, false, not, cond, _&&_, _||_, List, [], _∷_, _++_, _≡_, refl, sym}
+use Rattle.joined.proofs.Words.{ap, _∙_, subst, arith, never, isWhole, thenWalk, walk, placeOr, Position, Walked, walk-append, walk-prefix, Through}
+use Rattle.joined.proofs.Words.{isFirst, headerGood, ChainEnd, DataHeader, Header, marks, fixedRu, ruGood, RU-START, unitOf, numberIn, headerIn}
+use Rattle.joined.proofs.Words.{unit-number, agree, nextNumber, headerTaken, ruTaken, Station, Sort, sortOf, isAsking, taken-header}
+use Rattle.joined.proofs.Words.{bytesInSendBuffer}
 use Rattle.logical_record.specs.declared.Walked.the-variants.{At}
-use Rattle.header.specs.Rules.{headerGood}
-use Rattle.header.specs.Header.{isFirst, isLast}
+use Rattle.header.specs.Header.{isLast}
 use Rattle.cells.specs.Equal.{sameBytes}
-use Rattle.unit.specs.Ru.{marks, fixedRu, ruGood}
-use Rattle.unit.specs.Unit.{RU-START, unitOf, numberIn, headerIn}
-use Rattle.header.specs.declared.ChainEnd.{ChainEnd}
-use Rattle.header.specs.declared.DataHeader.{DataHeader}
-use Rattle.header.specs.declared.Header.{Header}
 use Rattle.header.specs.declared.Header.the-variants.{Data, Bid}
 use Rattle.header.proofs.RoundTrip.{built-good}
-use Rattle.unit.proofs.Units.{unit-length, unit-number, unit-header, unit-ru}
+use Rattle.unit.proofs.Units.{unit-length, unit-header, unit-ru}
 use Rattle.pacing.specs.Pacing.{nextPosition}
-use Rattle.control.specs.Tests.{agree}
-use Rattle.sides.specs.Shared.{nextNumber}
-use Rattle.logical_record.specs.Walk.{placeOr}
 use Rattle.sides.specs.Receiving.{recordsFit}
-use Rattle.end.specs.ReceiveUnit.{headerTaken, ruTaken}
-use Rattle.bools.proofs.Cases.{never}
-use Rattle.calls.proofs.UnitsByHeader.{Sort, brings, asks, answers, paces, sortOf, isAsking, taken-header, fixed-good}
-use Rattle.calls.specs.Calls.{Station}
-use Rattle.joined.specs.Histories.{bytesInSendBuffer}
+use Rattle.calls.proofs.UnitsByHeader.{brings, asks, answers, paces, fixed-good}
 use Rattle.joined.proofs.LineAutomaton.{Ran, ok, stuck, stuck≢ok, ok-is, Leads, leads-nowhere, leads-more, Parted, parted}
 
 -- ---- what is kept in step

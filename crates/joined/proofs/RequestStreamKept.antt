@@ -1,50 +1,23 @@
 -- Every call keeps the streams in step, as the sending end and as the receiving end.
 -- Assumes nothing.
-use Prim.Native.Nat.{ℕ, _+_, _-_, _≤_, _<_}
-use mathlib.Core.Path.{_≡_, refl, sym, ap, _∙_, subst}
-use mathlib.Core.Bool.{Bool, true, false, not, cond, _&&_, _||_}
-use mathlib.Core.List.{List, [], _∷_, _++_, append-nil}
-use native.Mathlib.Omega.{arith}
-use borrow.Author.Tests.{leb-false, le-leb, eqb-false}
-use lib.Dec.{eqb, leb}
-use lib.ListN.{length, take, drop, length-append, length-drop}
-use lib.Seq.{length-take-le}
-use Rattle.cells.specs.Cells.{front, written}
-use Rattle.logical_record.specs.Positions.{isWhole}
-use Rattle.logical_record.specs.Walk.{thenWalk, walk}
-use Rattle.logical_record.proofs.Walks.{same-position}
-use Rattle.logical_record.specs.declared.Position.{Position}
-use Rattle.unit.specs.Ru.{marks, ruGood}
-use Rattle.unit.specs.Unit.{unitOf, numberIn}
-use Rattle.header.specs.declared.Follows.{Follows}
-use Rattle.header.specs.declared.ChainEnd.the-variants.{Continues, Last}
-use Rattle.header.specs.declared.DataHeader.{DataHeader}
+use Rattle.joined.proofs.Words.{ℕ, _+_, _-_, _≤_, _<_, le-leb, eqb, leb, length, take, drop, length-drop, length-take-le, Bool, true, false, not}
+use Rattle.joined.proofs.Words.{cond, _&&_, _||_, List, [], _∷_, _++_, append-nil, _≡_, refl, sym, ap, _∙_, subst, arith, left, front, written}
+use Rattle.joined.proofs.Words.{isWhole, thenWalk, walk, placeOr, Position, same-position, Continues, Last, DataHeader, Follows, marks, ruGood}
+use Rattle.joined.proofs.Words.{unitOf, numberIn, paced, advanced, answered, isReset, bidAnswer, beginOf, closed, spilled, confirmationMade}
+use Rattle.joined.proofs.Words.{dataTaken, requestTaken, requestMade, nextNumber, bidMade, lastMade, bytesRead, headerTaken, ruTaken, dataJoined}
+use Rattle.joined.proofs.Words.{bidAnswered, creditRaised, dataHeader, heldBytes, bytesKept, bytesSpilled, gone, facts, Station, Reply, Verb}
+use Rattle.joined.proofs.Words.{allocate-cases, close-cases, confirmed-cases, pace-cases, read-cases, send-cases, spilledRu, take-cases, SendAsked}
+use Rattle.joined.proofs.Words.{spilledUnit, control-within, allocate-moves, mark-moves, Sort, sortOf, answer-sort, Lane, normal, acts, takes, Acted}
+use Rattle.joined.proofs.Words.{Took}
+use borrow.Author.Tests.{leb-false, eqb-false}
+use lib.ListN.{length-append}
 use Rattle.header.specs.declared.Header.the-variants.{Data, Confirmation, PacingResponse}
-use Rattle.pacing.specs.Pacing.{paced, advanced, answered}
-use Rattle.control.specs.Tests.{isReset}
-use Rattle.transitions.specs.Transitions.{beginOf, spilled, closed, confirmationMade, dataTaken, bidAnswer}
-use Rattle.sides.specs.Shared.{nextNumber}
-use Rattle.sides.specs.Sending.{requestMade}
-use Rattle.sides.specs.Receiving.{requestTaken}
-use Rattle.end.specs.Requests.{dataHeader}
-use Rattle.end.specs.Allocate.{bidMade}
-use Rattle.logical_record.specs.Walk.{placeOr}
 use Rattle.sides.specs.Sending.{keeps}
-use Rattle.end.specs.SendData.{heldBytes, gone, bytesKept, bytesSpilled}
-use Rattle.end.specs.Close.{nothingGoes, lastMade}
-use Rattle.end.specs.ReceiveUnit.{headerTaken, ruTaken, dataJoined, bidAnswered, creditRaised}
-use Rattle.end.specs.Receive.{bytesRead}
-use Rattle.joined.specs.Joined.{Acted, Took}
-use Rattle.joined.specs.Ends.{Lane, normal, acts, takes}
-use Rattle.bools.proofs.Tests.{left}
-use Rattle.calls.proofs.CallCases.{CloseAsked, SendAsked, control-within, take-cases, allocate-cases, close-cases, confirmed-cases, pace-cases, read-cases, send-cases, spilledRu, spilledUnit}
-use Rattle.calls.specs.Calls.{Reply, Station, Verb}
+use Rattle.end.specs.Close.{nothingGoes}
+use Rattle.calls.proofs.CallCases.{CloseAsked}
 use Rattle.control.proofs.States.{reset-not-send}
-use Rattle.end.proofs.Within.{facts}
 use Rattle.joined.proofs.CallsOnLanes.{Laned, LanedTake}
 use Rattle.joined.proofs.Chains.{closed-in, begins-first}
-use Rattle.calls.proofs.ControlMoved.{allocate-moves, mark-moves}
-use Rattle.calls.proofs.UnitsByHeader.{Sort, sortOf, answer-sort}
 use Rattle.joined.proofs.BytesInOrder.{held-more, held-rest, spilled-parts}
 use Rattle.joined.proofs.RequestStream.{Outside, Inside, outsideOf, insideOf, Stream, holding, stream-keep, stream-data, stream-bid, stream-response, taken, stream-take}
 use Rattle.control.proofs.Within.{closed-outside-send}

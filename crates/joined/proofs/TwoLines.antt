@@ -1,16 +1,7 @@
 -- What two joined ends hold of each other: a state at each end, led on by the units that wait for it, until the two states fit.
 -- Assumes nothing.
-use Prim.Native.Nat.{ℕ}
-use mathlib.Core.Path.{_≡_, refl, sym, ap, _∙_, subst}
-use mathlib.Core.Bool.{Bool, true, cond}
-use mathlib.Core.List.{List, [], _∷_, _++_}
-use Rattle.unit.specs.Unit.{unitOf, numberIn}
-use Rattle.header.specs.declared.Header.{Header}
-use Rattle.unit.proofs.Units.{unit-number}
-use Rattle.control.specs.declared.Role.{Role}
-use Rattle.control.specs.declared.Role.the-variants.{FirstSpeaker, Bidder}
-use Rattle.end.specs.ReceiveUnit.{headerTaken}
-use Rattle.calls.proofs.UnitsByHeader.{taken-header}
+use Rattle.joined.proofs.Words.{ℕ, Bool, true, cond, List, [], _∷_, _++_, _≡_, refl, sym, ap, _∙_, subst, Header, unitOf, numberIn, unit-number}
+use Rattle.joined.proofs.Words.{Role, FirstSpeaker, Bidder, headerTaken, taken-header}
 use Rattle.joined.proofs.LineAutomaton.{Ran, ok, stuck, went, goes, Leads, leads-nowhere, leads-more, parted, leads-less, inert}
 
 -- the partner's role
