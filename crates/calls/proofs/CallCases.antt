@@ -386,29 +386,20 @@ took-kind P naming s u NegativeBidResponse n ru p = p
 took-kind P naming s u Confirmation n ru p = p
 took-kind P naming s u PacingResponse n ru p = p
 
--- every kind that is taken is accepted
-pub kind-accepted : (e : End) (h : Header) (n : ℕ) (ru : List ℕ) → kindTaken e h n ru .refusal ≡ 0
-unfolding dataJoined bidAnswered creditRaised
-kind-accepted e (Data d) n ru = refl
-kind-accepted e (Bid p) n ru = refl
-kind-accepted e PositiveBidResponse n ru = refl
-kind-accepted e NegativeBidResponse n ru = refl
-kind-accepted e Confirmation n ru = refl
-kind-accepted e PacingResponse n ru = refl
-
 -- no question that gives the number k is answered no
 abbrev pub passes : ℕ → List (Bool × ℕ) → Bool
 passes k [] = true
 passes k (q ∷ qs) = (not (eqb (q .1) k) || q .0) && passes k qs
 
--- none of the questions of a kind gives the number 5
-pub kind-passes-5 : (e : End) (h : Header) (n : ℕ) (ru : List ℕ) → passes 5 (kindQuestions e h n ru) ≡ true
-kind-passes-5 e (Data d) n ru = refl
-kind-passes-5 e (Bid p) n ru = refl
-kind-passes-5 e PositiveBidResponse n ru = refl
-kind-passes-5 e NegativeBidResponse n ru = refl
-kind-passes-5 e Confirmation n ru = refl
-kind-passes-5 e PacingResponse n ru = refl
+-- every kind that is taken is accepted, and none of its questions gives the number 5
+pub kind-accepted : (e : End) (h : Header) (n : ℕ) (ru : List ℕ) → (kindTaken e h n ru .refusal ≡ 0) × (passes 5 (kindQuestions e h n ru) ≡ true)
+unfolding dataJoined bidAnswered creditRaised
+kind-accepted e (Data d) n ru = (refl, refl)
+kind-accepted e (Bid p) n ru = (refl, refl)
+kind-accepted e PositiveBidResponse n ru = (refl, refl)
+kind-accepted e NegativeBidResponse n ru = (refl, refl)
+kind-accepted e Confirmation n ru = (refl, refl)
+kind-accepted e PacingResponse n ru = (refl, refl)
 
 -- what an accepted take has been asked before the unit's kind
 pub record TakeAsked (s : Station) (u : List ℕ) : Type 0 where
@@ -433,8 +424,9 @@ kind-cases P naming s u refuses takesIt =
     let q : ℕ = takeRefusal e u (length (s .inbox)) (length (s .unit)) in
     cases (λ (d : Decision). P (tookOf naming s u d (cond (eqb (d .refusal) 0) (kindJoined e (headerTaken u) (ruTaken u) (s .inbox)) (s .inbox)))) (eqb q 0)
     (λ y.
-    let both = pass-both (headQuestions e u (length (s .inbox)) (length (s .unit))) (kindQuestions e (headerTaken u) (numberIn u) (ruTaken u)) tt (eqb-true q 0 y) in
-    let t = yes (headQuestions e u (length (s .inbox)) (length (s .unit))) tt (both .0) in
+    let head = headQuestions e u (length (s .inbox)) (length (s .unit)) in
+    let both = pass-both head (kindQuestions e (headerTaken u) (numberIn u) (ruTaken u)) tt (eqb-true q 0 y) in
+    let t = yes head tt (both .0) in
     let asked : TakeAsked s u =
     record {
       inbox = eqb-true _ _ (left (inboxLent e (length (s .inbox))) (unitLent e (length (s .unit))) (t 0));

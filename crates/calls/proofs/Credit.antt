@@ -16,7 +16,8 @@ use Rattle.pacing.proofs.Windows.{request-costs, response-raises}
 -- ---- the units made and the credit left
 
 -- a request made costs 1, any other unit nothing
-pub request-made : (s : Station) (n : ℕ) (h : Header) (ru : List ℕ) → isAsking (sortOf h) ≡ true → recordGood (s .end) ≡ true → hasCredit (s .end .sending .window) ≡ true
+pub request-made : (s : Station) (n : ℕ) (h : Header) (ru : List ℕ) → isAsking (sortOf h) ≡ true
+    → recordGood (s .end) ≡ true → hasCredit (s .end .sending .window) ≡ true
     → requestsAmong (unitOf n h ru ∷ []) + credit (advanced (s .end .sending .window)) ≡ credit (s .end .sending .window)
 request-made s n h ru e g k =
     let w = s .end .sending .window in
@@ -36,6 +37,13 @@ none-made c = let z : 0 + c ≡ c = omega arith in z
 pub data-asks : (s : Station) (ends : ChainEnd) → isAsking (sortOf (dataHeader (s .end) ends)) ≡ true
 unfolding dataHeader
 data-asks s ends = refl
+
+-- a window that is added not at all, and once
+as-was : (c z : ℕ) → c ≡ c + z * 0
+as-was c z = omega arith
+
+pub once : (c z : ℕ) → c + z ≡ c + z * 1
+once c z = omega arith
 
 -- ---- calls that the end answers by itself
 
@@ -69,36 +77,19 @@ module _ (s : Station) where
   abbrev Opens : Verb → Called → Type 0
   Opens v m = openOf (m .end .end) ≡ openOf (s .end) + s .end .receiving .window .size * count (eqb (refusalIn (m .answer)) 0 && isPace v)
 
-  same : (b : Bool) → b ≡ false → openOf (s .end) ≡ openOf (s .end) + s .end .receiving .window .size * count b
-  same true e = absurd (let z : _≡_ {A = ℕ} 0 1 = cc in omega arith)
-  same false e = omega arith
-
-  no-rise : (q : ℕ) (b : Bool) → b ≡ false → openOf (s .end) ≡ openOf (s .end) + s .end .receiving .window .size * count (eqb q 0 && b)
-  no-rise q b e = same (eqb q 0 && b) (by (eqb q 0))
-    where
-      by : (x : Bool) → x && b ≡ false
-      by true = e
-      by false = refl
-
-  unpaced : (q : ℕ) (b : Bool) → eqb q 0 ≡ false → openOf (s .end) ≡ openOf (s .end) + s .end .receiving .window .size * count (eqb q 0 && b)
-  unpaced q b n = same (eqb q 0 && b) (ap (λ (x : Bool). x && b) n)
+  same : openOf (s .end) ≡ openOf (s .end) + s .end .receiving .window .size * 0
+  same = as-was (openOf (s .end)) (s .end .receiving .window .size)
 
   pace-opens : (v : Verb) → Opens v (called s v)
   unfolding called bidMade bytesKept bytesSpilled lastMade requestMade bytesRead markRead
-  pace-opens Verb.allocate =
-      allocate-cases (Opens Verb.allocate) s (λ q n. no-rise q false refl) (λ g a w. no-rise 0 false refl) (λ g a w k. no-rise 0 false refl)
-  pace-opens Verb.confirmed = confirmed-cases (Opens Verb.confirmed) s (λ q n. no-rise q false refl) (λ g a. no-rise 0 false refl)
+  pace-opens Verb.allocate = allocate-cases (Opens Verb.allocate) s (λ q n. rw n same) (λ g a w. same) (λ g a w k. same)
+  pace-opens Verb.confirmed = confirmed-cases (Opens Verb.confirmed) s (λ q n. rw n same) (λ g a. same)
   pace-opens Verb.pace =
-      pace-cases (Opens Verb.pace) s (λ q n. unpaced q true n)
-      (λ g a.
       let w = s .end .receiving .window in
-      response-raises w (left (w .pending) _ a) ∙ (let z : credit w + w .size ≡ credit w + w .size * 1 = omega arith in z))
-  pace-opens (Verb.sendData bytes) =
-      send-cases (Opens (Verb.sendData bytes)) s bytes (λ q n. no-rise q false refl) (λ a k. no-rise 0 false refl) (λ a k h. no-rise 0 false refl)
-  pace-opens (Verb.close f b) =
-      close-cases (Opens (Verb.close f b)) s f b (λ q n. no-rise q false refl) (λ a n. no-rise 0 false refl) (λ a n k. no-rise 0 false refl)
-  pace-opens (Verb.receive buffer) =
-      read-cases (Opens (Verb.receive buffer)) s buffer (λ q w n. no-rise q false refl) (λ a h. no-rise 0 false refl) (λ a h m. no-rise 0 false refl)
+      pace-cases (Opens Verb.pace) s (λ q n. rw n same) (λ g a. response-raises w (left (w .pending) _ a) ∙ once (credit w) (w .size))
+  pace-opens (Verb.sendData bytes) = send-cases (Opens (Verb.sendData bytes)) s bytes (λ q n. rw n same) (λ a k. same) (λ a k h. same)
+  pace-opens (Verb.close f b) = close-cases (Opens (Verb.close f b)) s f b (λ q n. rw n same) (λ a n. same) (λ a n k. same)
+  pace-opens (Verb.receive buffer) = read-cases (Opens (Verb.receive buffer)) s buffer (λ q w n. rw n same) (λ a h. same) (λ a h m. same)
 
 -- ---- takes
 
@@ -110,12 +101,6 @@ module _ (naming : List ℕ → ℕ) (s : Station) (u : List ℕ) where
   abbrev Lowers : Bool → Called → Type 0
   Lowers b t = openOf (t .end .end) + count (eqb (refusalIn (t .answer)) 0 && b) ≡ openOf (s .end)
 
-  as-was : (c z : ℕ) → c ≡ c + z * 0
-  as-was c z = omega arith
-
-  unmoved : (c : ℕ) → c + 0 ≡ c
-  unmoved c = omega arith
-
   response-raises-window : Raises (isPacingResponse u) (taken naming s u)
   unfolding dataJoined bidAnswered creditRaised
   response-raises-window =
@@ -123,13 +108,13 @@ module _ (naming : List ℕ → ℕ) (s : Station) (u : List ℕ) where
       let same = as-was (credit w) (w .size) in
       take-cases (Raises (isPacingResponse u)) naming s u (λ q x n. rw n same) (λ d a e k. rw (pacing-taken u (a .header), e) same)
       (λ p a e k m. rw (pacing-taken u (a .header), e) same) (λ c a e m. rw (pacing-taken u (a .header), e) same)
-      (λ a e k. rw (pacing-taken u (a .header), e) (response-raises w k ∙ (let y : credit w + w .size ≡ credit w + w .size * 1 = omega arith in y)))
+      (λ a e k. rw (pacing-taken u (a .header), e) (response-raises w k ∙ once (credit w) (w .size)))
 
   request-lowers-one : Lowers (isRequest u) (taken naming s u)
   unfolding dataJoined bidAnswered creditRaised requestTaken
   request-lowers-one =
       let w = s .end .receiving .window in
-      let same = unmoved (openOf (s .end)) in
+      let same : openOf (s .end) + 0 ≡ openOf (s .end) = omega arith in
       take-cases (Lowers (isRequest u)) naming s u (λ q x n. rw n same)
       (λ d a e k. rw (request-taken u (a .header), e) (request-costs w (facts (s .end) (a .good) .receiving .window) (k .request .credit)))
       (λ p a e k m. rw (request-taken u (a .header), e) (request-costs w (facts (s .end) (a .good) .receiving .window) (k .credit)))

@@ -170,7 +170,9 @@ good-takes naming s u b g =
     (λ p a w k m.
     good-from (bidAnswered e (numberIn u) .end) (m .keeps _ _ fits) o (request-taken r (r .held) (r .taken) (k .credit) (omega arith) (i .taken) i))
     (λ c a w m. control-kept s g c m)
-    (λ a w k. good-from (creditRaised e .end) fits (record { window = answered-good (e .sending .window) (o .window); max = o .max; held = o .held; given = o .given }) i)
+    (λ a w k.
+    good-from (creditRaised e .end) fits
+    (record { window = answered-good (e .sending .window) (o .window); max = o .max; held = o .held; given = o .given }) i)
 
 -- ---- openings
 

@@ -11,7 +11,7 @@ use Rattle.calls.proofs.Words.{Verb, called, taken, refusalIn}
 use Rattle.answers.specs.declared.Answer.{Answer}
 use Rattle.end.specs.Outcome.{nothing, lengthOut, accept, answerOf}
 use Rattle.bools.proofs.Tests.{never}
-use Rattle.calls.proofs.CallCases.{allocate-cases, close-cases, confirmed-cases, pace-cases, read-cases, send-cases, kind-cases, take-cases, kind-accepted, passes, kind-passes-5}
+use Rattle.calls.proofs.CallCases.{allocate-cases, close-cases, confirmed-cases, pace-cases, read-cases, send-cases, kind-cases, take-cases, kind-accepted, passes}
 use Rattle.calls.specs.Laws.{Refusals, questions, takeQuestions}
 
 -- an accepted call was not refused, and a refused one not accepted
@@ -63,7 +63,7 @@ number-is s (Verb.receive buffer) =
 pub take-number-is : (naming : List ℕ → ℕ) (s : Station) (u : List ℕ) → refusalIn (taken naming s u .answer) ≡ firstNo (takeQuestions s u)
 unfolding taken receiveUnit takeDecision takeRefusal
 take-number-is naming s u =
-    number-of (refusedNaming (naming u)) (λ q. refl) _ (s .end) _ (kind-accepted (s .end) (headerTaken u) (numberIn u) (ruTaken u))
+    number-of (refusedNaming (naming u)) (λ q. refl) _ (s .end) _ (kind-accepted (s .end) (headerTaken u) (numberIn u) (ruTaken u) .0)
 
 -- ---- 5 is no number of a call whose record is within the section
 
@@ -93,7 +93,7 @@ module _ (s : Station) (g : recordGood (s .end) ≡ true) where
   pub take-never-5 : (naming : List ℕ → ℕ) (u : List ℕ) → eqb (refusalIn (taken naming s u .answer)) 5 ≡ false
   take-never-5 naming u =
       ap (λ (q : ℕ). eqb q 5) (take-number-is naming s u)
-      ∙ not-first (takeQuestions s u) 5 refl (join (recordGood (s .end)) _ g (kind-passes-5 (s .end) (headerTaken u) (numberIn u) (ruTaken u)))
+      ∙ not-first (takeQuestions s u) 5 refl (join (recordGood (s .end)) _ g (kind-accepted (s .end) (headerTaken u) (numberIn u) (ruTaken u) .1))
 
 -- ---- calls that the end answers by itself
 

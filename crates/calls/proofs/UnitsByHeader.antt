@@ -1,7 +1,7 @@
--- What a unit is, by its header alone: the sort of a unit, what is counted of it, and its bytes. Every proof above that asks no more goes by the sort, and a new
--- kind of header is a line here.
+-- What a unit is, by its header alone: the sort of a unit, what is counted of it, and its bytes. Every proof above that asks no more goes by the sort, so that
+-- a new kind of header is a line of each list here.
 -- Assumes nothing.
-use Rattle.calls.proofs.Words.{ℕ, _<_, _+_, _≤_, eqb, length, Bool, true, false, cond, not, _&&_, List, [], _∷_, _≡_, refl, sym, ap, _∙_, arith}
+use Rattle.calls.proofs.Words.{ℕ, _<_, _+_, _≤_, eqb, length, Bool, true, false, cond, not, List, [], _∷_, _≡_, refl, sym, ap, _∙_, arith}
 use Rattle.calls.proofs.Words.{cases, confirms, headerGood, DataHeader, Header, bidRu, fixedRu, ruGood, unitOf, headerIn, Control, bidAnswer}
 use Rattle.calls.proofs.Words.{ruTaken, headerTaken, AllBytes, count, isPacingResponse, isRequest, requestsAmong}
 use Prim.Native.Nat.{_/_, _%_}
@@ -78,7 +78,9 @@ taken-header n h ru = ap fieldsOf (unit-header n h ru) ∙ built-fields h
 
 by-kind : (a b c d e : Bool) (h : HeaderBytes) (p : Bool) (ru : List ℕ)
     → cond a ru []
-    ≡ dataOf (sortOf (cond a (Data (dataFields h)) (cond b (Bid p) (cond c (cond d PacingResponse Confirmation) (cond e PositiveBidResponse NegativeBidResponse))))) ru
+    ≡ dataOf
+    (sortOf (cond a (Data (dataFields h)) (cond b (Bid p) (cond c (cond d PacingResponse Confirmation) (cond e PositiveBidResponse NegativeBidResponse)))))
+    ru
 by-kind true b c d e h p ru = refl
 by-kind false true c d e h p ru = refl
 by-kind false false true true e h p ru = refl
@@ -97,47 +99,36 @@ data-unit n h ru = data-ru (unitOf n h ru) ∙ rw (taken-header n h ru, unit-ru 
 
 -- ---- requests and pacing responses
 
--- what bytes 0 of a header say
-first-byte : (a b : Bool) → not (on 0x80 (bit a FIRST + bit b LAST)) ≡ true
-first-byte true true = refl
-first-byte true false = refl
-first-byte false true = refl
-first-byte false false = refl
+-- byte 0 of a data header
+data-byte : (a b : Bool) → (not (on 0x80 (bit a FIRST + bit b LAST)) ≡ true) × (eqb (bit a FIRST + bit b LAST) 0x83 ≡ false)
+data-byte true true = (refl, refl)
+data-byte true false = (refl, refl)
+data-byte false true = (refl, refl)
+data-byte false false = (refl, refl)
 
-asks-byte : (h : Header) → not (on 0x80 (headerBytes h .b0)) ≡ isAsking (sortOf h)
+-- what the bytes of a header say
+header-says : (h : Header)
+    → (not (on 0x80 (headerBytes h .b0)) ≡ isAsking (sortOf h)) × (sameHeader (headerBytes h) (bytes 0x83 0x01 0x00) ≡ isPacing (sortOf h))
 unfolding headerBytes
-asks-byte (Data d) = first-byte (isFirst (d .begins)) (isLast (d .ends))
-asks-byte (Bid p) = refl
-asks-byte PositiveBidResponse = refl
-asks-byte NegativeBidResponse = refl
-asks-byte Confirmation = refl
-asks-byte PacingResponse = refl
+header-says (Data d) =
+    let b = data-byte (isFirst (d .begins)) (isLast (d .ends)) in
+    (b .0, rw (b .1))
+header-says (Bid p) = (refl, refl)
+header-says PositiveBidResponse = (refl, refl)
+header-says NegativeBidResponse = (refl, refl)
+header-says Confirmation = (refl, refl)
+header-says PacingResponse = (refl, refl)
 
 pub requests-unit : (n : ℕ) (h : Header) (ru : List ℕ) → requestsAmong (unitOf n h ru ∷ []) ≡ count (isAsking (sortOf h)) + 0
 unfolding requestsAmong
-requests-unit n h ru = ap (λ (x : HeaderBytes). count (not (on 0x80 (x .b0))) + 0) (unit-header n h ru) ∙ rw (asks-byte h)
+requests-unit n h ru = ap (λ (x : HeaderBytes). count (not (on 0x80 (x .b0))) + 0) (unit-header n h ru) ∙ rw (header-says h .0)
 
 pub request-taken : (u : List ℕ) → headerGood (headerIn u) ≡ true → isRequest u ≡ isAsking (sortOf (headerTaken u))
-request-taken u g = ap (λ (x : HeaderBytes). not (on 0x80 (x .b0))) (sym (read-bytes (headerIn u) g)) ∙ asks-byte (headerTaken u)
-
-data-no-response : (a b : Bool) (x : Bool) → eqb (bit a FIRST + bit b LAST) 0x83 && x ≡ false
-data-no-response true true x = refl
-data-no-response true false x = refl
-data-no-response false true x = refl
-data-no-response false false x = refl
-
-responds : (h : Header) → sameHeader (headerBytes h) (bytes 0x83 0x01 0x00) ≡ isPacing (sortOf h)
-unfolding headerBytes
-responds (Data d) = data-no-response (isFirst (d .begins)) (isLast (d .ends)) _
-responds (Bid p) = refl
-responds PositiveBidResponse = refl
-responds NegativeBidResponse = refl
-responds Confirmation = refl
-responds PacingResponse = refl
+request-taken u g = ap (λ (x : HeaderBytes). not (on 0x80 (x .b0))) (sym (read-bytes (headerIn u) g)) ∙ header-says (headerTaken u) .0
 
 pub pacing-taken : (u : List ℕ) → headerGood (headerIn u) ≡ true → isPacingResponse u ≡ isPacing (sortOf (headerTaken u))
 pacing-taken u g =
-    ap (λ (x : HeaderBytes). sameHeader x (bytes 0x83 0x01 0x00)) (sym (read-bytes (headerIn u) g)) ∙ responds (headerTaken u)
+    ap (λ (x : HeaderBytes). sameHeader x (bytes 0x83 0x01 0x00)) (sym (read-bytes (headerIn u) g)) ∙ header-says (headerTaken u) .1
 
 -- ---- the bytes of a unit, and the RUs that are always the same
 
@@ -177,21 +168,12 @@ unit-bytes n h ru l f =
     cons-bytes (n / 256) (n % 256 ∷ b0 ∷ b1 ∷ b2 ∷ ru) (omega arith)
     (cons-bytes (n % 256) (b0 ∷ b1 ∷ b2 ∷ ru) (omega arith) (cons-bytes b0 (b1 ∷ b2 ∷ ru) (s .0) (cons-bytes b1 (b2 ∷ ru) (s .1) (cons-bytes b2 ru (s .2) f))))
 
--- the RU of a header that is always the same
-pub fixed-ru : (h : Header) → (length (fixedRu h) ≤ 1024) × AllBytes (fixedRu h)
-fixed-ru (Data d) = (omega arith, are-bytes [] refl)
-fixed-ru (Bid p) = (omega arith, are-bytes bidRu refl)
-fixed-ru PositiveBidResponse = (omega arith, are-bytes positiveRu refl)
-fixed-ru NegativeBidResponse = (omega arith, are-bytes negativeRu refl)
-fixed-ru Confirmation = (omega arith, are-bytes [] refl)
-fixed-ru PacingResponse = (omega arith, are-bytes [] refl)
-
--- 22: the RU of a response is good whatever the maximum
-pub fixed-good : (m : ℕ) (h : Header) → isAsking (sortOf h) ≡ false → ruGood m h (fixedRu h) ≡ true
+-- the RU of a header that is always the same; that of a response is good whatever the maximum (22)
+pub fixed-ru : (h : Header) → (length (fixedRu h) ≤ 1024) × AllBytes (fixedRu h) × ((m : ℕ) → isAsking (sortOf h) ≡ false → ruGood m h (fixedRu h) ≡ true)
 unfolding ruGood sameBytes
-fixed-good m (Data d) e = cc
-fixed-good m (Bid p) e = refl
-fixed-good m PositiveBidResponse e = refl
-fixed-good m NegativeBidResponse e = refl
-fixed-good m Confirmation e = refl
-fixed-good m PacingResponse e = refl
+fixed-ru (Data d) = (omega arith, are-bytes [] refl, λ m e. cc)
+fixed-ru (Bid p) = (omega arith, are-bytes bidRu refl, λ m e. refl)
+fixed-ru PositiveBidResponse = (omega arith, are-bytes positiveRu refl, λ m e. refl)
+fixed-ru NegativeBidResponse = (omega arith, are-bytes negativeRu refl, λ m e. refl)
+fixed-ru Confirmation = (omega arith, are-bytes [] refl, λ m e. refl)
+fixed-ru PacingResponse = (omega arith, are-bytes [] refl, λ m e. refl)

@@ -1,6 +1,6 @@
 -- The claim over every list of calls, composed from its parts.
 -- Assumes nothing.
-use Rattle.joined.proofs.Words.{ℕ, _+_, _*_, length, List, [], _∷_, _++_, _≡_, refl, sym, ap, _∙_, subst, arith, thenWalk, credit, Role}
+use Rattle.joined.proofs.Words.{ℕ, length, List, [], _∷_, _++_, _≡_, refl, sym, ap, _∙_, subst, arith, thenWalk, credit, Role}
 use Rattle.joined.proofs.Words.{FirstSpeaker, Bidder, send-is, Session, freshEnd, Station, Reply, Verb, opened-is, Pair, Lane, normal, acts, takes}
 use Rattle.joined.proofs.Words.{sameLane, Buffers, OpeningAccepted, openedWith, openedBoth, bytesInSendBuffer, Log, bytesAccepted, bytesOnLine}
 use Rattle.joined.proofs.Words.{bytesInInbox, requestsMade, pacingResponsesTaken, breaches, badReads, CompleteIsRight, NoneCrosses, At, Lines}
@@ -26,46 +26,38 @@ use Rattle.joined.proofs.OneEnd.{valuesOf, Local}
 use Rattle.joined.proofs.OneEndKept.{local-acts, local-takes}
 use Rattle.joined.proofs.NoBreach.{no-breach}
 
+-- one way, from e to f: numbers, chains and places, and the bytes
+record OneWay (e f : Station) (xs ys : Log) (line : List (List ℕ)) : Type 0 where
+  stream : Stream (outsideOf e) (insideOf f) line
+  carried : Carried (bytesAccepted xs) (bytesInSendBuffer e) line (bytesRead ys) (bytesInInbox f)
+
+-- an end by itself, with the window v
+record Here (v : ℕ) (e : Station) (xs : Log) : Type 0 where
+  local : Local (valuesOf e) xs
+  size : sizeOf e ≡ v
+
 -- What every call keeps. e has the role r; v is the window from e to f, and w that from f to e; `line` waits for f, `back` for e.
 record Inv (r : Role) (v w : ℕ) (e : Station) (xs : Log) (line back : List (List ℕ)) (f : Station) (ys : Log) : Type 0 where
   order : Order r (e .end) (f .end) line back
-  out : Stream (outsideOf e) (insideOf f) line
-  into : Stream (outsideOf f) (insideOf e) back
   paces : PacesOf e f line back
-  bytes-out : Carried (bytesAccepted xs) (bytesInSendBuffer e) line (bytesRead ys) (bytesInInbox f)
-  bytes-in : Carried (bytesAccepted ys) (bytesInSendBuffer f) back (bytesRead xs) (bytesInInbox e)
-  local-e : Local (valuesOf e) xs
-  local-f : Local (valuesOf f) ys
-  size-e : sizeOf e ≡ v
-  size-f : sizeOf f ≡ w
+  out : OneWay e f xs ys line
+  into : OneWay f e ys xs back
+  here : Here v e xs
+  there : Here w f ys
 
 -- the same of the lines: what it says is of the normal lane
 abbrev Held : Role → ℕ → ℕ → Fact Lane Station Verb Reply (List ℕ)
 Held r v w e xs line back f ys = Inv r v w e xs (line normal) (back normal) f ys
 
-flipped :
-    {r : Role} {v w : ℕ} {e f : Station} {xs ys : Log} {line back : List (List ℕ)}
-    → Inv r v w e xs line back f ys
-    → Inv (other r) w v f ys back line e xs
-flipped i =
-    record {
-      order = order-flip (i .order);
-      out = i .into;
-      into = i .out;
-      paces = paces-flip (i .paces);
-      bytes-out = i .bytes-in;
-      bytes-in = i .bytes-out;
-      local-e = i .local-f;
-      local-f = i .local-e;
-      size-e = i .size-f;
-      size-f = i .size-e;
-    }
-
+-- seen from the other end too
 both :
     {r : Role} {v w : ℕ} {e f : Station} {xs ys : Log} {line back : List (List ℕ)}
     → Inv r v w e xs line back f ys
     → Inv r v w e xs line back f ys × Inv (other r) w v f ys back line e xs
-both i = (i, flipped i)
+both i = (
+  i,
+  record { order = order-flip (i .order); paces = paces-flip (i .paces); out = i .into; into = i .out; here = i .there; there = i .here },
+)
 
 size-acted : (e : Station) (c : Verb) → sizeOf (acts e c .end) ≡ sizeOf e
 unfolding acts
@@ -86,15 +78,19 @@ module _ (naming : List ℕ → ℕ) (r : Role) (v w : ℕ) where
       both
       (record {
         order = order-acts r e (f .end) us vs (i .order) c;
-        out = stream-acts e (insideOf f) us (i .out) c;
-        into = stream-in-acts e (outsideOf f) vs (i .into) c;
         paces = paces-acts e f us vs (i .paces) c;
-        bytes-out = bytes-acts e xs us (bytesRead ys) (bytesInInbox f) (i .bytes-out) c;
-        bytes-in = bytes-in-acts e xs (bytesAccepted ys) (bytesInSendBuffer f) vs (i .bytes-in) c;
-        local-e = local-acts e xs (i .local-e) c;
-        local-f = i .local-f;
-        size-e = size-acted e c ∙ i .size-e;
-        size-f = i .size-f;
+        out =
+            record {
+              stream = stream-acts e (insideOf f) us (i .out .stream) c;
+              carried = bytes-acts e xs us (bytesRead ys) (bytesInInbox f) (i .out .carried) c;
+            };
+        into =
+            record {
+              stream = stream-in-acts e (outsideOf f) vs (i .into .stream) c;
+              carried = bytes-in-acts e xs (bytesAccepted ys) (bytesInSendBuffer f) vs (i .into .carried) c;
+            };
+        here = record { local = local-acts e xs (i .here .local) c; size = size-acted e c ∙ i .here .size };
+        there = i .there;
       })
 
   -- u waits on the normal lane, before vs; us wait for the other end
@@ -107,15 +103,23 @@ module _ (naming : List ℕ → ℕ) (r : Role) (v w : ℕ) where
       both
       (record {
         order = order-takes r e (f .end) u us vs (i .order) naming;
-        out = stream-takes e (insideOf f) us (i .out) naming u;
-        into = stream-in-takes e (outsideOf f) vs u (i .into) naming;
         paces = paces-takes e f us vs u (i .paces) naming;
-        bytes-out = bytes-takes e xs us (bytesRead ys) (bytesInInbox f) (i .bytes-out) naming u;
-        bytes-in = bytes-in-takes e xs (bytesAccepted ys) (bytesInSendBuffer f) vs u (i .bytes-in) naming;
-        local-e = local-takes e xs u (i .local-e) naming (no-breach r e f (outsideOf f) u us vs (i .order) (i .into) (i .paces));
-        local-f = i .local-f;
-        size-e = size-took e naming u ∙ i .size-e;
-        size-f = i .size-f;
+        out =
+            record {
+              stream = stream-takes e (insideOf f) us (i .out .stream) naming u;
+              carried = bytes-takes e xs us (bytesRead ys) (bytesInInbox f) (i .out .carried) naming u;
+            };
+        into =
+            record {
+              stream = stream-in-takes e (outsideOf f) vs u (i .into .stream) naming;
+              carried = bytes-in-takes e xs (bytesAccepted ys) (bytesInSendBuffer f) vs u (i .into .carried) naming;
+            };
+        here =
+            record {
+              local = local-takes e xs u (i .here .local) naming (no-breach r e f (outsideOf f) u us vs (i .order) (i .into .stream) (i .paces));
+              size = size-took e naming u ∙ i .here .size;
+            };
+        there = i .there;
       })
 
   -- a take, by its lane
@@ -177,15 +181,19 @@ fresh-kept s t b c e f g h =
       order =
           order-fresh (s .outwindow) (s .outmax) (s .inwindow) (s .inmax) (length (b .inbox)) (t .outwindow) (t .outmax) (t .inwindow) (t .inmax)
           (length (c .inbox));
-      out = stream-fresh (outsideOf (station FirstSpeaker s b)) (insideOf (station Bidder t c)) e g refl refl;
-      into = stream-fresh (outsideOf (station Bidder t c)) (insideOf (station FirstSpeaker s b)) f h refl refl;
       paces = paces-fresh;
-      bytes-out = carried-fresh FirstSpeaker Bidder s t b c;
-      bytes-in = carried-fresh Bidder FirstSpeaker t s c b;
-      local-e = local-fresh FirstSpeaker s b;
-      local-f = local-fresh Bidder t c;
-      size-e = refl;
-      size-f = refl;
+      out =
+          record {
+            stream = stream-fresh (outsideOf (station FirstSpeaker s b)) (insideOf (station Bidder t c)) e g refl refl;
+            carried = carried-fresh FirstSpeaker Bidder s t b c;
+          };
+      into =
+          record {
+            stream = stream-fresh (outsideOf (station Bidder t c)) (insideOf (station FirstSpeaker s b)) f h refl refl;
+            carried = carried-fresh Bidder FirstSpeaker t s c b;
+          };
+      here = record { local = local-fresh FirstSpeaker s b; size = refl };
+      there = record { local = local-fresh Bidder t c; size = refl };
     }
 
 -- ---- every list
@@ -210,21 +218,18 @@ every-list naming s t b c l j =
 
 -- ---- the claim
 
-counted-as : (requests credits size w n : ℕ) → size ≡ w → requests + credits ≡ size * (1 + n) → requests + credits ≡ w * (1 + n)
-counted-as requests credits size w n e h = h ∙ ap (λ (k : ℕ). k * (1 + n)) e
-
 joint-of : (s t : Session) (p : Pair)
     → Held FirstSpeaker (s .outwindow) (t .outwindow) (p .one .end) (p .one .log) (p .two .waiting) (p .one .waiting) (p .two .end) (p .two .log)
     → Joint s t p
 joint-of s t p i =
     record {
       not-both = λ x y. not-both (i .order) (send-is (p .one .end .end .control .state) x) (send-is (p .two .end .end .control .state) y);
-      no-breach-one = i .local-e .no-breach;
-      no-breach-two = i .local-f .no-breach;
-      bytes-out = i .bytes-out .bytes;
-      bytes-back = i .bytes-in .bytes;
-      credit-one = counted-as _ _ _ _ _ (i .size-e) (i .local-e .counted);
-      credit-two = counted-as _ _ _ _ _ (i .size-f) (i .local-f .counted);
+      no-breach-one = i .here .local .no-breach;
+      no-breach-two = i .there .local .no-breach;
+      bytes-out = i .out .carried .bytes;
+      bytes-back = i .into .carried .bytes;
+      credit-one = rw (← i .here .size) (i .here .local .counted);
+      credit-two = rw (← i .there .size) (i .there .local .counted);
     }
 
 pub proved : Claim
@@ -249,8 +254,8 @@ the-records naming s t b c l j =
     let p = after naming s t b c l in
     let i = every-list naming s t b c l j in
     record {
-      out = arrive (p .one) (p .two) (i .bytes-out .bytes);
-      back = arrive (p .two) (p .one) (i .bytes-in .bytes);
-      one = reads-of (p .one) (i .local-e);
-      two = reads-of (p .two) (i .local-f);
+      out = arrive (p .one) (p .two) (i .out .carried .bytes);
+      back = arrive (p .two) (p .one) (i .into .carried .bytes);
+      one = reads-of (p .one) (i .here .local);
+      two = reads-of (p .two) (i .there .local);
     }

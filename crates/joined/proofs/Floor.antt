@@ -152,7 +152,8 @@ pub quiet-on :
     (r : Role) (x x′ : Floor) → quiet r x ≡ true → (h : Header) (n : ℕ) (t : Floor)
     → floorOn r x h n ≡ ok t → (t ≡ x) × (floorOn r x′ h n ≡ ok x′)
 quiet-on r x x′ q (Data d) n t e =
-    quiet-data (isReceiveFloor x) (isResetFloor x && isBidder r) (isWaiting x) (beginsBracket (d .begins)) q (went _ (afterMarkFloor (markOf (d .ends)) n) t e .0)
+    quiet-data (isReceiveFloor x) (isResetFloor x && isBidder r) (isWaiting x) (beginsBracket (d .begins)) q
+    (went _ (afterMarkFloor (markOf (d .ends)) n) t e .0)
 quiet-on r x x′ q (Bid p) n t e = (sym (ok-is e), refl)
 quiet-on r x x′ q PositiveBidResponse n t e =
     quiet-data (isReceiveFloor x) (isResetFloor x && isBidder r) (isWaiting x) true q (went (grantMoves r x) send t e .0)

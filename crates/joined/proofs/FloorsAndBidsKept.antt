@@ -252,7 +252,8 @@ module _ (r : Role) (s : Station) (f : End) (u : List ℕ) (line back : List (Li
       ap (λ (b : Bool). floorAt (afterLast (c .follows)) b (c .follows) (c .mark) (e .owed) (e .sending .number)) (due-outside e (a .good) (rw p))
       ∙ last-floor (c .follows) (c .follows) (c .mark) (e .owed) (e .sending .number) (no-mark e (a .good) (rw p)) in
       rw append-nil
-      (order-with refl (led-as (ap confirmedFloor (floor-in e ConfirmAwaited p) ∙ sym after) (confirmation-moves i h .1)) (led-took (bidOf e) h refl (i .bids)) i)
+      (order-with refl (led-as (ap confirmedFloor (floor-in e ConfirmAwaited p) ∙ sym after) (confirmation-moves i h .1))
+      (led-took (bidOf e) h refl (i .bids)) i)
   took-kind PacingResponse h a =
       rw append-nil (order-with refl (led-took (floorOf (s .end)) h refl (i .floors)) (led-took (bidOf (s .end)) h refl (i .bids)) i)
 

@@ -12,7 +12,6 @@ pub mod Floor
 pub mod Bids
 pub mod FloorsAndBids
 pub mod FloorsAndBidsKept
-pub mod Chains
 pub mod RequestStreamKept
 pub mod PacingFlagsKept
 pub mod BytesInOrderKept

@@ -14,7 +14,7 @@ use Rattle.joined.proofs.FloorsAndBids.{Order, order-fits-data, order-f
 use Rattle.calls.proofs.ControlMoved.{agrees}
 use Rattle.joined.proofs.PacingFlags.{paces-owed, paces-unanswered}
 use Rattle.joined.proofs.PacingFlagsKept.{PacesOf}
-use Rattle.joined.proofs.RequestStream.{Outside, insideOf, booksIn, fits, Stream, Heads, stream-take}
+use Rattle.joined.proofs.RequestStream.{Outside, insideOf, fits, Stream, Heads, stream-take}
 
 module _ (r : Role) (s f : Station) (o : Outside) (u : List ℕ) (line back : List (List ℕ))
     (order : Order r (s .end) (f .end) line (u ∷ back))
@@ -31,7 +31,7 @@ module _ (r : Role) (s f : Station) (o : Outside) (u : List ℕ) (line back : Li
       join (hasCredit w) (agree b (paced w)) (credit-there w (facts (s .end) g .receiving .window) (λ p. paces-owed flags (e ∙ agrees b (paced w) a ∙ p))) a
 
   kind-yes : (h : Header) → headerTaken u ≡ h → recordGood (s .end) ≡ true → isNothing (s .end .control .mark) ≡ true
-      → fits (s .end .receiving .max) (booksIn (insideOf s)) h (numberIn u) (ruTaken u) ≡ true
+      → fits (s .end .receiving .max) (insideOf s .books) h (numberIn u) (ruTaken u) ≡ true
       → firstNo (kindQuestions (s .end) h (numberIn u) (ruTaken u)) ≡ 0
   kind-yes (Data d) e g m t =
       let r = s .end .receiving in

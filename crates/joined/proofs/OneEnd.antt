@@ -126,7 +126,8 @@ pub local-read :
     → w .credit ≡ v .credit
     → Local w
     (acted (Verb.receive asked)
-    (record { answer = record { answer = accepted 0; copied = k; complete = isBetween (w .inner .read); mark = mark.Nothing }; buffer = buffer }) (onNormal []) ∷ xs)
+    (record { answer = record { answer = accepted 0; copied = k; complete = isBetween (w .inner .read); mark = mark.Nothing }; buffer = buffer })
+    (onNormal []) ∷ xs)
 unfolding bytesAccepted bytesRead requestsAmong requestsMade pacingResponsesTaken CompleteIsRight NoneCrosses badReads breaches
 local-read {v} {xs} asked k first rest buffer w l some f i r within b d g t z c =
     let p = v .inner .read in
@@ -177,7 +178,9 @@ local-took {v} {xs} lane u a us b w l p q g h r i z c =
       whole = h;
       read = rw r (l .read);
       inbox = i;
-      counted = rw (z, p) (counts b (requestsAmong (us normal)) (requestsMade xs) (w .credit) (v .credit) (v .inner .size) (pacingResponsesTaken xs) (l .counted) c);
+      counted =
+          rw (z, p)
+          (counts b (requestsAmong (us normal)) (requestsMade xs) (w .credit) (v .credit) (v .inner .size) (pacingResponsesTaken xs) (l .counted) c);
       complete = (refl, l .complete);
       apart = l .apart;
       never-8 = l .never-8;

@@ -23,7 +23,7 @@ use Rattle.end.specs.Receive.{someHeld, readQuestions, readRefusal, markRead}
 use Rattle.reading.specs.Reading.{restGood}
 use Rattle.joined.specs.Histories as H
 use Rattle.bools.proofs.Tests.{never}
-use Rattle.calls.proofs.Credit.{data-asks, none-made, other-made, request-made}
+use Rattle.calls.proofs.Credit.{data-asks, none-made, once, other-made, request-made}
 use Rattle.calls.proofs.Refusals.{not-first}
 use Rattle.calls.proofs.ControlMoved.{confirmed-moves}
 use Rattle.calls.proofs.UnitsByHeader.{pacing-taken}
@@ -142,7 +142,8 @@ module _ (s : Station) (xs : Log) (l : Local (valuesOf s) xs) where
       (at-place (s .end .receiving .read) (t .middle) (walk (s .end .receiving .read) (take k (s .inbox))) (t .first))
       (inside buffer a) (moved-left s k (inbox-room s (a .inbox) (a .good))) refl refl refl refl refl)
       (λ a h m.
-      local-act (Verb.receive buffer) (accepted 0) (s .end .control .mark) buffer (onNormal []) _ l here (λ n. l .whole (mark-moves (s .end .control) (control-within (s .end) (a .good)) m .send n))
+      local-act (Verb.receive buffer) (accepted 0) (s .end .control .mark) buffer (onNormal []) _ l here
+      (λ n. l .whole (mark-moves (s .end .control) (control-within (s .end) (a .good)) m .send n))
       refl
       (none-made (credit (s .end .sending .window))) refl)
 
@@ -151,7 +152,8 @@ module _ (s : Station) (xs : Log) (l : Local (valuesOf s) xs) where
   local-acts Verb.allocate =
       allocate-cases (Laned (After Verb.allocate)) s (refuses Verb.allocate (λ q. refl))
       (λ g a w.
-      local-act Verb.allocate (accepted 0) mark.Nothing [] (onNormal []) _ l here (λ n. l .whole (allocate-moves (s .end .control) (control-within (s .end) g) a .send n))
+      local-act Verb.allocate (accepted 0) mark.Nothing [] (onNormal []) _ l here
+      (λ n. l .whole (allocate-moves (s .end .control) (control-within (s .end) g) a .send n))
       refl (none-made (credit (s .end .sending .window))) refl)
       (λ g a w k.
       local-act Verb.allocate (accepted 10) mark.Nothing [] (onNormal (unitOf (bidNumber (s .end)) (Bid (paced (s .end .sending .window))) bidRu ∷ [])) _ l here
@@ -211,11 +213,13 @@ module _ (s : Station) (xs : Log) (u : List ℕ) (l : Local (valuesOf s) xs) whe
       (ap (walk (r .read)) (held-more (r .held) ru (s .inbox) (inbox-room s (a .inbox) (a .good)))
       ∙ walk-append (r .read) (bytesInInbox s) ru ∙ ap (λ (x : Walked). thenWalk x ru) (l .inbox) ∙ k .walked) refl same)
       (λ p a e k m.
-      local-took normal u (accepted (RU-START + length (fixedRu h))) (onNormal (unitOf (numberIn u) h (fixedRu h) ∷ [])) false _ l (counts-pacing _ e a) refl refl
+      local-took normal u (accepted (RU-START + length (fixedRu h))) (onNormal (unitOf (numberIn u) h (fixedRu h) ∷ [])) false _ l
+      (counts-pacing _ e a) refl refl
       (λ n. l .whole (m .send n)) refl (l .inbox) refl
       (other-made (numberIn u) (credit w) h (fixedRu h) (ap isAsking (answer-sort (s .end .control)))
       ∙ (let y : credit w ≡ credit w + w .size * 0 = omega arith in y)))
-      (λ c a e m. local-took normal u (accepted 0) (onNormal []) false _ l (counts-pacing _ e a) refl refl (λ n. l .whole (m .send n)) refl (l .inbox) refl same)
+      (λ c a e m.
+      local-took normal u (accepted 0) (onNormal []) false _ l (counts-pacing _ e a) refl refl (λ n. l .whole (m .send n)) refl (l .inbox) refl same)
       (λ a e k.
       local-took normal u (accepted 0) (onNormal []) true _ l (counts-pacing _ e a) refl refl (l .whole) refl (l .inbox) refl
-      (none-made (credit (answered w)) ∙ response-raises w k ∙ (let y : credit w + w .size ≡ credit w + w .size * 1 = omega arith in y)))
+      (none-made (credit (answered w)) ∙ response-raises w k ∙ once (credit w) (w .size)))

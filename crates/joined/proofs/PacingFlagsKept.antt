@@ -74,7 +74,8 @@ module _ (s f : Station) (line back : List (List ℕ)) (u : List ℕ) (p : Paces
   unfolding takes dataJoined bidAnswered creditRaised requestTaken advanced answered
   paces-takes naming =
       let h = bidAnswer (s .end .control) in
+      let k = answer-sort (s .end .control) in
       take-cases (LanedTake Left) naming s u (λ q w n. rw (n, append-nil) p) (λ d a e k. rw append-nil (took _ _ e (k .request .bit)))
-      (λ b a e k m. paces-past (numberIn u) h (fixedRu h) (ap isPacing (answer-sort (s .end .control))) (ap bitOf (answer-sort (s .end .control))) (took _ _ e (k .bit)))
+      (λ b a e q m. paces-past (numberIn u) h (fixedRu h) (ap isPacing k) (ap bitOf k) (took _ _ e (q .bit)))
       (λ c a e m. rw append-nil (rw (or-false (owedOf s)) at (took _ _ e refl)))
       (λ a e k. rw append-nil (rw (or-false (owedOf s), k) at (took _ _ e refl)))

@@ -14,7 +14,7 @@ use Rattle.header.proofs.RoundTrip.{built-good}
 use Rattle.unit.proofs.Units.{unit-length, unit-header, unit-ru}
 use Rattle.pacing.specs.Pacing.{nextPosition}
 use Rattle.sides.specs.Receiving.{recordsFit}
-use Rattle.calls.proofs.UnitsByHeader.{brings, asks, answers, paces, fixed-good}
+use Rattle.calls.proofs.UnitsByHeader.{brings, asks, answers, paces, fixed-ru}
 use Rattle.joined.proofs.LineAutomaton.{Ran, ok, stuck, stuck≢ok, ok-is, Leads, leads-nowhere, leads-more, Parted, parted}
 
 -- ---- what is kept in step
@@ -58,7 +58,8 @@ streamStep w m b u =
     stuck
 
 -- a unit made leads the books on
-pub stream-unit : (w m : ℕ) (b : Books) (n : ℕ) (h : Header) (ru : List ℕ) → fits m b h n ru ≡ true → streamStep w m b (unitOf n h ru) ≡ ok (next w b (sortOf h) ru)
+pub stream-unit : (w m : ℕ) (b : Books) (n : ℕ) (h : Header) (ru : List ℕ) → fits m b h n ru ≡ true
+    → streamStep w m b (unitOf n h ru) ≡ ok (next w b (sortOf h) ru)
 unfolding streamStep
 stream-unit w m b n h ru e =
     rw (
@@ -89,13 +90,11 @@ pub record Outside : Type 0 where
   pub held : List ℕ
   pub given : Position
 
+-- what the receiving end has taken
 pub record Inside : Type 0 where
   pub window : ℕ
   pub max : ℕ
-  pub number : ℕ
-  pub position : ℕ
-  pub chain : Bool
-  pub taken : Position
+  pub books : Books
 
 abbrev pub outsideOf : Station → Outside
 outsideOf s =
@@ -111,27 +110,22 @@ outsideOf s =
 
 abbrev pub insideOf : Station → Inside
 insideOf s =
+    let r = s .end .receiving in
     record {
-      window = s .end .receiving .window .size;
-      max = s .end .receiving .max;
-      number = s .end .receiving .number;
-      position = s .end .receiving .window .position;
-      chain = s .end .control .inchain;
-      taken = s .end .receiving .taken;
+      window = r .window .size;
+      max = r .max;
+      books = record { number = r .number; position = r .window .position; chain = s .end .control .inchain; place = r .taken };
     }
 
 abbrev pub booksOut : Outside → Position → Books
 booksOut o p = record { number = o .number; position = o .position; chain = o .chain; place = p }
-
-abbrev pub booksIn : Inside → Books
-booksIn i = record { number = i .number; position = i .position; chain = i .chain; place = i .taken }
 
 -- The line leads what was taken to what was made; `place` is the record place of all bytes sent, from where those held lead to the place given.
 pub record Stream (o : Outside) (i : Inside) (line : List (List ℕ)) : Type 0 where
   pub window : o .window ≡ i .window
   pub max : o .max ≡ i .max
   pub place : Position
-  pub leads : Leads (streamStep (i .window) (i .max)) (booksIn i) line (booksOut o place)
+  pub leads : Leads (streamStep (i .window) (i .max)) (i .books) line (booksOut o place)
   pub held : walk place (o .held) ≡ At (o .given)
 
 -- ---- at the sending end
@@ -245,7 +239,7 @@ pub stream-response : {o : Outside} {i : Inside} {line : List (List ℕ)} (n : �
 stream-response {o} {i} {line} n h s e =
     let b : Books = booksOut o (s .place) in
     let a = answer-fits b (sortOf h) (i .window) n (fixedRu h) e in
-    let f : fits (i .max) b h n (fixedRu h) ≡ true = rw (fixed-good (i .max) h (a .0), a .1) in
+    let f : fits (i .max) b h n (fixedRu h) ≡ true = rw (fixed-ru h .2 (i .max) (a .0), a .1) in
     record {
       window = s .window;
       max = s .max;
@@ -258,21 +252,19 @@ stream-response {o} {i} {line} n h s e =
 
 -- the receiving end after a unit of the sort k
 abbrev pub taken : Inside → Sort → List ℕ → Inside
-taken i k ru =
-    let b = next (i .window) (booksIn i) k ru in
-    record { window = i .window; max = i .max; number = b .number; position = b .position; chain = b .chain; taken = b .place }
+taken i k ru = record { window = i .window; max = i .max; books = next (i .window) (i .books) k ru }
 
 pub record Heads (o : Outside) (i : Inside) (u : List ℕ) (line : List (List ℕ)) : Type 0 where
   pub long : leb RU-START (length u) ≡ true
   pub header : headerGood (headerIn u) ≡ true
-  pub fitting : fits (i .max) (booksIn i) (headerTaken u) (numberIn u) (ruTaken u) ≡ true
+  pub fitting : fits (i .max) (i .books) (headerTaken u) (numberIn u) (ruTaken u) ≡ true
   pub rest : Stream o (taken i (sortOf (headerTaken u)) (ruTaken u)) line
 
 -- the oldest unit fits, and what is left of the line follows it
 pub stream-take : {o : Outside} {i : Inside} {u : List ℕ} {line : List (List ℕ)} → Stream o i (u ∷ line) → Heads o i u line
 unfolding streamStep
 stream-take {o} {i} {u} {line} s =
-    let q : Parted (streamStep (i .window) (i .max)) (booksIn i) u line (booksOut o (s .place)) = parted (s .leads) in
+    let q : Parted (streamStep (i .window) (i .max)) (i .books) u line (booksOut o (s .place)) = parted (s .leads) in
     let f = fitting-at _ _ _ _ _ (q .head) in
     record {
       long = f .0;
@@ -284,13 +276,13 @@ stream-take {o} {i} {u} {line} s =
 -- ---- as opened
 
 pub stream-fresh : (o : Outside) (i : Inside)
-    → o .window ≡ i .window → o .max ≡ i .max → booksIn i ≡ booksOut o (o .given) → o .held ≡ [] → Stream o i []
+    → o .window ≡ i .window → o .max ≡ i .max → i .books ≡ booksOut o (o .given) → o .held ≡ [] → Stream o i []
 unfolding thenWalk
 stream-fresh o i w m b h =
     record {
       window = w;
       max = m;
       place = o .given;
-      leads = subst (λ (x : Books). Leads (streamStep (i .window) (i .max)) (booksIn i) [] x) b leads-nowhere;
+      leads = subst (λ (x : Books). Leads (streamStep (i .window) (i .max)) (i .books) [] x) b leads-nowhere;
       held = ap (walk (o .given)) h;
     }

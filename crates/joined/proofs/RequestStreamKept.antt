@@ -17,7 +17,8 @@ use Rattle.end.specs.Close.{nothingGoes}
 use Rattle.calls.proofs.CallCases.{CloseAsked}
 use Rattle.control.proofs.States.{reset-not-send}
 use Rattle.joined.proofs.CallsOnLanes.{Laned, LanedTake}
-use Rattle.joined.proofs.Chains.{closed-in, begins-first}
+use Rattle.joined.proofs.Words.{cases, isFirst, Continued, First, FirstWithBracket, Control}
+use Rattle.bools.proofs.Cases.{split}
 use Rattle.joined.proofs.BytesInOrder.{held-more, held-rest, spilled-parts}
 use Rattle.joined.proofs.RequestStream.{Outside, Inside, outsideOf, insideOf, Stream, holding, stream-keep, stream-data, stream-bid, stream-response, taken, stream-take}
 use Rattle.control.proofs.Within.{closed-outside-send}
@@ -29,17 +30,35 @@ chained o b =
     record { window = o .window; max = o .max; number = o .number; position = o .position; chain = b; held = o .held; given = o .given }
 
 abbrev linked : Inside → Bool → Inside
-linked i b = record { window = i .window; max = i .max; number = i .number; position = i .position; chain = b; taken = i .taken }
+linked i b =
+    let books = i .books in
+    record { window = i .window; max = i .max; books = record { number = books .number; position = books .position; chain = b; place = books .place } }
 
 module _ {o : Outside} {i : Inside} {line : List (List ℕ)} where
   same-chain : (b : Bool) → b ≡ o .chain → Stream o i line → Stream (chained o b) i line
   same-chain b e s = rw e s
 
-  same-link : (b : Bool) → b ≡ i .chain → Stream o i line → Stream o (linked i b) line
+  same-link : (b : Bool) → b ≡ i .books .chain → Stream o i line → Stream o (linked i b) line
   same-link b e s = rw e s
 
   same-held : (h : List ℕ) (p : Position) → h ≡ o .held → p ≡ o .given → Stream o i line → Stream (holding o h p) i line
   same-held h p e f s = rw (e, f) s
+
+-- ---- chains
+
+-- a last unit leaves the receiving chain
+closed-in : (f : Follows) (b : Bool) (c : Control) → closed f b c .inchain ≡ c .inchain
+unfolding closed
+closed-in f b c = cases (λ (d : Control). d .inchain ≡ c .inchain) b (λ y. refl) (λ n. refl)
+
+-- a unit is first in its chain exactly where no chain is open
+first-of : (open′ due : Bool) → isFirst (cond open′ Continued (cond due FirstWithBracket First)) ≡ not open′
+first-of true due = refl
+first-of false true = refl
+first-of false false = refl
+
+begins-first : (c : Control) → isFirst (beginOf c) ≡ not (c .outchain)
+begins-first c = first-of (c .outchain) (c .due)
 
 -- ---- data units that calls make
 
@@ -65,15 +84,10 @@ unfolding ruGood
 last-good m n d ru e h z = rw (e, le-leb n m h) (some (marks (d .ends)) z)
   where
     some : (b : Bool) → not b && eqb n 0 ≡ false → leb 1 n || b ≡ true
-    some true w = or-true (leb 1 n)
-      where
-        or-true : (x : Bool) → x || true ≡ true
-        or-true true = refl
-        or-true false = refl
-    some false w = rw (le-leb 1 n (positive n (eqb-false n 0 w)))
-      where
-        positive : (k : ℕ) → (k ≡ 0 → ⊥) → 1 ≤ k
-        positive k f = omega (arith, f)
+    some true w = split (leb 1 n) (λ y. rw y) (λ y. rw y)
+    some false w =
+        let f = eqb-false n 0 w in
+        rw (le-leb 1 n (omega (arith, f)))
 
 -- ---- as the sending end
 
@@ -94,7 +108,8 @@ module _ (s : Station) (i : Inside) (line : List (List ℕ)) (st : Stream (outsi
       let d : DataHeader = record { begins = beginOf (e .control); ends = Continues; pacing = paced (e .sending .window) } in
       let sent =
       stream-data d (spilledRu s bytes) rest kept (spilled-parts s bytes)
-      (full-good (e .sending .max) d (spilledRu s bytes) (spilled-length s bytes a k) (facts e (a .good) .sending .max .least)) refl (begins-first (e .control)) (λ x w. refl) in
+      (full-good (e .sending .max) d (spilledRu s bytes) (spilled-length s bytes a k) (facts e (a .good) .sending .max .least)) refl
+      (begins-first (e .control)) (λ x w. refl) in
       same-held (take (length bytes - gone e) (front rest (s .send))) (placeOr (e .sending .given) (walk (e .sending .given) bytes))
       (held-rest (length bytes - gone e) rest (s .send) (sym (length-drop (gone e) bytes))) (ap (placeOr (e .sending .given)) (a .walked)) sent
 
