@@ -1,7 +1,7 @@
 -- Lists of which each is a byte, below 256: their parts, and what is put together from them.
 -- Assumes nothing.
-use Rattle.calls.proofs.Words.{ℕ, _<_, _+_, take, drop, length, Bool, true, _&&_, List, [], _∷_, _++_, _≡_, arith, both, front, written, numberIn}
-use Rattle.calls.proofs.Words.{nextNumber, AllBytes}
+use Rattle.calls.proofs.CallWords.{ℕ, _<_, _+_, take, drop, length, Bool, true, _&&_, List, [], _∷_, _++_, _≡_, arith, both, front, written, numberIn}
+use Rattle.calls.proofs.CallWords.{nextNumber, AllBytes}
 use Prim.Native.Nat.{zero, suc}
 use borrow.Author.Tests.{ltb-true}
 use lib.Dec.{ltb}

@@ -1,17 +1,17 @@
 -- What each call leaves, refused or accepted, read off its definition: the one view of a call that every proof above goes by.
 -- Assumes nothing.
-use Rattle.calls.proofs.Words.{ℕ, _+_, _≤_, eqb-true, leb-true, ne-eqb, eqb, leb, take, drop, length, Bool, true, false, cond, not, _&&_, _||_, List}
-use Rattle.calls.proofs.Words.{[], _∷_, _++_, _≡_, refl, sym, ap, _∙_, arith, cases, both, left, or-right, front, written, walk, placeOr, Position}
-use Rattle.calls.proofs.Words.{Walked, At, BadLength, headerGood, ChainEnd, Continues, Last, DataHeader, Follows, Header, bidRu, fixedRu, ruGood}
-use Rattle.calls.proofs.Words.{RU-START, unitOf, numberIn, headerIn, unit-length, paced, hasCredit, mayAllocate, mayConfirm, grantFits, refusalFits}
-use Rattle.calls.proofs.Words.{confirmationFits, isSend, isNothing, agree, isFirstSpeaker, controlGood, Control, bidAnswer, allocated}
-use Rattle.calls.proofs.Words.{confirmationMade, markAnswered, bidTaken, grantTaken, refusalTaken, confirmationTaken, accepted, refused}
-use Rattle.calls.proofs.Words.{refusedNaming, firstNo, yes, windowAnswered, keeps, nextNumber, bidMade, allocateRefusal, allocateDecision, allocate}
-use Rattle.calls.proofs.Words.{lastMade, nothingGoes, closeRefusal, closeDecision, close, confirmedRefusal, confirmedDecision, confirmed}
-use Rattle.calls.proofs.Words.{withControl, withReceiving, Decision, decided, paceRefusal, paceDecision, pace, bytesRead, inboxMoved, someHeld}
-use Rattle.calls.proofs.Words.{readRefusal, markRead, readDecision, receive, ruTaken, dataJoined, bidAnswered, creditRaised, headerTaken}
-use Rattle.calls.proofs.Words.{takeRefusal, takeDecision, receiveUnit, recordGood, dataHeader, heldBytes, gone, bytesKept, bytesSpilled, sendRefusal}
-use Rattle.calls.proofs.Words.{sendDecision, sendData, End, ReadDone, facts, Called, Station, Verb, called, taken}
+use Rattle.calls.proofs.CallWords.{ℕ, _+_, _≤_, eqb-true, leb-true, ne-eqb, eqb, leb, take, drop, length, Bool, true, false, cond, not, _&&_, _||_}
+use Rattle.calls.proofs.CallWords.{List, [], _∷_, _++_, _≡_, refl, sym, ap, _∙_, arith, cases, both, left, or-right, front, written, walk, placeOr}
+use Rattle.calls.proofs.CallWords.{Position, Walked, At, BadLength, headerGood, ChainEnd, Continues, Last, DataHeader, Follows, Header, bidRu, fixedRu}
+use Rattle.calls.proofs.CallWords.{ruGood, RU-START, unitOf, numberIn, headerIn, unit-length, paced, hasCredit, mayAllocate, mayConfirm, grantFits}
+use Rattle.calls.proofs.CallWords.{refusalFits, confirmationFits, isSend, isNothing, agree, isFirstSpeaker, controlGood, Control, bidAnswer, allocated}
+use Rattle.calls.proofs.CallWords.{confirmationMade, markAnswered, bidTaken, grantTaken, refusalTaken, confirmationTaken, accepted, refused}
+use Rattle.calls.proofs.CallWords.{refusedNaming, firstNo, yes, windowAnswered, keeps, nextNumber, bidMade, allocateRefusal, allocateDecision}
+use Rattle.calls.proofs.CallWords.{allocate, lastMade, nothingGoes, closeRefusal, closeDecision, close, confirmedRefusal, confirmedDecision, confirmed}
+use Rattle.calls.proofs.CallWords.{withControl, withReceiving, Decision, decided, paceRefusal, paceDecision, pace, bytesRead, inboxMoved, someHeld}
+use Rattle.calls.proofs.CallWords.{readRefusal, markRead, readDecision, receive, ruTaken, dataJoined, bidAnswered, creditRaised, headerTaken}
+use Rattle.calls.proofs.CallWords.{takeRefusal, takeDecision, receiveUnit, recordGood, dataHeader, heldBytes, gone, bytesKept, bytesSpilled}
+use Rattle.calls.proofs.CallWords.{sendRefusal, sendDecision, sendData, End, ReadDone, facts, Called, Station, Verb, called, taken}
 use lib.Dec.{T}
 use lib.ListN.{getD}
 use Rattle.cells.proofs.Fronts.{front-bytes}

@@ -1,14 +1,16 @@
 -- The cells that a call leaves and the unit that it makes are bytes, if those that it was lent and given are.
 -- Assumes nothing.
-use Rattle.calls.proofs.Words.{ℕ, _<_, eqb, take, drop, Bool, true, false, cond, List, [], _∷_, arith, cases, confirms, Continues, Last, Follows}
-use Rattle.calls.proofs.Words.{Header, bidRu, fixedRu, RU-START, unitOf, numberIn, paced, bidAnswer, nextNumber, bidMade, lastMade, bytesRead}
-use Rattle.calls.proofs.Words.{inboxMoved, ruTaken, dataJoined, bidAnswered, creditRaised, dataHeader, heldBytes, gone, bytesKept, bytesSpilled}
-use Rattle.calls.proofs.Words.{Called, Station, Verb, called, taken, AllBytes, BytesOf}
+use Rattle.calls.proofs.CallWords.{ℕ, _<_, eqb, take, drop, Bool, true, false, cond, List, [], _∷_, arith, cases, confirms, Continues, Last, Follows}
+use Rattle.calls.proofs.CallWords.{Header, bidRu, fixedRu, RU-START, unitOf, numberIn, paced, bidAnswer, nextNumber, bidMade, lastMade, bytesRead}
+use Rattle.calls.proofs.CallWords.{inboxMoved, ruTaken, dataJoined, bidAnswered, creditRaised, dataHeader, heldBytes, gone, bytesKept, bytesSpilled}
+use Rattle.calls.proofs.CallWords.{Called, Station, Verb, called, taken, AllBytes, BytesOf}
 use Rattle.header.specs.declared.Header.the-variants.{Bid, Confirmation, PacingResponse}
 use Rattle.end.specs.Receive.{inboxBytes}
-use Rattle.calls.proofs.ByteLists.{none-bytes, take-bytes, drop-bytes, append-bytes, front-bytes-all, written-bytes-all, next-small, number-small, AllUnits}
+use Rattle.calls.proofs.ByteLists.{none-bytes, take-bytes, drop-bytes, append-bytes, front-bytes-all, written-bytes-all, next-small, number-small}
+use Rattle.calls.proofs.ByteLists.{AllUnits}
 use Rattle.calls.proofs.UnitsByHeader.{unit-bytes, fixed-ru}
-use Rattle.calls.proofs.CallCases.{allocate-cases, bidNumber, send-cases, spilledRu, close-cases, confirmed-cases, pace-cases, read-cases, readCount, take-cases}
+use Rattle.calls.proofs.CallCases.{allocate-cases, bidNumber, send-cases, spilledRu, close-cases, confirmed-cases, pace-cases, read-cases, readCount}
+use Rattle.calls.proofs.CallCases.{take-cases}
 
 -- ---- the cells and units are bytes, and the number owed is one of two bytes
 

@@ -1,9 +1,9 @@
 -- A call that changes the finite part and no more: both chains stay as they were, Send is not left, and question 5 stays answered; checked by computation
 -- at every value of the finite part.
 -- Assumes nothing.
-use Rattle.calls.proofs.Words.{Bool, true, false, not, _&&_, _||_, _≡_, refl, sym, ap, join, left, right, or-right, mayAllocate, mayConfirm}
-use Rattle.calls.proofs.Words.{grantFits, refusalFits, confirmationFits, isSend, isNothing, agree, controlGood, Control, within, allocated}
-use Rattle.calls.proofs.Words.{confirmationMade, markAnswered, bidTaken, grantTaken, refusalTaken, confirmationTaken}
+use Rattle.calls.proofs.CallWords.{Bool, true, false, not, _&&_, _||_, _≡_, refl, sym, ap, join, left, right, or-right, mayAllocate, mayConfirm}
+use Rattle.calls.proofs.CallWords.{grantFits, refusalFits, confirmationFits, isSend, isNothing, agree, controlGood, Control, within, allocated}
+use Rattle.calls.proofs.CallWords.{confirmationMade, markAnswered, bidTaken, grantTaken, refusalTaken, confirmationTaken}
 use Rattle.bools.proofs.Tests.{off}
 use Rattle.control.proofs.Finite.{controls}
 use Rattle.transitions.proofs.KeptWithin.{allocated-keeps, answered-keeps, bid-keeps, confirmation-keeps, confirmed-keeps, grant-keeps, refusal-keeps}

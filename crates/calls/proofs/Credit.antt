@@ -1,10 +1,10 @@
 -- What each call costs or gives: a request made 1 credit, a pacing response taken W; a request taken 1 of open, pace W.
 -- Assumes nothing.
-use Rattle.calls.proofs.Words.{ℕ, _+_, _*_, eqb, Bool, true, false, _&&_, List, [], _∷_, _≡_, refl, ap, _∙_, arith, left, ChainEnd, Continues, Last}
-use Rattle.calls.proofs.Words.{Header, bidRu, unitOf, paced, hasCredit, advanced, answered, requestTaken, requestMade, nextNumber, bidMade, lastMade}
-use Rattle.calls.proofs.Words.{bytesRead, markRead, dataJoined, bidAnswered, creditRaised, recordGood, dataHeader, heldBytes, bytesKept}
-use Rattle.calls.proofs.Words.{bytesSpilled, facts, Called, Station, Verb, called, taken, refusalIn, count, isPacingResponse, isRequest}
-use Rattle.calls.proofs.Words.{requestsAmong}
+use Rattle.calls.proofs.CallWords.{ℕ, _+_, _*_, eqb, Bool, true, false, _&&_, List, [], _∷_, _≡_, refl, ap, _∙_, arith, left, ChainEnd, Continues}
+use Rattle.calls.proofs.CallWords.{Last, Header, bidRu, unitOf, paced, hasCredit, advanced, answered, requestTaken, requestMade, nextNumber, bidMade}
+use Rattle.calls.proofs.CallWords.{lastMade, bytesRead, markRead, dataJoined, bidAnswered, creditRaised, recordGood, dataHeader, heldBytes, bytesKept}
+use Rattle.calls.proofs.CallWords.{bytesSpilled, facts, Called, Station, Verb, called, taken, refusalIn, count, isPacingResponse, isRequest}
+use Rattle.calls.proofs.CallWords.{requestsAmong}
 use Rattle.header.specs.declared.Header.the-variants.{Bid, Confirmation, PacingResponse}
 use Rattle.pacing.specs.Pacing.{credit}
 use Rattle.end.specs.Record.{creditOf, openOf}

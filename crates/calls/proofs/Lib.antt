@@ -1,4 +1,4 @@
-mod Words
+mod CallWords
 pub mod ByteLists
 pub mod UnitsByHeader
 pub mod ControlMoved

@@ -1,10 +1,11 @@
 -- Every call keeps question 5: the record that it leaves is within the section 'The end's record'.
 -- Assumes nothing.
-use Rattle.calls.proofs.Words.{ℕ, _<_, _+_, _*_, _≤_, eqb-true, leb-true, ne-eqb, eqb, leb, take, length, Bool, true, false, not, List, _≡_, refl}
-use Rattle.calls.proofs.Words.{sym, ap, arith, both, join, left, right, walk, placeOr, Position, Walked, At, BadLength, Follows, RU-START, numberIn}
-use Rattle.calls.proofs.Words.{controlGood, Control, within, allocated, confirmationMade, markAnswered, firstNo, yes, requestTaken, windowAnswered}
-use Rattle.calls.proofs.Words.{requestMade, bidMade, lastMade, withControl, withReceiving, bytesRead, ruTaken, dataJoined, bidAnswered, creditRaised}
-use Rattle.calls.proofs.Words.{recordGood, gone, bytesKept, bytesSpilled, End, facts, Called, Station, Verb, called, taken, AllBytes, BytesOf}
+use Rattle.calls.proofs.CallWords.{ℕ, _<_, _+_, _*_, _≤_, eqb-true, leb-true, ne-eqb, eqb, leb, take, length, Bool, true, false, not, List, _≡_, refl}
+use Rattle.calls.proofs.CallWords.{sym, ap, arith, both, join, left, right, walk, placeOr, Position, Walked, At, BadLength, Follows, RU-START}
+use Rattle.calls.proofs.CallWords.{numberIn, controlGood, Control, within, allocated, confirmationMade, markAnswered, firstNo, yes, requestTaken}
+use Rattle.calls.proofs.CallWords.{windowAnswered, requestMade, bidMade, lastMade, withControl, withReceiving, bytesRead, ruTaken, dataJoined}
+use Rattle.calls.proofs.CallWords.{bidAnswered, creditRaised, recordGood, gone, bytesKept, bytesSpilled, End, facts, Called, Station, Verb, called}
+use Rattle.calls.proofs.CallWords.{taken, AllBytes, BytesOf}
 use Prim.Native.Nat.{_-_}
 use mathlib.Core.Path.{subst}
 use borrow.Author.Tests.{eq-eqb, eqb-false, leb-false, le-leb}
@@ -18,7 +19,8 @@ use Rattle.end.specs.SendData.{given}
 use Rattle.sides.specs.declared.Session.{Session}
 use Rattle.bools.proofs.Cases.{split}
 use Rattle.calls.proofs.ByteLists.{drop-bytes, take-bytes}
-use Rattle.calls.proofs.CallCases.{allocate-cases, close-cases, confirmed-cases, pace-cases, read-cases, readCount, send-cases, take-cases, control-within}
+use Rattle.calls.proofs.CallCases.{allocate-cases, close-cases, confirmed-cases, pace-cases, read-cases, readCount, send-cases, take-cases}
+use Rattle.calls.proofs.CallCases.{control-within}
 use Rattle.calls.proofs.ControlMoved.{Moved, allocate-moves, confirmed-moves, mark-moves}
 use Rattle.calls.specs.Laws.{StaysGood}
 use Rattle.calls.proofs.Refusals.{accepted-good, accepted-take-good}

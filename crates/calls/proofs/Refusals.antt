@@ -1,17 +1,18 @@
 -- A refused call gives the number of its first question answered no, changes nothing and makes no unit; an accepted call's record was within the section
 -- 'The end's record'.
 -- Assumes nothing.
-use Rattle.calls.proofs.Words.{ℕ, eqb-true, ne-eqb, eqb, length, Bool, true, false, cond, not, _&&_, _||_, List, [], _∷_, _≡_, refl, sym, ap, _∙_}
-use Rattle.calls.proofs.Words.{cases, join, left, right, numberIn, isFirstSpeaker, allocated, accepted, refused, refusedNaming, firstNo, keeps}
-use Rattle.calls.proofs.Words.{bidMade, allocateRefusal, allocateDecision, allocate, lastMade, nothingGoes, closeRefusal, closeDecision, close}
-use Rattle.calls.proofs.Words.{confirmedRefusal, confirmedDecision, confirmed, withControl, Decision, decided, paceRefusal, paceDecision, pace}
-use Rattle.calls.proofs.Words.{bytesRead, someHeld, readRefusal, markRead, readDecision, receive, ruTaken, headerTaken, takeRefusal, takeDecision}
-use Rattle.calls.proofs.Words.{receiveUnit, recordGood, bytesKept, bytesSpilled, sendRefusal, sendDecision, sendData, End, ReadDone, Called, Station}
-use Rattle.calls.proofs.Words.{Verb, called, taken, refusalIn}
+use Rattle.calls.proofs.CallWords.{ℕ, eqb-true, ne-eqb, eqb, length, Bool, true, false, cond, not, _&&_, _||_, List, [], _∷_, _≡_, refl, sym, ap, _∙_}
+use Rattle.calls.proofs.CallWords.{cases, join, left, right, numberIn, isFirstSpeaker, allocated, accepted, refused, refusedNaming, firstNo, keeps}
+use Rattle.calls.proofs.CallWords.{bidMade, allocateRefusal, allocateDecision, allocate, lastMade, nothingGoes, closeRefusal, closeDecision, close}
+use Rattle.calls.proofs.CallWords.{confirmedRefusal, confirmedDecision, confirmed, withControl, Decision, decided, paceRefusal, paceDecision, pace}
+use Rattle.calls.proofs.CallWords.{bytesRead, someHeld, readRefusal, markRead, readDecision, receive, ruTaken, headerTaken, takeRefusal, takeDecision}
+use Rattle.calls.proofs.CallWords.{receiveUnit, recordGood, bytesKept, bytesSpilled, sendRefusal, sendDecision, sendData, End, ReadDone, Called}
+use Rattle.calls.proofs.CallWords.{Station, Verb, called, taken, refusalIn}
 use Rattle.answers.specs.declared.Answer.{Answer}
 use Rattle.end.specs.Outcome.{nothing, lengthOut, accept, answerOf}
 use Rattle.bools.proofs.Tests.{never}
-use Rattle.calls.proofs.CallCases.{allocate-cases, close-cases, confirmed-cases, pace-cases, read-cases, send-cases, kind-cases, take-cases, kind-accepted, passes}
+use Rattle.calls.proofs.CallCases.{allocate-cases, close-cases, confirmed-cases, pace-cases, read-cases, send-cases, kind-cases, take-cases}
+use Rattle.calls.proofs.CallCases.{kind-accepted, passes}
 use Rattle.calls.specs.Laws.{Refusals, questions, takeQuestions}
 
 -- an accepted call was not refused, and a refused one not accepted

@@ -1,7 +1,7 @@
 -- A unit that a call makes is at most 1,029 bytes long, and stands within the unit buffer.
 -- Assumes nothing.
-use Rattle.calls.proofs.Words.{ℕ, _+_, _≤_, length, true, List, _≡_, arith, front, Header, bidRu, fixedRu, unitOf, numberIn, unit-length, bidAnswer}
-use Rattle.calls.proofs.Words.{bytesRead, markRead, recordGood, heldBytes, End, facts, Called, Station, Verb, called, taken}
+use Rattle.calls.proofs.CallWords.{ℕ, _+_, _≤_, length, true, List, _≡_, arith, front, Header, bidRu, fixedRu, unitOf, numberIn, unit-length}
+use Rattle.calls.proofs.CallWords.{bidAnswer, bytesRead, markRead, recordGood, heldBytes, End, facts, Called, Station, Verb, called, taken}
 use Prim.Native.Nat.{zero-le}
 use lib.ListN.{length-append, length-take}
 use Rattle.calls.specs.Laws.{UnitsFit}

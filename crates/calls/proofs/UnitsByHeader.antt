@@ -1,9 +1,9 @@
 -- What a unit is, by its header alone: the sort of a unit, what is counted of it, and its bytes. Every proof above that asks no more goes by the sort, so that
 -- a new kind of header is a line of each list here.
 -- Assumes nothing.
-use Rattle.calls.proofs.Words.{ℕ, _<_, _+_, _≤_, eqb, length, Bool, true, false, cond, not, List, [], _∷_, _≡_, refl, sym, ap, _∙_, arith}
-use Rattle.calls.proofs.Words.{cases, confirms, headerGood, DataHeader, Header, bidRu, fixedRu, ruGood, unitOf, headerIn, Control, bidAnswer}
-use Rattle.calls.proofs.Words.{ruTaken, headerTaken, AllBytes, count, isPacingResponse, isRequest, requestsAmong}
+use Rattle.calls.proofs.CallWords.{ℕ, _<_, _+_, _≤_, eqb, length, Bool, true, false, cond, not, List, [], _∷_, _≡_, refl, sym, ap, _∙_, arith, cases}
+use Rattle.calls.proofs.CallWords.{confirms, headerGood, DataHeader, Header, bidRu, fixedRu, ruGood, unitOf, headerIn, Control, bidAnswer, ruTaken}
+use Rattle.calls.proofs.CallWords.{headerTaken, AllBytes, count, isPacingResponse, isRequest, requestsAmong}
 use Prim.Native.Nat.{_/_, _%_}
 use Rattle.cells.specs.Equal.{sameBytes}
 use Rattle.header.specs.Weights.{on, bit, FIRST, LAST, DR1, DR2, EXCEPTION, PACING, BB, CD, CEB}

@@ -1,7 +1,7 @@
 -- No call changes the size of a window.
 -- Assumes nothing.
-use Rattle.calls.proofs.Words.{ℕ, List, _≡_, refl, advanced, answered, requestMade, bidMade, lastMade, bytesRead, dataJoined, bidAnswered}
-use Rattle.calls.proofs.Words.{creditRaised, bytesKept, bytesSpilled, Called, Station, Verb, called, taken}
+use Rattle.calls.proofs.CallWords.{ℕ, List, _≡_, refl, advanced, answered, requestMade, bidMade, lastMade, bytesRead, dataJoined, bidAnswered}
+use Rattle.calls.proofs.CallWords.{creditRaised, bytesKept, bytesSpilled, Called, Station, Verb, called, taken}
 use Rattle.calls.proofs.CallCases.{allocate-cases, close-cases, confirmed-cases, pace-cases, read-cases, send-cases, take-cases}
 
 abbrev pub sizeOf : Station → ℕ

@@ -1,8 +1,8 @@
 -- After every list of calls that give bytes, both records are within the section 'The end's record': question 5 is answered yes at each end.
 -- Assumes nothing.
-use Rattle.joined.proofs.Words.{ℕ, _+_, length, Bool, true, false, List, [], _∷_, _≡_, refl, arith, cases, Session, recordGood, Station, Verb, count}
-use Rattle.joined.proofs.Words.{opened-is, Pair, Lane, normal, acts, takes, sameLane, Buffers, OpeningAccepted, openedWith, openedBoth, Log, At}
-use Rattle.joined.proofs.Words.{Call, act, first, second, takeOldest, apply, step, run, Lines}
+use Rattle.joined.proofs.JoinedWords.{ℕ, _+_, length, Bool, true, false, List, [], _∷_, _≡_, refl, arith, cases, Session, recordGood, Station, Verb}
+use Rattle.joined.proofs.JoinedWords.{count, opened-is, Pair, Lane, normal, acts, takes, sameLane, Buffers, OpeningAccepted, openedWith, openedBoth}
+use Rattle.joined.proofs.JoinedWords.{Log, At, Call, act, first, second, takeOldest, apply, step, run, Lines}
 use Rattle.joined.specs.Joined as J
 use Rattle.joined.specs.Histories.{refusedWith}
 use Rattle.calls.proofs.ByteLists.{AllUnits, append-units}

@@ -1,7 +1,7 @@
 -- The bid: made and unanswered, or none, as an automaton over the units that wait for an end.
 -- Assumes nothing.
-use Rattle.joined.proofs.Words.{ℕ, eqb, Bool, true, false, cond, List, [], _∷_, _++_, _≡_, refl, sym, subst, never, Header, unitOf, isFirstSpeaker}
-use Rattle.joined.proofs.Words.{Role, FirstSpeaker, Bidder, End}
+use Rattle.joined.proofs.JoinedWords.{ℕ, eqb, Bool, true, false, cond, List, [], _∷_, _++_, _≡_, refl, sym, subst, never, Header, unitOf}
+use Rattle.joined.proofs.JoinedWords.{isFirstSpeaker, Role, FirstSpeaker, Bidder, End}
 use Rattle.header.specs.declared.Header.the-variants.{Data, Bid, PositiveBidResponse, NegativeBidResponse, Confirmation, PacingResponse}
 use Rattle.joined.proofs.LineAutomaton.{Ran, ok, stuck, ok-is, went}
 use Rattle.joined.proofs.TwoLines.{other, other-other, Automaton, Led, led-moved}

@@ -1,8 +1,8 @@
 -- Bytes are conserved in order: those accepted are those read, then those in the inbox, on the line and in the send buffer.
 -- Assumes nothing.
-use Rattle.joined.proofs.Words.{ℕ, _+_, _-_, _≤_, length, take, drop, length-drop, take-take, length-take-le, List, [], _∷_, _++_, append-nil, _≡_}
-use Rattle.joined.proofs.Words.{sym, ap, _∙_, front, written, DataHeader, Header, unitOf, headerTaken, ruTaken, heldBytes, gone, Station, spilledRu}
-use Rattle.joined.proofs.Words.{sortOf, dataOf, bytesOnLine}
+use Rattle.joined.proofs.JoinedWords.{ℕ, _+_, _-_, _≤_, length, take, drop, length-drop, take-take, length-take-le, List, [], _∷_, _++_, append-nil}
+use Rattle.joined.proofs.JoinedWords.{_≡_, sym, ap, _∙_, front, written, DataHeader, Header, unitOf, headerTaken, ruTaken, heldBytes, gone, Station}
+use Rattle.joined.proofs.JoinedWords.{spilledRu, sortOf, dataOf, bytesOnLine}
 use mathlib.Core.List.{append-assoc}
 use lib.ListN.{take-append-drop}
 use Rattle.cells.proofs.Fronts.{front-bytes, written-bytes}

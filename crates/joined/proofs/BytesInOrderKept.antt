@@ -1,14 +1,14 @@
 -- Every call conserves the bytes in order, as the sending end and as the receiving end.
 -- Assumes nothing.
-use Rattle.joined.proofs.Words.{ℕ, _-_, _≤_, min, eqb, length, take, drop, length-drop, Bool, true, false, cond, List, [], _∷_, _++_, append-nil}
-use Rattle.joined.proofs.Words.{_≡_, refl, sym, ap, min-le-right, le-trans, arith, front, Continues, Last, DataHeader, Follows, Header, fixedRu}
-use Rattle.joined.proofs.Words.{bidRu, unitOf, numberIn, paced, bidAnswer, beginOf, readRefused, requestTaken, requestMade, nextNumber, restBytes}
-use Rattle.joined.proofs.Words.{bidMade, lastMade, bytesRead, recordRest, copyCount, headerTaken, ruTaken, dataJoined, bidAnswered, creditRaised}
-use Rattle.joined.proofs.Words.{recordGood, dataHeader, heldBytes, bytesKept, bytesSpilled, gone, facts, Station, Reply, Verb, allocate-cases}
-use Rattle.joined.proofs.Words.{bidNumber, close-cases, confirmed-cases, pace-cases, read-cases, send-cases, spilledRu, take-cases, ReadAsked}
-use Rattle.joined.proofs.Words.{SendAsked, readCount, spilledUnit, Sort, sortOf, answer-sort, dataOf, Lane, normal, acts, takes, onNormal}
-use Rattle.joined.proofs.Words.{bytesInSendBuffer, Log, bytesAccepted, bytesInInbox, Acted, Took, took, acted}
-use native.Mathlib.Nat.{min-le-left}
+use Rattle.bools.proofs.Cases.{split}
+use Rattle.joined.proofs.JoinedWords.{ℕ, _-_, _≤_, eqb, length, take, drop, length-drop, Bool, true, false, cond, List, [], _∷_, _++_, append-nil}
+use Rattle.joined.proofs.JoinedWords.{_≡_, refl, sym, ap, le-trans, arith, front, Continues, Last, DataHeader, Follows, Header, fixedRu}
+use Rattle.joined.proofs.JoinedWords.{bidRu, unitOf, numberIn, paced, bidAnswer, beginOf, readRefused, requestTaken, requestMade, nextNumber}
+use Rattle.joined.proofs.JoinedWords.{bidMade, lastMade, bytesRead, copyCount, headerTaken, ruTaken, dataJoined, bidAnswered}
+use Rattle.joined.proofs.JoinedWords.{creditRaised, recordGood, dataHeader, heldBytes, bytesKept, bytesSpilled, gone, facts, Station, Reply, Verb}
+use Rattle.joined.proofs.JoinedWords.{allocate-cases, bidNumber, close-cases, confirmed-cases, pace-cases, read-cases, send-cases, spilledRu}
+use Rattle.joined.proofs.JoinedWords.{take-cases, ReadAsked, SendAsked, readCount, spilledUnit, Sort, sortOf, answer-sort, dataOf, Lane, normal, acts}
+use Rattle.joined.proofs.JoinedWords.{takes, onNormal, bytesInSendBuffer, Log, bytesAccepted, bytesInInbox, Acted, Took, took, acted}
 use borrow.Author.Tests.{eqb-true}
 use Rattle.header.specs.declared.Header.the-variants.{Bid, Confirmation, PacingResponse}
 use Rattle.end.specs.Receive.{inboxMoved}
@@ -17,7 +17,8 @@ use Rattle.joined.specs.Histories as H
 use Rattle.end.proofs.Within.{held-in-inbox}
 use Rattle.joined.proofs.CallsOnLanes.{Laned, LanedTake}
 use Rattle.joined.proofs.OneEnd.{refused-accepts}
-use Rattle.joined.proofs.BytesInOrder.{Carried, carried-kept, carried-sent, carried-other, carried-read, carried-taken, held-more, held-rest, copied-is, inbox-parts, inbox-left, spilled-parts}
+use Rattle.joined.proofs.BytesInOrder.{Carried, carried-kept, carried-sent, carried-other, carried-read, carried-taken, held-more, held-rest}
+use Rattle.joined.proofs.BytesInOrder.{copied-is, inbox-parts, inbox-left, spilled-parts}
 
 -- ---- as the sending end
 
@@ -96,24 +97,19 @@ module _ (s : Station) (xs : Log) (line : List (List ℕ)) (read inbox : List �
 -- how much a read copies: no more than is held
 pub count-held : (s : Station) (buffer : List ℕ) → readCount s buffer ≤ s .end .receiving .held
 unfolding copyCount
-count-held s buffer =
-    le-trans (min-le-right (length buffer) (min (s .end .receiving .held) (restBytes (recordRest (s .end) (s .inbox)))))
-    (min-le-left (s .end .receiving .held) (restBytes (recordRest (s .end) (s .inbox))))
+count-held s buffer = omega arith
 
 -- the inbox after a read of k bytes, of which there is at least one
 pub moved-left : (s : Station) (k : ℕ) → s .end .receiving .held ≤ length (s .inbox)
     → take (s .end .receiving .held - k) (inboxMoved (s .end) k (s .inbox)) ≡ drop k (bytesInInbox s)
 unfolding inboxMoved
-moved-left s k h = by (eqb k 0) refl
-  where
-    by : (b : Bool) → eqb k 0 ≡ b
-        → take (s .end .receiving .held - k) (cond (eqb k 0) (s .inbox) (front (drop k (R.inboxBytes (s .end) (s .inbox))) (s .inbox)))
-        ≡ drop k (bytesInInbox s)
-    by true e =
-        let z : k ≡ 0 = eqb-true k 0 e in
-        let y : s .end .receiving .held - k ≡ s .end .receiving .held = omega arith in
-        rw (e, y, z)
-    by false e = rw e (inbox-left k (s .end .receiving .held) (s .inbox) h)
+moved-left s k h =
+    split (eqb k 0)
+    (λ e.
+    let z : k ≡ 0 = eqb-true k 0 e in
+    let y : s .end .receiving .held - k ≡ s .end .receiving .held = omega arith in
+    rw (e, y, z))
+    (λ e. rw e (inbox-left k (s .end .receiving .held) (s .inbox) h))
 
 -- what a read copies and what it leaves are what was held
 pub read-parts : (s : Station) (buffer : List ℕ) → bytesInInbox s ≡ take (readCount s buffer) (s .inbox) ++ drop (readCount s buffer) (bytesInInbox s)

@@ -1,6 +1,6 @@
 -- What a call or a take leaves, seen on the lanes: a fact of it is a fact of what the one view of a call says.
 -- Assumes nothing.
-use Rattle.joined.proofs.Words.{ℕ, List, Station, Reply, Lane, Acted, Took}
+use Rattle.joined.proofs.JoinedWords.{ℕ, List, Station, Reply, Lane, Acted, Took}
 use Rattle.calls.specs.Calls.{Called}
 use Rattle.joined.specs.Ends.{onLanes, tookOnLanes}
 

@@ -1,9 +1,9 @@
 -- The claim over every list of calls, composed from its parts.
 -- Assumes nothing.
-use Rattle.joined.proofs.Words.{ℕ, length, List, [], _∷_, _++_, _≡_, refl, sym, ap, _∙_, subst, arith, thenWalk, credit, Role}
-use Rattle.joined.proofs.Words.{FirstSpeaker, Bidder, send-is, Session, freshEnd, Station, Reply, Verb, opened-is, Pair, Lane, normal, acts, takes}
-use Rattle.joined.proofs.Words.{sameLane, Buffers, OpeningAccepted, openedWith, openedBoth, bytesInSendBuffer, Log, bytesAccepted, bytesOnLine}
-use Rattle.joined.proofs.Words.{bytesInInbox, requestsMade, pacingResponsesTaken, breaches, badReads, CompleteIsRight, NoneCrosses, At, Lines}
+use Rattle.joined.proofs.JoinedWords.{ℕ, length, List, [], _∷_, _++_, _≡_, refl, sym, ap, _∙_, subst, arith, thenWalk, credit, Role, FirstSpeaker}
+use Rattle.joined.proofs.JoinedWords.{Bidder, send-is, Session, freshEnd, Station, Reply, Verb, opened-is, Pair, Lane, normal, acts, takes, sameLane}
+use Rattle.joined.proofs.JoinedWords.{Buffers, OpeningAccepted, openedWith, openedBoth, bytesInSendBuffer, Log, bytesAccepted, bytesOnLine}
+use Rattle.joined.proofs.JoinedWords.{bytesInInbox, requestsMade, pacingResponsesTaken, breaches, badReads, CompleteIsRight, NoneCrosses, At, Lines}
 use Rattle.logical_record.specs.Records.{wholeRecords}
 use Rattle.logical_record.proofs.Splits.{whole-records-append}
 use Rattle.sides.specs.Opening.{roleOf}

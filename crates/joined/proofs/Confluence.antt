@@ -1,8 +1,8 @@
 -- Lists with the same calls in the same order at each end leave the same ends, lines and answers, whatever the lanes,
 -- if neither takes with nothing waiting.
 -- Assumes nothing.
-use Rattle.joined.proofs.Words.{Bool, true, false, cond, Discrete, List, [], _∷_, _++_, _≡_, refl, sym, ap, _∙_, subst, fun-ext, Acted, Took, At}
-use Rattle.joined.proofs.Words.{Call, act, first, second, Both, Local, Event, took, takeOldest, apply, step, run, Lines, join, put}
+use Rattle.joined.proofs.JoinedWords.{Bool, true, false, cond, Discrete, List, [], _∷_, _++_, _≡_, refl, sym, ap, _∙_, subst, fun-ext, Acted, Took, At}
+use Rattle.joined.proofs.JoinedWords.{Call, act, first, second, Both, Local, Event, took, takeOldest, apply, step, run, Lines, join, put}
 use mathlib.Core.List.{nil≢cons, head-eq-of-cons-eq, tail-eq-of-cons-eq}
 use Rattle.joined.specs.Lanes.{chosen}
 use Rattle.joined.specs.Joined.{take, firsts, seconds, Some, Fed, deliver, here, AllFed}

@@ -1,7 +1,7 @@
 -- What every call keeps holds after every list of calls, whatever the lanes.
 -- Assumes nothing.
-use Rattle.joined.proofs.Words.{cond, Discrete, List, [], _∷_, append-nil, _≡_, refl, sym, subst, fun-ext, Acted, Took, At, Call, act, first, second}
-use Rattle.joined.proofs.Words.{Both, Local, Event, took, takeOldest, apply, step, run, acted, Lines, join, put}
+use Rattle.joined.proofs.JoinedWords.{cond, Discrete, List, [], _∷_, append-nil, _≡_, refl, sym, subst, fun-ext, Acted, Took, At, Call, act, first}
+use Rattle.joined.proofs.JoinedWords.{second, Both, Local, Event, took, takeOldest, apply, step, run, acted, Lines, join, put}
 use Rattle.joined.specs.Lanes.{none}
 use Rattle.joined.specs.Joined.{take, Side}
 

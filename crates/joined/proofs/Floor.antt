@@ -1,9 +1,9 @@
 -- The floor: whose turn it is, what is owed and what is waited for, as an automaton over the units that wait for an end.
 -- Assumes nothing.
-use Rattle.joined.proofs.Words.{ℕ, eq-eqb, eqb, Bool, true, false, not, cond, _&&_, _||_, List, _≡_, refl, sym, ap, arith, never, both, or-right}
-use Rattle.joined.proofs.Words.{beginsBracket, Continued, First, FirstWithBracket, ChainEnd, Continues, Last, Follows, Stay, ChangeDirection}
-use Rattle.joined.proofs.Words.{EndBracket, Header, agree, isFirstSpeaker, isBidder, isReset, isReceive, isConfirmAwaited, isNothing, Role}
-use Rattle.joined.proofs.Words.{FirstSpeaker, Bidder, State, WhatReceived, afterLast, afterOwed, markOf, End}
+use Rattle.joined.proofs.JoinedWords.{ℕ, eq-eqb, eqb, Bool, true, false, not, cond, _&&_, _||_, List, _≡_, refl, sym, ap, arith, never, both, or-right}
+use Rattle.joined.proofs.JoinedWords.{beginsBracket, Continued, First, FirstWithBracket, ChainEnd, Continues, Last, Follows, Stay, ChangeDirection}
+use Rattle.joined.proofs.JoinedWords.{EndBracket, Header, agree, isFirstSpeaker, isBidder, isReset, isReceive, isConfirmAwaited, isNothing, Role}
+use Rattle.joined.proofs.JoinedWords.{FirstSpeaker, Bidder, State, WhatReceived, afterLast, afterOwed, markOf, End}
 use Rattle.header.specs.Header.{confirms}
 use Rattle.header.specs.declared.Header.the-variants.{Data, Bid, PositiveBidResponse, NegativeBidResponse, Confirmation, PacingResponse}
 use Rattle.control.specs.Tests.{isConfirmOwed}

@@ -1,16 +1,17 @@
 -- The order of a conversation at two joined ends: floors and bids fit, whatever is still under way.
 -- Assumes nothing.
-use Rattle.joined.proofs.Words.{ℕ, eqb, Bool, true, false, not, cond, _&&_, _||_, List, [], _∷_, _≡_, refl, sym, ap, _∙_, subst, never, on, left}
-use Rattle.joined.proofs.Words.{beginsBracket, DataHeader, Header, numberIn, confirmationFits, isFirstSpeaker, isBidder, isReset, isReceive}
-use Rattle.joined.proofs.Words.{isConfirmAwaited, isNothing, isSend, Role, FirstSpeaker, Bidder, State, markOf, headerTaken, recordGood, End, facts}
-use Rattle.joined.proofs.Words.{freshEnd}
+use Rattle.joined.proofs.JoinedWords.{ℕ, eqb, Bool, true, false, not, cond, _&&_, _||_, List, [], _∷_, _≡_, refl, sym, ap, _∙_, subst, never, on, left}
+use Rattle.joined.proofs.JoinedWords.{beginsBracket, DataHeader, Header, numberIn, confirmationFits, isFirstSpeaker, isBidder, isReset, isReceive}
+use Rattle.joined.proofs.JoinedWords.{isConfirmAwaited, isNothing, isSend, Role, FirstSpeaker, Bidder, State, markOf, headerTaken, recordGood, End}
+use Rattle.joined.proofs.JoinedWords.{facts, freshEnd}
 use Rattle.header.specs.declared.Header.the-variants.{Data, Bid, PositiveBidResponse, NegativeBidResponse, Confirmation}
 use Rattle.control.specs.Questions.{bracketFits, bidFits, stateFits, grantFits, refusalFits}
 use Rattle.control.specs.declared.State.the-variants.{Send}
 use Rattle.joined.proofs.LineAutomaton.{ok, stuck}
 use Rattle.bools.proofs.Tests.{or-left}
 use Rattle.joined.proofs.TwoLines.{other, other-other, led-nowhere, led-flip, led-as, led-goes, led-settled}
-use Rattle.joined.proofs.Floor.{Floor, sendBB, send, afterMarkFloor, floorAt, floorOf, isResetFloor, waitsFor, dataMoves, grantMoves, confirmedFloor, Floors, quiet-sending, data-fits, not-both-send, isReceiveFloor, unmarked-floor}
+use Rattle.joined.proofs.Floor.{Floor, sendBB, send, afterMarkFloor, floorAt, floorOf, isResetFloor, waitsFor, dataMoves, grantMoves, confirmedFloor}
+use Rattle.joined.proofs.Floor.{Floors, quiet-sending, data-fits, not-both-send, isReceiveFloor, unmarked-floor}
 use Rattle.joined.proofs.Bids.{Pending, none, some, bidOf, bidMoves, answerMoves, bidOn, Bids, bid-speaker, answer-flag}
 
 -- Two joined ends: e has the role r and f the other one, `line` waits for f and `back` for e.

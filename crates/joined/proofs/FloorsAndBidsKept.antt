@@ -1,13 +1,13 @@
 -- Every call at an end keeps the order of a conversation: floors and bids still fit.
 -- Assumes nothing.
-use Rattle.joined.proofs.Words.{ℕ, eq-eqb, eqb, Bool, true, false, not, cond, List, [], _∷_, _++_, append-nil, _≡_, refl, sym, ap, _∙_, never, on}
-use Rattle.joined.proofs.Words.{left, or-right, beginsBracket, ChainEnd, Continues, Last, Follows, Header, fixedRu, bidRu, unitOf, numberIn, paced}
-use Rattle.joined.proofs.Words.{confirmationFits, isFirstSpeaker, isBidder, isReset, isReceive, isNothing, isSend, Control, Role, FirstSpeaker}
-use Rattle.joined.proofs.Words.{Bidder, WhatReceived, send-is, afterLast, afterOwed, markOf, beginOf, closed, spilled, confirmationMade, dataTaken}
-use Rattle.joined.proofs.Words.{requestTaken, requestMade, nextNumber, bidMade, lastMade, bytesRead, headerTaken, ruTaken, dataJoined, bidAnswered}
-use Rattle.joined.proofs.Words.{creditRaised, recordGood, dataHeader, heldBytes, bytesKept, bytesSpilled, End, facts, Station, Reply, Verb}
-use Rattle.joined.proofs.Words.{allocate-cases, bidNumber, close-cases, confirmed-cases, pace-cases, read-cases, send-cases, spilledRu, TakeAsked}
-use Rattle.joined.proofs.Words.{Lane, normal, acts, takes, Acted, Took}
+use Rattle.joined.proofs.JoinedWords.{ℕ, eq-eqb, eqb, Bool, true, false, not, cond, List, [], _∷_, _++_, append-nil, _≡_, refl, sym, ap, _∙_, never}
+use Rattle.joined.proofs.JoinedWords.{on, left, or-right, beginsBracket, ChainEnd, Continues, Last, Follows, Header, fixedRu, bidRu, unitOf, numberIn}
+use Rattle.joined.proofs.JoinedWords.{paced, confirmationFits, isFirstSpeaker, isBidder, isReset, isReceive, isNothing, isSend, Control, Role}
+use Rattle.joined.proofs.JoinedWords.{FirstSpeaker, Bidder, WhatReceived, send-is, afterLast, afterOwed, markOf, beginOf, closed, spilled}
+use Rattle.joined.proofs.JoinedWords.{confirmationMade, dataTaken, requestTaken, requestMade, nextNumber, bidMade, lastMade, bytesRead, headerTaken}
+use Rattle.joined.proofs.JoinedWords.{ruTaken, dataJoined, bidAnswered, creditRaised, recordGood, dataHeader, heldBytes, bytesKept, bytesSpilled, End}
+use Rattle.joined.proofs.JoinedWords.{facts, Station, Reply, Verb, allocate-cases, bidNumber, close-cases, confirmed-cases, pace-cases, read-cases}
+use Rattle.joined.proofs.JoinedWords.{send-cases, spilledRu, TakeAsked, Lane, normal, acts, takes, Acted, Took}
 use Rattle.unit.specs.Ru.{positiveRu, negativeRu}
 use Rattle.header.specs.declared.Header.the-variants.{Data, Bid, PositiveBidResponse, NegativeBidResponse, Confirmation, PacingResponse}
 use Rattle.control.specs.Questions.{mayAllocate, maySend}
@@ -20,11 +20,14 @@ use Rattle.sides.specs.declared.Receiving.{Receiving}
 use Rattle.joined.proofs.LineAutomaton.{ok, goes}
 use Rattle.bools.proofs.Tests.{right, not-true}
 use Rattle.joined.proofs.TwoLines.{other, led-as, led-past, led-took, led-moved, led-still}
-use Rattle.joined.proofs.Floor.{Floor, reset, sendBB, send, receive, afterMarkFloor, floorAt, floorOf, isResetFloor, dataMoves, afterWait, confirmedFloor, Floors, nothing-mark, sentFloor, quiet-sending, sent-moves, sent-partners, afterOwe, confirmed-moves, confirmed-floor, last-floor, mark-floor, bidder-speaks, state-is}
+use Rattle.joined.proofs.Floor.{Floor, reset, sendBB, send, receive, afterMarkFloor, floorAt, floorOf, isResetFloor, dataMoves, afterWait}
+use Rattle.joined.proofs.Floor.{confirmedFloor, Floors, nothing-mark, sentFloor, quiet-sending, sent-moves, sent-partners, afterOwe, confirmed-moves}
+use Rattle.joined.proofs.Floor.{confirmed-floor, last-floor, mark-floor, bidder-speaks, state-is}
 use Rattle.joined.proofs.Bids.{Pending, none, some, bidAt, bidOf, bidMoves, bidOn, Bids, bids-moved, bid-speaker, bid-off}
 use Rattle.calls.proofs.CallCases.{kind-cases, tookKind}
 use Rattle.joined.proofs.CallsOnLanes.{Laned, LanedTake}
-use Rattle.joined.proofs.FloorsAndBids.{Order, floor-in, due-outside, due-speaks, no-mark, data-moves, bid-moves, grant-moves, bid-answered, confirmation-moves, order-fits-confirmation}
+use Rattle.joined.proofs.FloorsAndBids.{Order, floor-in, due-outside, due-speaks, no-mark, data-moves, bid-moves, grant-moves, bid-answered}
+use Rattle.joined.proofs.FloorsAndBids.{confirmation-moves, order-fits-confirmation}
 
 -- an end after a call, its role and its partner as they were
 order-with : {r : Role} {e e′ f : End} {line line′ back back′ : List (List ℕ)} → e′ .control .role ≡ e .control .role

@@ -1,4 +1,4 @@
-mod Words
+mod JoinedWords
 pub mod CallsOnLanes
 pub mod Confluence
 pub mod EveryList

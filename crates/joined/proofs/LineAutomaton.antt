@@ -1,6 +1,6 @@
 -- An automaton over the units of a line: it goes on from unit to unit, or is stuck at one.
 -- Assumes nothing.
-use Rattle.joined.proofs.Words.{ℕ, Bool, true, false, cond, List, [], _∷_, _++_, _≡_, refl, sym, subst, arith, never}
+use Rattle.joined.proofs.JoinedWords.{ℕ, Bool, true, false, cond, List, [], _∷_, _++_, _≡_, refl, sym, subst, arith, never}
 
 pub data Ran (S : Type 0) : Type 0 where
   ok : S → Ran S

@@ -1,8 +1,8 @@
 -- The oldest unit of a line is never refused as a breach of protocol: every question from 20 on is answered yes.
 -- Assumes nothing.
-use Rattle.joined.proofs.Words.{ℕ, eqb, leb, length, Bool, true, false, not, _&&_, List, _∷_, _≡_, refl, ap, _∙_, left, both, isFirst, headerGood}
-use Rattle.joined.proofs.Words.{Header, ruGood, RU-START, numberIn, headerIn, hasCredit, paced, agree, isNothing, Role, nextNumber, headerTaken}
-use Rattle.joined.proofs.Words.{ruTaken, takeRefusal, recordGood, facts, Station, sortOf, isPacing, bitOf, isBreach}
+use Rattle.joined.proofs.JoinedWords.{ℕ, eqb, leb, length, Bool, true, false, not, _&&_, List, _∷_, _≡_, refl, ap, _∙_, left, both, isFirst}
+use Rattle.joined.proofs.JoinedWords.{headerGood, Header, ruGood, RU-START, numberIn, headerIn, hasCredit, paced, agree, isNothing, Role, nextNumber}
+use Rattle.joined.proofs.JoinedWords.{headerTaken, ruTaken, takeRefusal, recordGood, facts, Station, sortOf, isPacing, bitOf, isBreach}
 use Rattle.header.specs.declared.Header.the-variants.{Data, Bid, PositiveBidResponse, NegativeBidResponse, Confirmation, PacingResponse}
 use Rattle.answers.specs.Questions.{firstNo}
 use Rattle.end.specs.Record.{inboxLent, unitLent}

@@ -1,10 +1,10 @@
 -- What holds at one end by itself, whatever the other does: the places of the bytes given, taken and read, the credit count, and what reads say.
 -- Assumes nothing.
-use Rattle.joined.proofs.Words.{ℕ, _+_, _*_, _≤_, _<_, eqb, take, Bool, true, false, _&&_, List, [], _∷_, _++_, append-nil, _≡_, refl, sym, ap, _∙_}
-use Rattle.joined.proofs.Words.{arith, isWhole, ended, thenWalk, walk, Position, Walked, walk-append, walk-prefix, Through, same-position, credit}
-use Rattle.joined.proofs.Words.{isSend, WhatReceived, readRefused, accepted, Station, Reply, Verb, count, isPacingResponse, requestsAmong, Lane}
-use Rattle.joined.proofs.Words.{normal, onNormal, Log, bytesAccepted, bytesInInbox, requestsMade, pacingResponsesTaken, breaches, badReads}
-use Rattle.joined.proofs.Words.{CompleteIsRight, NoneCrosses, isBreach, took, acted, Lines}
+use Rattle.joined.proofs.JoinedWords.{ℕ, _+_, _*_, _≤_, _<_, eqb, take, Bool, true, false, _&&_, List, [], _∷_, _++_, append-nil, _≡_, refl, sym, ap}
+use Rattle.joined.proofs.JoinedWords.{_∙_, arith, isWhole, ended, thenWalk, walk, Position, Walked, walk-append, walk-prefix, Through, same-position}
+use Rattle.joined.proofs.JoinedWords.{credit, isSend, WhatReceived, readRefused, accepted, Station, Reply, Verb, count, isPacingResponse}
+use Rattle.joined.proofs.JoinedWords.{requestsAmong, Lane, normal, onNormal, Log, bytesAccepted, bytesInInbox, requestsMade, pacingResponsesTaken}
+use Rattle.joined.proofs.JoinedWords.{breaches, badReads, CompleteIsRight, NoneCrosses, isBreach, took, acted, Lines}
 use native.Mathlib.Nat.{zero-add}
 use borrow.Author.Tests.{ne-eqb}
 use Rattle.logical_record.specs.Positions.{start, isBetween}

@@ -1,16 +1,16 @@
 -- Every call keeps what holds at its end by itself.
 -- Assumes nothing.
-use Rattle.joined.proofs.Words.{ℕ, _+_, _*_, _≤_, min, _<_, eqb, length, take, drop, take-take, length-take-le, Bool, true, false, not, _||_, List}
-use Rattle.joined.proofs.Words.{[], _∷_, _≡_, refl, sym, ap, _∙_, subst, min-le-right, le-trans, arith, front, isWhole, ended, thenWalk, walk}
-use Rattle.joined.proofs.Words.{placeOr, Position, Walked, walk-append, walk-prefix, Through, Continues, Last, Follows, Stay, ChangeDirection}
-use Rattle.joined.proofs.Words.{EndBracket, marks, fixedRu, bidRu, RU-START, unitOf, numberIn, paced, advanced, answered, credit, isSend, bidAnswer}
-use Rattle.joined.proofs.Words.{closed, spilled, dataTaken, readRefused, accepted, requestTaken, requestMade, nextNumber, restBytes, bidMade}
-use Rattle.joined.proofs.Words.{lastMade, bytesRead, recordRest, copyCount, headerTaken, ruTaken, dataJoined, bidAnswered, creditRaised, takeRefusal}
-use Rattle.joined.proofs.Words.{dataHeader, heldBytes, bytesKept, bytesSpilled, facts, Station, Reply, Verb, count, isPacingResponse, requestsAmong}
-use Rattle.joined.proofs.Words.{allocate-cases, bidNumber, close-cases, confirmed-cases, pace-cases, read-cases, send-cases, spilledRu, take-cases}
-use Rattle.joined.proofs.Words.{ReadAsked, readCount, control-within, TakeAsked, allocate-moves, mark-moves, Sort, sortOf, isAsking, isPacing}
-use Rattle.joined.proofs.Words.{answer-sort, Lane, normal, acts, takes, onNormal, Log, bytesInInbox, isBreach, Acted, Took, took, acted}
-use native.Mathlib.Nat.{le-min}
+use Rattle.joined.proofs.JoinedWords.{ℕ, _+_, _*_, _≤_, _<_, eqb, length, take, drop, take-take, length-take-le, Bool, true, false, not, _||_}
+use Rattle.joined.proofs.JoinedWords.{List, [], _∷_, _≡_, refl, sym, ap, _∙_, arith, front, isWhole, ended, thenWalk}
+use Rattle.joined.proofs.JoinedWords.{walk, placeOr, Position, Walked, walk-append, walk-prefix, Through, Continues, Last, Follows, Stay}
+use Rattle.joined.proofs.JoinedWords.{ChangeDirection, EndBracket, marks, fixedRu, bidRu, RU-START, unitOf, numberIn, paced, advanced, answered}
+use Rattle.joined.proofs.JoinedWords.{credit, isSend, bidAnswer, closed, spilled, dataTaken, readRefused, accepted, requestTaken, requestMade}
+use Rattle.joined.proofs.JoinedWords.{nextNumber, restBytes, bidMade, lastMade, bytesRead, recordRest, copyCount, headerTaken, ruTaken, dataJoined}
+use Rattle.joined.proofs.JoinedWords.{bidAnswered, creditRaised, takeRefusal, dataHeader, heldBytes, bytesKept, bytesSpilled, facts, Station, Reply}
+use Rattle.joined.proofs.JoinedWords.{Verb, count, isPacingResponse, requestsAmong, allocate-cases, bidNumber, close-cases, confirmed-cases}
+use Rattle.joined.proofs.JoinedWords.{pace-cases, read-cases, send-cases, spilledRu, take-cases, ReadAsked, readCount, control-within, TakeAsked}
+use Rattle.joined.proofs.JoinedWords.{allocate-moves, mark-moves, Sort, sortOf, isAsking, isPacing, answer-sort, Lane, normal, acts, takes, onNormal}
+use Rattle.joined.proofs.JoinedWords.{Log, bytesInInbox, isBreach, Acted, Took, took, acted}
 use borrow.Author.Tests.{leb-true}
 use Rattle.logical_record.proofs.Ends.{Inside}
 use Rattle.logical_record.proofs.Rests.{rest-some, rest-walks, rest-inside, RestIs}
@@ -100,14 +100,12 @@ module _ (s : Station) (xs : Log) (l : Local (valuesOf s) xs) where
       let some : 0 < restBytes (recordRest (s .end) (s .inbox)) =
       rest-some (s .end .receiving .read) (bytesInInbox s) (restBytes (recordRest (s .end) (s .inbox))) (facts (s .end) (a .good) .receiving .read)
       (omega (arith, long, held)) (bytes-of (recordRest (s .end) (s .inbox)) (a .rest)) in
-      le-min (a .least) (le-min held some)
+      omega (arith, a .least, held, some)
 
   -- a read copies no more than the rest of the current record
   count-rest : (buffer : List ℕ) → readCount s buffer ≤ restBytes (recordRest (s .end) (s .inbox))
   unfolding copyCount
-  count-rest buffer =
-      le-trans (min-le-right (length buffer) (min (s .end .receiving .held) (restBytes (recordRest (s .end) (s .inbox)))))
-      (min-le-right (s .end .receiving .held) (restBytes (recordRest (s .end) (s .inbox))))
+  count-rest buffer = omega arith
 
   -- so that fewer bytes than it copies do not end the record
   inside : (buffer : List ℕ) → ReadAsked s buffer → (n : ℕ) → 0 < n → n < readCount s buffer
@@ -136,7 +134,7 @@ module _ (s : Station) (xs : Log) (l : Local (valuesOf s) xs) where
       let k = readCount s buffer in
       let t : Through (s .end .receiving .read) (take k (s .inbox)) (drop k (bytesInInbox s)) (s .end .receiving .taken) =
       walk-prefix (s .end .receiving .read) (s .end .receiving .taken) (take k (s .inbox)) (drop k (bytesInInbox s))
-      (subst (λ (bs : List ℕ). walk (s .end .receiving .read) bs ≡ At (s .end .receiving .taken)) (read-parts s buffer) (l .inbox)) in
+      (rw (← read-parts s buffer) (l .inbox)) in
       local-read buffer k (take k (s .inbox)) (drop k (bytesInInbox s)) (front (take k (s .inbox)) buffer) _ l (some-copied buffer a h)
       (read-copied s buffer a) (read-parts s buffer)
       (at-place (s .end .receiving .read) (t .middle) (walk (s .end .receiving .read) (take k (s .inbox))) (t .first))
@@ -144,8 +142,7 @@ module _ (s : Station) (xs : Log) (l : Local (valuesOf s) xs) where
       (λ a h m.
       local-act (Verb.receive buffer) (accepted 0) (s .end .control .mark) buffer (onNormal []) _ l here
       (λ n. l .whole (mark-moves (s .end .control) (control-within (s .end) (a .good)) m .send n))
-      refl
-      (none-made (credit (s .end .sending .window))) refl)
+      refl (none-made (credit (s .end .sending .window))) refl)
 
   pub local-acts : (v : Verb) → After v (acts s v)
   unfolding acts bytesKept bytesSpilled bidMade requestMade advanced spilled answered

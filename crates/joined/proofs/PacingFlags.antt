@@ -1,8 +1,8 @@
 -- Pacing between two joined ends: the flag of a pacing request that is unanswered, at the sending end, and of an answer that is owed, at the receiving end, as
 -- an automaton over the units that wait for an end.
 -- Assumes nothing.
-use Rattle.joined.proofs.Words.{ℕ, Bool, true, false, not, cond, _||_, List, [], _∷_, _++_, _≡_, refl, sym, subst, never, cases, Header, unitOf}
-use Rattle.joined.proofs.Words.{agree, headerTaken, Sort, sortOf, isPacing, bitOf}
+use Rattle.joined.proofs.JoinedWords.{ℕ, Bool, true, false, not, cond, _||_, List, [], _∷_, _++_, _≡_, refl, sym, subst, never, cases, Header, unitOf}
+use Rattle.joined.proofs.JoinedWords.{agree, headerTaken, Sort, sortOf, isPacing, bitOf}
 use Rattle.joined.proofs.LineAutomaton.{Ran, ok, stuck, stuck≢ok, ok-is}
 use Rattle.joined.proofs.TwoLines.{Automaton, Led, led-nowhere, led-flip, led-past, led-took, led-goes, led-moved}
 

@@ -1,11 +1,11 @@
 -- Every call keeps the pacing flags of two joined ends in step.
 -- Assumes nothing.
-use Rattle.joined.proofs.Words.{ℕ, Bool, true, false, not, cond, _||_, List, [], _∷_, _++_, append-nil, _≡_, refl, ap, left, ChainEnd, Continues}
-use Rattle.joined.proofs.Words.{Last, Header, fixedRu, bidRu, unitOf, numberIn, hasCredit, paced, advanced, answered, bidAnswer, requestTaken}
-use Rattle.joined.proofs.Words.{requestMade, nextNumber, bidMade, lastMade, bytesRead, headerTaken, dataJoined, bidAnswered, creditRaised}
-use Rattle.joined.proofs.Words.{dataHeader, heldBytes, bytesKept, bytesSpilled, Station, Reply, Verb, allocate-cases, bidNumber, close-cases}
-use Rattle.joined.proofs.Words.{confirmed-cases, pace-cases, read-cases, send-cases, spilledRu, take-cases, Sort, sortOf, isPacing, bitOf}
-use Rattle.joined.proofs.Words.{answer-sort, Lane, normal, acts, takes, Acted, Took}
+use Rattle.joined.proofs.JoinedWords.{ℕ, Bool, true, false, not, cond, _||_, List, [], _∷_, _++_, append-nil, _≡_, refl, ap, left, ChainEnd, Continues}
+use Rattle.joined.proofs.JoinedWords.{Last, Header, fixedRu, bidRu, unitOf, numberIn, hasCredit, paced, advanced, answered, bidAnswer, requestTaken}
+use Rattle.joined.proofs.JoinedWords.{requestMade, nextNumber, bidMade, lastMade, bytesRead, headerTaken, dataJoined, bidAnswered, creditRaised}
+use Rattle.joined.proofs.JoinedWords.{dataHeader, heldBytes, bytesKept, bytesSpilled, Station, Reply, Verb, allocate-cases, bidNumber, close-cases}
+use Rattle.joined.proofs.JoinedWords.{confirmed-cases, pace-cases, read-cases, send-cases, spilledRu, take-cases, Sort, sortOf, isPacing, bitOf}
+use Rattle.joined.proofs.JoinedWords.{answer-sort, Lane, normal, acts, takes, Acted, Took}
 use Rattle.header.specs.declared.Header.the-variants.{Bid, Confirmation, PacingResponse}
 use Rattle.joined.proofs.CallsOnLanes.{Laned, LanedTake}
 use Rattle.pacing.proofs.Windows.{no-flag-at-start}

@@ -1,11 +1,11 @@
 -- One way between two joined ends, as a stream of requests: numbers, positions in the window, chains and record places. What the receiving end has
 -- taken, led on by the units on the line, is what the sending end has made.
 -- Assumes nothing.
-use Rattle.joined.proofs.Words.{ℕ, le-leb, eq-eqb, eqb, leb, length, Bool, true, false, not, cond, _&&_, _||_, List, [], _∷_, _++_, _≡_, refl, sym}
-use Rattle.joined.proofs.Words.{ap, _∙_, subst, arith, never, isWhole, thenWalk, walk, placeOr, Position, Walked, walk-append, walk-prefix, Through}
-use Rattle.joined.proofs.Words.{isFirst, headerGood, ChainEnd, DataHeader, Header, marks, fixedRu, ruGood, RU-START, unitOf, numberIn, headerIn}
-use Rattle.joined.proofs.Words.{unit-number, agree, nextNumber, headerTaken, ruTaken, Station, Sort, sortOf, isAsking, taken-header}
-use Rattle.joined.proofs.Words.{bytesInSendBuffer}
+use Rattle.joined.proofs.JoinedWords.{ℕ, le-leb, eq-eqb, eqb, leb, length, Bool, true, false, not, cond, _&&_, _||_, List, [], _∷_, _++_, _≡_, refl}
+use Rattle.joined.proofs.JoinedWords.{sym, ap, _∙_, subst, arith, never, isWhole, thenWalk, walk, placeOr, Position, Walked, walk-append, walk-prefix}
+use Rattle.joined.proofs.JoinedWords.{Through, isFirst, headerGood, ChainEnd, DataHeader, Header, marks, fixedRu, ruGood, RU-START, unitOf, numberIn}
+use Rattle.joined.proofs.JoinedWords.{headerIn, unit-number, agree, nextNumber, headerTaken, ruTaken, Station, Sort, sortOf, isAsking, taken-header}
+use Rattle.joined.proofs.JoinedWords.{bytesInSendBuffer}
 use Rattle.logical_record.specs.declared.Walked.the-variants.{At}
 use Rattle.header.specs.Header.{isLast}
 use Rattle.cells.specs.Equal.{sameBytes}

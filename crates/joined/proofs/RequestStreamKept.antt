@@ -1,14 +1,14 @@
 -- Every call keeps the streams in step, as the sending end and as the receiving end.
 -- Assumes nothing.
-use Rattle.joined.proofs.Words.{ℕ, _+_, _-_, _≤_, _<_, le-leb, eqb, leb, length, take, drop, length-drop, length-take-le, Bool, true, false, not}
-use Rattle.joined.proofs.Words.{cond, _&&_, _||_, List, [], _∷_, _++_, append-nil, _≡_, refl, sym, ap, _∙_, subst, arith, left, front, written}
-use Rattle.joined.proofs.Words.{isWhole, thenWalk, walk, placeOr, Position, same-position, Continues, Last, DataHeader, Follows, marks, ruGood}
-use Rattle.joined.proofs.Words.{unitOf, numberIn, paced, advanced, answered, isReset, bidAnswer, beginOf, closed, spilled, confirmationMade}
-use Rattle.joined.proofs.Words.{dataTaken, requestTaken, requestMade, nextNumber, bidMade, lastMade, bytesRead, headerTaken, ruTaken, dataJoined}
-use Rattle.joined.proofs.Words.{bidAnswered, creditRaised, dataHeader, heldBytes, bytesKept, bytesSpilled, gone, facts, Station, Reply, Verb}
-use Rattle.joined.proofs.Words.{allocate-cases, close-cases, confirmed-cases, pace-cases, read-cases, send-cases, spilledRu, take-cases, SendAsked}
-use Rattle.joined.proofs.Words.{spilledUnit, control-within, allocate-moves, mark-moves, Sort, sortOf, answer-sort, Lane, normal, acts, takes, Acted}
-use Rattle.joined.proofs.Words.{Took}
+use Rattle.joined.proofs.JoinedWords.{ℕ, _+_, _-_, _≤_, _<_, le-leb, eqb, leb, length, take, drop, length-drop, length-take-le, Bool, true, false, not}
+use Rattle.joined.proofs.JoinedWords.{cond, _&&_, _||_, List, [], _∷_, _++_, append-nil, _≡_, refl, sym, ap, _∙_, subst, arith, left, front, written}
+use Rattle.joined.proofs.JoinedWords.{isWhole, thenWalk, walk, placeOr, Position, same-position, Continues, Last, DataHeader, Follows, marks, ruGood}
+use Rattle.joined.proofs.JoinedWords.{unitOf, numberIn, paced, advanced, answered, isReset, bidAnswer, beginOf, closed, spilled, confirmationMade}
+use Rattle.joined.proofs.JoinedWords.{dataTaken, requestTaken, requestMade, nextNumber, bidMade, lastMade, bytesRead, headerTaken, ruTaken, dataJoined}
+use Rattle.joined.proofs.JoinedWords.{bidAnswered, creditRaised, dataHeader, heldBytes, bytesKept, bytesSpilled, gone, facts, Station, Reply, Verb}
+use Rattle.joined.proofs.JoinedWords.{allocate-cases, close-cases, confirmed-cases, pace-cases, read-cases, send-cases, spilledRu, take-cases}
+use Rattle.joined.proofs.JoinedWords.{SendAsked, spilledUnit, control-within, allocate-moves, mark-moves, Sort, sortOf, answer-sort, Lane, normal}
+use Rattle.joined.proofs.JoinedWords.{acts, takes, Acted, Took, cases, isFirst, Continued, First, FirstWithBracket, Control}
 use borrow.Author.Tests.{leb-false, eqb-false}
 use lib.ListN.{length-append}
 use Rattle.header.specs.declared.Header.the-variants.{Data, Confirmation, PacingResponse}
@@ -17,10 +17,10 @@ use Rattle.end.specs.Close.{nothingGoes}
 use Rattle.calls.proofs.CallCases.{CloseAsked}
 use Rattle.control.proofs.States.{reset-not-send}
 use Rattle.joined.proofs.CallsOnLanes.{Laned, LanedTake}
-use Rattle.joined.proofs.Words.{cases, isFirst, Continued, First, FirstWithBracket, Control}
 use Rattle.bools.proofs.Cases.{split}
 use Rattle.joined.proofs.BytesInOrder.{held-more, held-rest, spilled-parts}
-use Rattle.joined.proofs.RequestStream.{Outside, Inside, outsideOf, insideOf, Stream, holding, stream-keep, stream-data, stream-bid, stream-response, taken, stream-take}
+use Rattle.joined.proofs.RequestStream.{Outside, Inside, outsideOf, insideOf, Stream, holding, stream-keep, stream-data, stream-bid, stream-response}
+use Rattle.joined.proofs.RequestStream.{taken, stream-take}
 use Rattle.control.proofs.Within.{closed-outside-send}
 
 -- ---- one field at a time

@@ -1,7 +1,7 @@
 -- What two joined ends hold of each other: a state at each end, led on by the units that wait for it, until the two states fit.
 -- Assumes nothing.
-use Rattle.joined.proofs.Words.{ℕ, Bool, true, cond, List, [], _∷_, _++_, _≡_, refl, sym, ap, _∙_, subst, Header, unitOf, numberIn, unit-number}
-use Rattle.joined.proofs.Words.{Role, FirstSpeaker, Bidder, headerTaken, taken-header}
+use Rattle.joined.proofs.JoinedWords.{ℕ, Bool, true, cond, List, [], _∷_, _++_, _≡_, refl, sym, ap, _∙_, subst, Header, unitOf, numberIn, unit-number}
+use Rattle.joined.proofs.JoinedWords.{Role, FirstSpeaker, Bidder, headerTaken, taken-header}
 use Rattle.joined.proofs.LineAutomaton.{Ran, ok, stuck, went, goes, Leads, leads-nowhere, leads-more, parted, leads-less, inert}
 
 -- the partner's role

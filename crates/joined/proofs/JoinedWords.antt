@@ -1,6 +1,6 @@
 -- The words of this crate's proofs, passed on from where they are defined, so that a proof file lists them and not their homes.
 -- Assumes nothing.
-pub use Prim.Native.Nat.{ℕ, _+_, _*_, _-_, _≤_, min, _<_}
+pub use Prim.Native.Nat.{ℕ, _+_, _*_, _-_, _≤_, _<_}
 pub use borrow.Author.Tests.{le-leb, eq-eqb}
 pub use lib.Dec.{eqb, leb}
 pub use lib.ListN.{length, take, drop, length-drop}
@@ -9,7 +9,7 @@ pub use mathlib.Core.Bool.{Bool, true, false, not, cond, _&&_, _||_}
 pub use mathlib.Core.HLevel.{Discrete}
 pub use mathlib.Core.List.{List, [], _∷_, _++_, append-nil}
 pub use mathlib.Core.Path.{_≡_, refl, sym, ap, _∙_, subst, fun-ext}
-pub use native.Mathlib.Nat.{min-le-right, le-trans}
+pub use native.Mathlib.Nat.{le-trans}
 pub use native.Mathlib.Omega.{arith}
 pub use Rattle.bools.proofs.{Cases.never, Cases.cases, Cases.on, Tests.left, Tests.both, Tests.or-right}
 pub use Rattle.cells.specs.{Cells.front, Cells.written}
