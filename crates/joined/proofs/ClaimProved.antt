@@ -1,6 +1,7 @@
 -- The claim over every list of calls, composed from its parts.
 -- Assumes nothing.
 use Rattle.joined.proofs.JoinedWords.{ℕ, length, List, [], _∷_, _++_, _≡_, refl, sym, ap, _∙_, subst, arith, thenWalk, credit, Role, FirstSpeaker}
+use Prim.Native.Nat.{_+_, _*_}
 use Rattle.joined.proofs.JoinedWords.{Bidder, send-is, Session, freshEnd, Station, Reply, Verb, opened-is, Pair, Lane, normal, acts, takes, sameLane}
 use Rattle.joined.proofs.JoinedWords.{Buffers, OpeningAccepted, openedWith, openedBoth, bytesInSendBuffer, Log, bytesAccepted, bytesOnLine}
 use Rattle.joined.proofs.JoinedWords.{bytesInInbox, requestsMade, pacingResponsesTaken, breaches, badReads, CompleteIsRight, NoneCrosses, At, Lines}
@@ -218,6 +219,9 @@ every-list naming s t b c l j =
 
 -- ---- the claim
 
+counted-as : (requests credits size w n : ℕ) → size ≡ w → requests + credits ≡ size * (1 + n) → requests + credits ≡ w * (1 + n)
+counted-as requests credits size w n e h = h ∙ ap (λ (k : ℕ). k * (1 + n)) e
+
 joint-of : (s t : Session) (p : Pair)
     → Held FirstSpeaker (s .outwindow) (t .outwindow) (p .one .end) (p .one .log) (p .two .waiting) (p .one .waiting) (p .two .end) (p .two .log)
     → Joint s t p
@@ -228,8 +232,8 @@ joint-of s t p i =
       no-breach-two = i .there .local .no-breach;
       bytes-out = i .out .carried .bytes;
       bytes-back = i .into .carried .bytes;
-      credit-one = rw (← i .here .size) (i .here .local .counted);
-      credit-two = rw (← i .there .size) (i .there .local .counted);
+      credit-one = counted-as _ _ _ _ _ (i .here .size) (i .here .local .counted);
+      credit-two = counted-as _ _ _ _ _ (i .there .size) (i .there .local .counted);
     }
 
 pub proved : Claim

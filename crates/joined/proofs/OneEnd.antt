@@ -76,7 +76,7 @@ local-act {v} {xs} verb a m buffer us w l g h r c b =
     record {
       given = walk-more (bytesAccepted xs) (given verb (a .refusal)) (v .given) (w .given) (l .given) g;
       whole = h;
-      read = rw (append-nil (bytesRead xs), r) (l .read);
+      read = ap (walk start) (append-nil (bytesRead xs)) ∙ rw r (l .read);
       inbox = rw r (l .inbox);
       counted = rw r (let q = l .counted in omega (arith, q, c));
       complete = (refl, l .complete);
