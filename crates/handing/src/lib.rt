@@ -8,11 +8,10 @@ use image::writing::write_image;
 use image_parts::codes::flag_code;
 use image_parts::codes::mark_code;
 ghost use mathlib.Core.Path.{_≡_};
-ghost use Prim.Native.Nat.{ℕ, _<_};
-ghost use mathlib.Core.List.{List};
+ghost use Prim.Native.Nat.{_<_};
 ghost use lib.ListN.{length};
 ghost use Rattle.image.specs.Image.{IMAGE};
-ghost use Rattle.handing.specs.Handing.{answerNumbers, readNumbers, handed, handedOut, handedBack};
+ghost use Rattle.handing.specs.Handing.{answerNumbers, readNumbers, refusalNumbers, handed, handedOut};
 
 // A length as a number of 32 bits. The end's units are at most 1,029 bytes long, and a read copies at most 65,535.
 fn word(n: usize) -> u32
@@ -75,7 +74,7 @@ pub fn hand_out_read(done: ReadDone, image: &mut [u8], answer: &mut [u32; 7]) ->
 
 // An image that holds no record: the answer is its refusal number, and no cell is changed.
 pub fn refuse_image(number: u8, answer: &mut [u32; 7]) -> u32
-    ensures { λ r. ⌜ ((image : List ℕ) → handed r (now (answer .exit)) image ≡ handedBack number image) ⌝ }
+    ensures { λ r. ⌜ (r ≡ number) × (now (answer .exit) ≡ refusalNumbers number) ⌝ }
 {
     let refusal = number as u32;
     *answer = [refusal, 0, 0, 0, 0, 0, 0];

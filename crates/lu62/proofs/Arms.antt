@@ -1,90 +1,108 @@
--- The two arms of every call on an image: it holds a record, and the call is made on it; or it is refused.
+-- The two arms of every call on an image: it holds a record, and the call is made on it; or it is refused. The proofs of the calls search for these laws.
 -- Assumes nothing.
 use mathlib.Core.Path.{_≡_, sym, ap, subst, _∙_}
-use mathlib.Core.List.{List, []}
+use mathlib.Core.List.{List}
 use Prim.Native.Nat.{ℕ, _<_}
+use native.Mathlib.Omega.{arith}
 use lib.ListN.{length}
 use Rattle.header.specs.declared.HeaderBytes.{HeaderBytes}
 use Rattle.end.specs.Outcome.{Made, Sent, Taken, Copied}
 use Rattle.end.specs.RuleNamed.{NamesBroken}
 use Rattle.end.specs.Results.{madeBy, sentBy, takenBy, copiedBy}
+use Rattle.end.specs.ReceiveUnit.{receiveUnit}
 use Rattle.end.specs.declared.End.{End}
 use Rattle.end.specs.declared.Done.{Done}
 use Rattle.end.specs.declared.ReadDone.{ReadDone}
-use Rattle.image_parts.specs.Parts.{byteAt}
 use Rattle.image.specs.Image.{IMAGE, imageRead}
 use Rattle.image.specs.declared.ImageRead.{ImageRead}
 use Rattle.image.specs.declared.ImageRead.the-variants.{Record, Refused}
-use Rattle.image.proofs.WhatIsRead.{record-known, sizes-small}
-use Rattle.handing.specs.Handing.{answerNumbers, readNumbers, Handed, handed, handedOut, handedBack, Left, left, onImage}
+use Rattle.image.proofs.WhatIsRead.{record-known, refused-known}
+use Rattle.handing.specs.Handing.{answerNumbers, readNumbers, refusalNumbers, Handed, handed, handedOut, Left, left, onImage}
 use Rattle.lu62.specs.Calls.{ruleIn, madeOut, sentOut, takenOut, copiedOut}
-use Rattle.lu62.proofs.Sizes.{WORD}
+use Rattle.lu62.proofs.Sizes.{WORD, allocate-small, confirmed-small, pace-small, close-small, send-small, take-small, read-small, count-small}
+
+-- ---- the image is refused, and the number returned is 4 or 5
 
 pub refused-arm : {Cells : Type 0} (image : List ℕ) (cells : Cells) (call : End → Left Cells) {read : ImageRead} {q r : ℕ} {answer : List ℕ}
-    → read ≡ imageRead image → read ≡ Refused q → ((i : List ℕ) → handed r answer i ≡ handedBack q i)
+    → read ≡ imageRead image → read ≡ Refused q → r ≡ q → answer ≡ refusalNumbers q
     → left (handed r answer image) cells ≡ onImage image cells call
-refused-arm image cells call {read} {q} {r} {answer} p s f = rw (← p, s, f image)
+refused-arm image cells call {read} {q} {r} {answer} p s n a = rw (← p, s, n, a)
 
--- the number returned is the image's
-pub refused-number : {q r : ℕ} {answer : List ℕ} → ((i : List ℕ) → handed r answer i ≡ handedBack q i) → r ≡ q
-refused-number {q} {r} {answer} f = ap (λ (x : Handed). x .returned) (f [])
+pub refused-names : (image : List ℕ) {read : ImageRead} {q r rule : ℕ} {header : HeaderBytes}
+    → read ≡ imageRead image → read ≡ Refused q → r ≡ q → r ≡ 21 → NamesBroken rule header
+refused-names image {read} {q} p s n h = absurd (let k = refused-known image q (sym p ∙ s) in omega arith)
 
--- the length of the unit made, from the call's promise
-pub made-unit : {d : Done} {after : List ℕ} {m : Made} → madeBy d after ≡ m → m .done .answer .unit < WORD → d .answer .unit < WORD
-made-unit {d} {after} {m} e h = subst (λ (x : Made). x .done .answer .unit < WORD) (sym e) h
+-- ---- the image holds a record
 
-pub sent-unit : {d : Done} {a b : List ℕ} {m : Sent} → sentBy d a b ≡ m → m .done .answer .unit < WORD → d .answer .unit < WORD
-sent-unit {d} {a} {b} {m} e h = subst (λ (x : Sent). x .done .answer .unit < WORD) (sym e) h
+pub whole : (image : List ℕ) {read : ImageRead} {e : End} → read ≡ imageRead image → read ≡ Record e → length image ≡ IMAGE
+whole image {read} {e} p s = record-known image e (sym p ∙ s) .0
 
-pub taken-unit : {d : Done} {a b : List ℕ} {m : Taken} → takenBy d a b ≡ m → m .done .answer .unit < WORD → d .answer .unit < WORD
-taken-unit {d} {a} {b} {m} e h = subst (λ (x : Taken). x .done .answer .unit < WORD) (sym e) h
+pub record-arm : {Cells : Type 0} (image : List ℕ) (cells : Cells) (call : End → Left Cells) {read : ImageRead} {e : End} {l : Left Cells}
+    → read ≡ imageRead image → read ≡ Record e → l ≡ call e → l ≡ onImage image cells call
+record-arm image cells call {read} {e} {l} p s h = rw (← p, s, h)
 
-pub copied-sizes : {d : ReadDone} {a b : List ℕ} {m : Copied} → copiedBy d a b ≡ m
-    → (m .done .answer .answer .unit < WORD) × (m .done .answer .copied < WORD) → (d .answer .answer .unit < WORD) × (d .answer .copied < WORD)
-copied-sizes {d} {a} {b} {m} e h = subst (λ (x : Copied). (x .done .answer .answer .unit < WORD) × (x .done .answer .copied < WORD)) (sym e) h
+-- what a call hands out, and the length of the unit made, from the call's promise
+module _ {d : Done} {after : List ℕ} {m : Made} (p : madeBy d after ≡ m) where
+  pub made-out : {h : Handed} → h ≡ handedOut (answerNumbers (d .answer)) (d .end) → left h after ≡ madeOut m
+  made-out {h} k = rw (← p, k)
 
-pub still-named : (header : HeaderBytes) (d : Done) {r : ℕ} {answer after : List ℕ}
-    → handed r answer after ≡ handedOut (answerNumbers (d .answer)) (d .end) → (d .answer .refusal ≡ 21 → NamesBroken (d .answer .rule) header)
-    → r ≡ 21 → NamesBroken (ruleIn answer) header
-still-named header d {r} {answer} {after} k f h =
-    subst (λ (rule : ℕ). NamesBroken rule header) (sym (ap (λ (x : Handed). ruleIn (x .answer)) k)) (f (sym (ap (λ (x : Handed). x .returned) k) ∙ h))
+  pub made-unit : m .done .answer .unit < WORD → d .answer .unit < WORD
+  made-unit h = subst (λ (x : Made). x .done .answer .unit < WORD) (sym p) h
 
-module _ (image : List ℕ) {read : ImageRead} {e : End} (p : read ≡ imageRead image) (s : read ≡ Record e) where
-  held-record : imageRead image ≡ Record e
-  held-record = sym p ∙ s
+module _ {d : Done} {send unit : List ℕ} {m : Sent} (p : sentBy d send unit ≡ m) where
+  pub sent-out : {h : Handed} → h ≡ handedOut (answerNumbers (d .answer)) (d .end) → left h (send, unit) ≡ sentOut m
+  sent-out {h} k = rw (← p, k)
 
-  pub whole : length image ≡ IMAGE
-  whole = record-known image e held-record .0
+  pub sent-unit : m .done .answer .unit < WORD → d .answer .unit < WORD
+  sent-unit h = subst (λ (x : Sent). x .done .answer .unit < WORD) (sym p) h
 
-  pub small : ((i : ℕ) → byteAt image i < 256) → (e .sending .held < 65536) × (e .sending .max < 65536) × (e .receiving .held < 65536)
-  small bytes = sizes-small image e bytes held-record
+module _ {d : ReadDone} {inbox buffer : List ℕ} {m : Copied} (p : copiedBy d inbox buffer ≡ m) where
+  pub copied-out : {h : Handed} → h ≡ handedOut (readNumbers (d .answer)) (d .end) → left h (inbox, buffer) ≡ copiedOut m
+  copied-out {h} k = rw (← p, k)
 
-  arm : {Cells : Type 0} (cells : Cells) (call : End → Left Cells) {l : Left Cells} → l ≡ call e → l ≡ onImage image cells call
-  arm cells call {l} h = rw (← p, s, h)
+  pub copied-unit : m .done .answer .answer .unit < WORD → d .answer .answer .unit < WORD
+  copied-unit h = subst (λ (x : Copied). x .done .answer .answer .unit < WORD) (sym p) h
 
-  pub made-arm : (unit : List ℕ) (call : End → Made) {d : Done} {after : List ℕ} {h : Handed}
-      → madeBy d after ≡ call e → h ≡ handedOut (answerNumbers (d .answer)) (d .end) → left h after ≡ onImage image unit (λ x. madeOut (call x))
-  made-arm unit call {d} {after} {h} m k = arm unit (λ x. madeOut (call x)) (rw (← m, k))
+  pub copied-count : m .done .answer .copied < WORD → d .answer .copied < WORD
+  copied-count h = subst (λ (x : Copied). x .done .answer .copied < WORD) (sym p) h
 
-  pub sent-arm : (send unit : List ℕ) (call : End → Sent) {d : Done} {a b : List ℕ} {h : Handed}
-      → sentBy d a b ≡ call e → h ≡ handedOut (answerNumbers (d .answer)) (d .end)
-      → left h (a, b) ≡ onImage image (send, unit) (λ x. sentOut (call x))
-  sent-arm send unit call {d} {a} {b} {h} m k = arm (send, unit) (λ x. sentOut (call x)) (rw (← m, k))
+pub taken-unit : {d : Done} {inbox unit : List ℕ} {m : Taken} → takenBy d inbox unit ≡ m → m .done .answer .unit < WORD → d .answer .unit < WORD
+taken-unit {d} {inbox} {unit} {m} p h = subst (λ (x : Taken). x .done .answer .unit < WORD) (sym p) h
 
-  pub taken-arm : (inbox unit : List ℕ) (call : End → Taken) {d : Done} {a b : List ℕ} {h : Handed}
-      → takenBy d a b ≡ call e → h ≡ handedOut (answerNumbers (d .answer)) (d .end)
-      → left h (a, b) ≡ onImage image (inbox, unit) (λ x. takenOut (call x))
-  taken-arm inbox unit call {d} {a} {b} {h} m k = arm (inbox, unit) (λ x. takenOut (call x)) (rw (← m, k))
+-- the rule named is the answer's third number
+module _ (d : Done) {r : ℕ} {answer after : List ℕ} (k : handed r answer after ≡ handedOut (answerNumbers (d .answer)) (d .end)) where
+  rule-is : d .answer .rule ≡ ruleIn answer
+  rule-is = sym (ap (λ (h : Handed). ruleIn (h .answer)) k)
 
-  -- the rule named is the answer's third number
-  pub naming-arm : (inbox unit : List ℕ) (call : ℕ → End → Taken) {d : Done} {a b : List ℕ} {r : ℕ} {answer after : List ℕ}
-      → takenBy d a b ≡ call (d .answer .rule) e → handed r answer after ≡ handedOut (answerNumbers (d .answer)) (d .end)
-      → left (handed r answer after) (a, b) ≡ onImage image (inbox, unit) (λ x. takenOut (call (ruleIn answer) x))
-  naming-arm inbox unit call {d} {a} {b} {r} {answer} {after} m k =
-      subst (λ (rule : ℕ). left (handed r answer after) (a, b) ≡ onImage image (inbox, unit) (λ x. takenOut (call rule x)))
-      (sym (ap (λ (h : Handed). ruleIn (h .answer)) k)) (taken-arm inbox unit (call (d .answer .rule)) m k)
+  pub taken-out : (e : End) (u was cells : List ℕ) {inbox unit : List ℕ} → takenBy d inbox unit ≡ receiveUnit (d .answer .rule) e u was cells
+      → left (handed r answer after) (inbox, unit) ≡ takenOut (receiveUnit (ruleIn answer) e u was cells)
+  taken-out e u was cells {inbox} {unit} p =
+      subst (λ (rule : ℕ). left (handed r answer after) (inbox, unit) ≡ takenOut (receiveUnit rule e u was cells)) rule-is (rw (← p, k))
 
-  pub copied-arm : (inbox buffer : List ℕ) (call : End → Copied) {d : ReadDone} {a b : List ℕ} {h : Handed}
-      → copiedBy d a b ≡ call e → h ≡ handedOut (readNumbers (d .answer)) (d .end)
-      → left h (a, b) ≡ onImage image (inbox, buffer) (λ x. copiedOut (call x))
-  copied-arm inbox buffer call {d} {a} {b} {h} m k = arm (inbox, buffer) (λ x. copiedOut (call x)) (rw (← m, k))
+  pub still-named : (header : HeaderBytes) → (d .answer .refusal ≡ 21 → NamesBroken (d .answer .rule) header) → r ≡ 21 → NamesBroken (ruleIn answer) header
+  still-named header f h = subst (λ (rule : ℕ). NamesBroken rule header) rule-is (f (sym (ap (λ (h : Handed). h .returned) k) ∙ h))
+
+pub ruleset arms = (
+  refused-arm,
+  refused-names,
+  whole,
+  record-arm,
+  made-out,
+  made-unit,
+  sent-out,
+  sent-unit,
+  copied-out,
+  copied-unit,
+  copied-count,
+  taken-unit,
+  taken-out,
+  still-named,
+  allocate-small,
+  confirmed-small,
+  pace-small,
+  close-small,
+  send-small,
+  take-small,
+  read-small,
+  count-small,
+)

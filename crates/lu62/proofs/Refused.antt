@@ -6,6 +6,7 @@ use mathlib.Core.Bool.{Bool, true, false}
 use mathlib.Core.List.{List, []}
 use Rattle.header.specs.declared.Follows.{Follows}
 use Rattle.header.specs.declared.Follows.the-variants.{Stay, ChangeDirection, EndBracket}
+use Rattle.end.specs.Outcome.{Made}
 use Rattle.end.specs.Allocate.{allocate}
 use Rattle.end.specs.SendData.{sendData}
 use Rattle.end.specs.Close.{close}
@@ -14,14 +15,14 @@ use Rattle.end.specs.Pace.{pace}
 use Rattle.end.specs.ReceiveUnit.{receiveUnit}
 use Rattle.end.specs.Receive.{receive}
 use Rattle.end.specs.declared.End.{End}
-use Rattle.calls.specs.Calls.{Station, Verb, called, taken}
+use Rattle.calls.specs.Calls.{Station, Verb, makes, called, taken}
 use Rattle.calls.proofs.Refusals.{refused-nothing, refused-buffer, refused-take-nothing}
 use Rattle.image.specs.Image.{imageOf, imageRead}
 use Rattle.image.specs.declared.ImageRead.{ImageRead}
 use Rattle.image.specs.declared.ImageRead.the-variants.{Record, Refused}
 use Rattle.image.proofs.RoundTrip.{read-is-written}
 use Rattle.handing.specs.Handing.{Left, byReading, onImage}
-use Rattle.lu62.specs.Calls.{madeOut, sentOut, takenOut, copiedOut, allocateOn, sendDataOn, flushOn, confirmOn, prepareToReceiveOn, deallocateOn, confirmedOn, paceOn, receiveUnitOn, receiveOn}
+use Rattle.lu62.specs.Calls.{madeOut, sentOut, takenOut, copiedOut, closeOn}
 use Rattle.lu62.specs.Claims.{Bytes, Untouched, RefusedChangesNothing}
 use Rattle.lu62.proofs.Sizes.{at}
 
@@ -36,28 +37,10 @@ on-image {Cells} image cells call b f = by (imageRead image) refl
 -- ---- each call, at a record: the law of all calls, read off its cells
 
 module _ (e : End) where
-  allocate-refused : (unit : List ℕ) → Untouched (imageOf e) unit (madeOut (allocate e unit))
-  unfolding called
-  allocate-refused unit n =
-      let h = refused-nothing (at e [] unit []) Verb.allocate n .0 in
-      (ap (λ (s : Station). imageOf (s .end)) h, ap (λ (s : Station). s .unit) h)
-
-  close-refused : (f : Follows) (b : Bool) (send unit : List ℕ) → Untouched (imageOf e) unit (madeOut (close f b e send unit))
-  unfolding called
-  close-refused f b send unit n =
-      let h = refused-nothing (at e send unit []) (Verb.close f b) n .0 in
-      (ap (λ (s : Station). imageOf (s .end)) h, ap (λ (s : Station). s .unit) h)
-
-  confirmed-refused : (unit : List ℕ) → Untouched (imageOf e) unit (madeOut (confirmed e unit))
-  unfolding called
-  confirmed-refused unit n =
-      let h = refused-nothing (at e [] unit []) Verb.confirmed n .0 in
-      (ap (λ (s : Station). imageOf (s .end)) h, ap (λ (s : Station). s .unit) h)
-
-  pace-refused : (unit : List ℕ) → Untouched (imageOf e) unit (madeOut (pace e unit))
-  unfolding called
-  pace-refused unit n =
-      let h = refused-nothing (at e [] unit []) Verb.pace n .0 in
+  -- a call that is lent the unit buffer, and the send buffer only to be read
+  made-refused : (send unit : List ℕ) (v : Verb) (m : Made) → called (at e send unit []) v ≡ makes (at e send unit []) m → Untouched (imageOf e) unit (madeOut m)
+  made-refused send unit v m p n =
+      let h = rw p at (refused-nothing (at e send unit []) v (rw p n) .0) in
       (ap (λ (s : Station). imageOf (s .end)) h, ap (λ (s : Station). s .unit) h)
 
   send-refused : (bytes send unit : List ℕ) → Untouched (imageOf e) (send, unit) (sentOut (sendData e bytes send unit))
@@ -80,22 +63,22 @@ module _ (e : End) where
       let b = refused-buffer s buffer n in
       (ap (λ (t : Station). imageOf (t .end)) h, λ i. (h i .inbox, b i))
 
+close-refused : (f : Follows) (c : Bool) (send image unit : List ℕ) → Bytes image → Untouched image unit (closeOn f c send image unit)
+unfolding called
+close-refused f c send image unit b = on-image image unit _ b (λ e. made-refused e send unit (Verb.close f c) (close f c e send unit) refl)
+
 pub refused-changes-nothing : RefusedChangesNothing
-unfolding allocateOn sendDataOn flushOn confirmOn prepareToReceiveOn deallocateOn confirmedOn paceOn receiveUnitOn receiveOn
+unfolding called
 refused-changes-nothing =
     record {
-      allocate = λ image unit b. on-image image unit (λ e. madeOut (allocate e unit)) b (λ e. allocate-refused e unit);
-      sendData = λ bytes image send unit b. on-image image (send, unit) (λ e. sentOut (sendData e bytes send unit)) b (λ e. send-refused e bytes send unit);
-      flush = λ send image unit b. on-image image unit (λ e. madeOut (close Stay false e send unit)) b (λ e. close-refused e Stay false send unit);
-      confirm = λ send image unit b. on-image image unit (λ e. madeOut (close Stay true e send unit)) b (λ e. close-refused e Stay true send unit);
-      prepareToReceive =
-          λ c send image unit b. on-image image unit (λ e. madeOut (close ChangeDirection c e send unit)) b (λ e. close-refused e ChangeDirection c send unit);
-      deallocate =
-          λ c send image unit b. on-image image unit (λ e. madeOut (close EndBracket c e send unit)) b (λ e. close-refused e EndBracket c send unit);
-      confirmed = λ image unit b. on-image image unit (λ e. madeOut (confirmed e unit)) b (λ e. confirmed-refused e unit);
-      pace = λ image unit b. on-image image unit (λ e. madeOut (pace e unit)) b (λ e. pace-refused e unit);
-      receiveUnit =
-          λ rule taken image inbox unit b. on-image image (inbox, unit) (λ e. takenOut (receiveUnit rule e taken inbox unit)) b
-          (λ e. take-refused e rule taken inbox unit);
-      receive = λ image inbox buffer b. on-image image (inbox, buffer) (λ e. copiedOut (receive e inbox buffer)) b (λ e. read-refused e inbox buffer);
+      allocate = λ image unit b. on-image image unit _ b (λ e. made-refused e [] unit Verb.allocate (allocate e unit) refl);
+      sendData = λ bytes image send unit b. on-image image (send, unit) _ b (λ e. send-refused e bytes send unit);
+      flush = close-refused Stay false;
+      confirm = close-refused Stay true;
+      prepareToReceive = close-refused ChangeDirection;
+      deallocate = close-refused EndBracket;
+      confirmed = λ image unit b. on-image image unit _ b (λ e. made-refused e [] unit Verb.confirmed (confirmed e unit) refl);
+      pace = λ image unit b. on-image image unit _ b (λ e. made-refused e [] unit Verb.pace (pace e unit) refl);
+      receiveUnit = λ rule taken image inbox unit b. on-image image (inbox, unit) _ b (λ e. take-refused e rule taken inbox unit);
+      receive = λ image inbox buffer b. on-image image (inbox, buffer) _ b (λ e. read-refused e inbox buffer);
     }

@@ -21,7 +21,6 @@ use Rattle.end.specs.Receive.{recordRest, copyCount, bytesRead, markRead, recei
 use Rattle.reading.specs.Reading.{restBytes}
 use Rattle.end.specs.declared.End.{End}
 use Rattle.end.specs.declared.Done.{Done}
-use Rattle.end.specs.declared.ReadDone.{ReadDone}
 use Rattle.calls.specs.Calls.{Station, Verb, Called, called, taken}
 use Rattle.calls.proofs.CallCases.{read-cases}
 use Rattle.calls.proofs.UnitSizes.{Fits, acts-fit, takes-fit}
@@ -69,18 +68,20 @@ pub take-small : (rule : ℕ) (e : End) (u inbox unit : List ℕ) → receiveUni
 unfolding taken
 take-small rule e u inbox unit = word _ _ (takes-fit (at e [] unit inbox) (λ x. rule) u)
 
--- a read makes no unit
-abbrev Few : ReadDone → Type 0
-Few d = (d .answer .answer .unit < WORD) × (d .answer .copied < WORD)
+-- a read makes no unit, and copies at most the bytes held
+module _ (e : End) (inbox buffer : List ℕ) where
+  pub read-small : receive e inbox buffer .done .answer .answer .unit < WORD
+  unfolding called
+  read-small = word _ _ (acts-fit (at e [] [] inbox) (Verb.receive buffer))
 
-count-small : (e : End) (inbox : List ℕ) (buffer : ℕ) → copyCount e inbox buffer ≤ e .receiving .held
-unfolding copyCount
-count-small e inbox buffer =
-    let rest = restBytes (recordRest e inbox) in
-    omega (arith, min-le-right buffer (min (e .receiving .held) rest), min-le-left (e .receiving .held) rest)
+  copies-held : copyCount e inbox (length buffer) ≤ e .receiving .held
+  unfolding copyCount
+  copies-held =
+      let rest = restBytes (recordRest e inbox) in
+      omega (arith, min-le-right (length buffer) (min (e .receiving .held) rest), min-le-left (e .receiving .held) rest)
 
-pub read-small : (e : End) (inbox buffer : List ℕ) → e .receiving .held < 65536 → Few (receive e inbox buffer .done)
-unfolding called bytesRead markRead
-read-small e inbox buffer h =
-    read-cases (λ (m : Called). (m .answer .answer .answer .unit < WORD) × (m .answer .answer .copied < WORD)) (at e [] [] inbox) buffer
-    (λ q w n. (omega arith, omega arith)) (λ a k. (omega arith, omega (arith, count-small e inbox (length buffer), h))) (λ a k m. (omega arith, omega arith))
+  pub count-small : e .receiving .held < 65536 → receive e inbox buffer .done .answer .copied < WORD
+  unfolding called bytesRead markRead
+  count-small h =
+      read-cases (λ (m : Called). m .answer .answer .copied < WORD) (at e [] [] inbox) buffer
+      (λ q w n. omega arith) (λ a k. omega (arith, copies-held, h)) (λ a k m. omega arith)

@@ -1,16 +1,18 @@
 -- Opening and the ten calls on an image: each is the end's own definition at the record that the image holds.
 -- Assumes nothing.
 use Prim.Native.Nat.{ℕ}
-use mathlib.Core.Bool.{Bool, cond}
+use mathlib.Core.Bool.{Bool, true, false, cond}
 use mathlib.Core.List.{List}
 use lib.Dec.{eqb}
 use lib.ListN.{length, getD}
+use Rattle.header.specs.declared.Follows.{Follows}
+use Rattle.header.specs.declared.Follows.the-variants.{Stay, ChangeDirection, EndBracket}
 use Rattle.answers.specs.Answers.{BAD-BUFFER}
 use Rattle.end.specs.Outcome.{Made, Sent, Taken, Copied}
 use Rattle.session.specs.Opening.{opened}
 use Rattle.end.specs.Allocate.{allocate}
 use Rattle.end.specs.SendData.{sendData}
-use Rattle.end.specs.Close.{flush, confirm, prepareToReceive, deallocate}
+use Rattle.end.specs.Close.{close}
 use Rattle.end.specs.Confirmed.{confirmed}
 use Rattle.end.specs.Pace.{pace}
 use Rattle.end.specs.ReceiveUnit.{receiveUnit}
@@ -50,36 +52,40 @@ session role outwindow inwindow outmax inmax =
 unfoldable pub openedOn : Session → ℕ → ℕ → ℕ → List ℕ → Handed
 openedOn s send unit inbox image = cond (eqb (length image) IMAGE) (doneOut (opened s send unit inbox)) (handedBack BAD-BUFFER image)
 
-unfoldable pub allocateOn : List ℕ → List ℕ → Left (List ℕ)
+abbrev pub allocateOn : List ℕ → List ℕ → Left (List ℕ)
 allocateOn image unit = onImage image unit (λ e. madeOut (allocate e unit))
 
-unfoldable pub sendDataOn : List ℕ → List ℕ → List ℕ → List ℕ → Left (List ℕ × List ℕ)
+abbrev pub sendDataOn : List ℕ → List ℕ → List ℕ → List ℕ → Left (List ℕ × List ℕ)
 sendDataOn bytes image send unit = onImage image (send, unit) (λ e. sentOut (sendData e bytes send unit))
 
-unfoldable pub flushOn : List ℕ → List ℕ → List ℕ → Left (List ℕ)
-flushOn send image unit = onImage image unit (λ e. madeOut (flush e send unit))
+-- the closing call, of which the next four are names
+abbrev pub closeOn : Follows → Bool → List ℕ → List ℕ → List ℕ → Left (List ℕ)
+closeOn follows confirms send image unit = onImage image unit (λ e. madeOut (close follows confirms e send unit))
 
-unfoldable pub confirmOn : List ℕ → List ℕ → List ℕ → Left (List ℕ)
-confirmOn send image unit = onImage image unit (λ e. madeOut (confirm e send unit))
+abbrev pub flushOn : List ℕ → List ℕ → List ℕ → Left (List ℕ)
+flushOn send image unit = closeOn Stay false send image unit
 
-unfoldable pub prepareToReceiveOn : Bool → List ℕ → List ℕ → List ℕ → Left (List ℕ)
-prepareToReceiveOn confirms send image unit = onImage image unit (λ e. madeOut (prepareToReceive confirms e send unit))
+abbrev pub confirmOn : List ℕ → List ℕ → List ℕ → Left (List ℕ)
+confirmOn send image unit = closeOn Stay true send image unit
 
-unfoldable pub deallocateOn : Bool → List ℕ → List ℕ → List ℕ → Left (List ℕ)
-deallocateOn confirms send image unit = onImage image unit (λ e. madeOut (deallocate confirms e send unit))
+abbrev pub prepareToReceiveOn : Bool → List ℕ → List ℕ → List ℕ → Left (List ℕ)
+prepareToReceiveOn confirms send image unit = closeOn ChangeDirection confirms send image unit
 
-unfoldable pub confirmedOn : List ℕ → List ℕ → Left (List ℕ)
+abbrev pub deallocateOn : Bool → List ℕ → List ℕ → List ℕ → Left (List ℕ)
+deallocateOn confirms send image unit = closeOn EndBracket confirms send image unit
+
+abbrev pub confirmedOn : List ℕ → List ℕ → Left (List ℕ)
 confirmedOn image unit = onImage image unit (λ e. madeOut (confirmed e unit))
 
-unfoldable pub paceOn : List ℕ → List ℕ → Left (List ℕ)
+abbrev pub paceOn : List ℕ → List ℕ → Left (List ℕ)
 paceOn image unit = onImage image unit (λ e. madeOut (pace e unit))
 
 -- the rule that 21 names is free: it is the first argument here, and the answer's third number
-unfoldable pub receiveUnitOn : ℕ → List ℕ → List ℕ → List ℕ → List ℕ → Left (List ℕ × List ℕ)
+abbrev pub receiveUnitOn : ℕ → List ℕ → List ℕ → List ℕ → List ℕ → Left (List ℕ × List ℕ)
 receiveUnitOn rule taken image inbox unit = onImage image (inbox, unit) (λ e. takenOut (receiveUnit rule e taken inbox unit))
 
 abbrev pub ruleIn : List ℕ → ℕ
 ruleIn answer = getD answer 2 0
 
-unfoldable pub receiveOn : List ℕ → List ℕ → List ℕ → Left (List ℕ × List ℕ)
+abbrev pub receiveOn : List ℕ → List ℕ → List ℕ → Left (List ℕ × List ℕ)
 receiveOn image inbox buffer = onImage image (inbox, buffer) (λ e. copiedOut (receive e inbox buffer))

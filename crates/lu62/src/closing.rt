@@ -1,13 +1,32 @@
 // The calls that send the last unit of a chain.
 use handing::hand_out;
 use handing::refuse_image;
+use header::Follows;
 use image::ImageRead;
 use image::reading::read_image;
 ghost use mathlib.Core.Path.{_≡_};
 ghost use mathlib.Core.Bool.{not};
 ghost use lib.Dec.{eqb};
 ghost use Rattle.handing.specs.Handing.{handed, left};
-ghost use Rattle.lu62.specs.Calls.{flushOn, confirmOn, prepareToReceiveOn, deallocateOn};
+ghost use Rattle.lu62.specs.Calls.{closeOn, flushOn, confirmOn, prepareToReceiveOn, deallocateOn};
+
+// The closing call on an image, of which the four below are names.
+fn close_on(
+    image: &mut [u8],
+    follows: Follows,
+    confirm: bool,
+    send: &[u8],
+    unit: &mut [u8],
+    answer: &mut [u32; 7],
+) -> u32
+    ensures { λ r. ⌜ left (handed r (now (answer .exit)) (now (image .exit))) (now (unit .exit)) ≡ closeOn follows confirm (now (send .entry)) (now (image .entry)) (now (unit .entry)) ⌝ }
+{
+    let read = read_image(image);
+    match read {
+        ImageRead::Record(end) => hand_out(end.close(follows, confirm, send, unit), image, answer),
+        ImageRead::Refused(number) => refuse_image(number, answer),
+    }
+}
 
 // Sends the bytes held, if there are any.
 #[no_mangle]
@@ -19,11 +38,7 @@ pub extern "C" fn lu62_flush(
 ) -> u32
     ensures { λ r. ⌜ left (handed r (now (answer .exit)) (now (image .exit))) (now (unit .exit)) ≡ flushOn (now (send .entry)) (now (image .entry)) (now (unit .entry)) ⌝ }
 {
-    let read = read_image(image);
-    match read {
-        ImageRead::Record(end) => hand_out(end.flush(send, unit), image, answer),
-        ImageRead::Refused(number) => refuse_image(number, answer),
-    }
+    close_on(image, Follows::Stay, false, send, unit, answer)
 }
 
 // Sends the bytes held and asks for a confirmation.
@@ -36,11 +51,7 @@ pub extern "C" fn lu62_confirm(
 ) -> u32
     ensures { λ r. ⌜ left (handed r (now (answer .exit)) (now (image .exit))) (now (unit .exit)) ≡ confirmOn (now (send .entry)) (now (image .entry)) (now (unit .entry)) ⌝ }
 {
-    let read = read_image(image);
-    match read {
-        ImageRead::Record(end) => hand_out(end.confirm(send, unit), image, answer),
-        ImageRead::Refused(number) => refuse_image(number, answer),
-    }
+    close_on(image, Follows::Stay, true, send, unit, answer)
 }
 
 // Sends the bytes held and gives the partner the turn (document 01: turn), with confirmation where `confirm`
@@ -55,17 +66,14 @@ pub extern "C" fn lu62_prepare_to_receive(
 ) -> u32
     ensures { λ r. ⌜ left (handed r (now (answer .exit)) (now (image .exit))) (now (unit .exit)) ≡ prepareToReceiveOn (not (eqb confirm 0)) (now (send .entry)) (now (image .entry)) (now (unit .entry)) ⌝ }
 {
-    let read = read_image(image);
-    match read {
-        ImageRead::Record(end) => {
-            hand_out(
-                end.prepare_to_receive(confirm != 0, send, unit),
-                image,
-                answer,
-            )
-        }
-        ImageRead::Refused(number) => refuse_image(number, answer),
-    }
+    close_on(
+        image,
+        Follows::ChangeDirection,
+        confirm != 0,
+        send,
+        unit,
+        answer,
+    )
 }
 
 // Sends the bytes held and ends the conversation (document 01: end), with confirmation where `confirm` is not
@@ -80,9 +88,5 @@ pub extern "C" fn lu62_deallocate(
 ) -> u32
     ensures { λ r. ⌜ left (handed r (now (answer .exit)) (now (image .exit))) (now (unit .exit)) ≡ deallocateOn (not (eqb confirm 0)) (now (send .entry)) (now (image .entry)) (now (unit .entry)) ⌝ }
 {
-    let read = read_image(image);
-    match read {
-        ImageRead::Record(end) => hand_out(end.deallocate(confirm != 0, send, unit), image, answer),
-        ImageRead::Refused(number) => refuse_image(number, answer),
-    }
+    close_on(image, Follows::EndBracket, confirm != 0, send, unit, answer)
 }

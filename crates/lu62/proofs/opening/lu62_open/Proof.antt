@@ -9,7 +9,7 @@ use Rattle.lu62.proofs.opening.lu62_open.Tie as tie
 
 returns : tie.Need-returns
 unfolding openedOn
-returns c = rw (ne-eqb _ _ (c .before .before .if1 .taken), c .refuse-image .ensures _)
+returns c = rw (ne-eqb _ _ (c .before .before .if1 .taken), c .refuse-image .ensures .0, c .refuse-image .ensures .1)
 
 hand-out-requires : tie.Need-hand-out-requires
 hand-out-requires c κs = (rw (c .before .before .open-session .ensures) (opened-small _ _ _ _), c .before .before .before .if1 .left)

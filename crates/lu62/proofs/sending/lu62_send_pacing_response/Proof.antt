@@ -1,30 +1,9 @@
 -- `lu62::sending::lu62_send_pacing_response` meets its contract: the call on the record that the image holds, or the image's refusal.
 -- Assumes nothing.
-use denote.Ref.{now}
-use Rattle.end.specs.Pace.{pace}
-use Rattle.lu62.specs.Calls.{madeOut, paceOn}
-use Rattle.lu62.proofs.Sizes.{pace-small}
-use Rattle.lu62.proofs.Arms.{refused-arm, made-unit, whole, made-arm}
 use borrow.Author.Needs.{needs}
+use Rattle.lu62.proofs.Arms.{arms}
 use Rattle.lu62.proofs.sending.lu62_send_pacing_response.Statement.{statement}
 use Rattle.lu62.proofs.sending.lu62_send_pacing_response.Tie as tie
-
-hand-out-requires : tie.Need-hand-out-requires
-hand-out-requires c κs = let a = c .before .before .before .before .before .before .before .before .before .before .before .before .before .args in
-    let p = c .before .before .before .before .before .before .before .before .before .read-image .ensures in
-    let s = c .before .before .before .before .before .before .before .read .given .1 in
-    (made-unit (c .before .before .before .before .send-pacing-response .ensures) (pace-small _ _), whole (now (a .image)) p s)
-
-returns : tie.Need-returns
-unfolding paceOn
-returns c = let a = c .before .before .before .before .before .before .before .before .before .before .before .before .before .before .before .before .args in
-    made-arm (now (a .image)) (c .before .before .before .before .before .before .before .before .before .before .before .before .read-image .ensures) (c .before .before .before .before .before .before .before .before .before .before .read .given .1) (now (a .unit))
-    (λ e. pace e (now (a .unit))) (c .before .before .before .before .before .before .before .send-pacing-response .ensures) (c .before .before .hand-out .ensures)
-
-returns-2 : tie.Need-returns-2
-unfolding paceOn
-returns-2 c = let a = c .before .before .before .before .before .before .before .before .before .args in
-    refused-arm (now (a .image)) (now (a .unit)) (λ e. madeOut (pace e (now (a .unit)))) (c .before .before .before .before .before .read-image .ensures) (c .before .before .before .read2 .given .1) (c .refuse-image .ensures)
 
 pub lu62-send-pacing-response-spec : {M : Type 1} → statement M
 lu62-send-pacing-response-spec =
@@ -33,11 +12,11 @@ lu62-send-pacing-response-spec =
     (search needs)
     (search needs)
     (search needs)
-    hand-out-requires
+    (λ c κs. search arms)
     (search needs)
     (search needs)
     (search needs)
     (search needs)
-    returns
+    (λ c. search arms)
     (search needs)
-    returns-2)
+    (λ c. search arms))
