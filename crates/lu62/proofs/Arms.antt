@@ -17,9 +17,9 @@ use Rattle.image.specs.Image.{IMAGE, imageRead}
 use Rattle.image.specs.declared.ImageRead.{ImageRead}
 use Rattle.image.specs.declared.ImageRead.the-variants.{Record, Refused}
 use Rattle.image.proofs.WhatIsRead.{record-known, refused-known}
-use Rattle.handing.specs.Handing.{answerNumbers, readNumbers, refusalNumbers, Handed, handed, handedOut, Left, left, onImage}
-use Rattle.lu62.specs.Calls.{ruleIn, madeOut, sentOut, takenOut, copiedOut}
-use Rattle.lu62.proofs.Sizes.{WORD, allocate-small, confirmed-small, pace-small, close-small, send-small, take-small, read-small, count-small}
+use Rattle.lu62.specs.Handing.{answerNumbers, readNumbers, refusalNumbers, Handed, handed, handedOut, Left, left, onImage}
+use Rattle.lu62.specs.Exported.{ruleIn, madeOut, sentOut, takenOut, copiedOut}
+use Rattle.lu62.proofs.Sizes.{WORD, small}
 
 -- ---- the image is refused, and the number returned is 4 or 5
 
@@ -82,27 +82,10 @@ module _ (d : Done) {r : ℕ} {answer after : List ℕ} (k : handed r answer aft
   pub still-named : (header : HeaderBytes) → (d .answer .refusal ≡ 21 → NamesBroken (d .answer .rule) header) → r ≡ 21 → NamesBroken (ruleIn answer) header
   still-named header f h = subst (λ (rule : ℕ). NamesBroken rule header) rule-is (f (sym (ap (λ (h : Handed). h .returned) k) ∙ h))
 
-pub ruleset arms = (
-  refused-arm,
-  refused-names,
-  whole,
-  record-arm,
-  made-out,
-  made-unit,
-  sent-out,
-  sent-unit,
-  copied-out,
-  copied-unit,
-  copied-count,
-  taken-unit,
-  taken-out,
-  still-named,
-  allocate-small,
-  confirmed-small,
-  pace-small,
-  close-small,
-  send-small,
-  take-small,
-  read-small,
-  count-small,
-)
+pub ruleset refusals = (refused-arm, refused-names)
+
+pub ruleset handed-out = (record-arm, made-out, sent-out, taken-out, copied-out, still-named)
+
+pub ruleset units = (whole, made-unit, sent-unit, taken-unit, copied-unit, copied-count)
+
+pub ruleset arms = (refusals, handed-out, units, small)

@@ -21,9 +21,9 @@ use Rattle.image.specs.Image.{imageOf, imageRead}
 use Rattle.image.specs.declared.ImageRead.{ImageRead}
 use Rattle.image.specs.declared.ImageRead.the-variants.{Record, Refused}
 use Rattle.image.proofs.RoundTrip.{read-is-written}
-use Rattle.handing.specs.Handing.{Left, byReading, onImage}
-use Rattle.lu62.specs.Calls.{madeOut, sentOut, takenOut, copiedOut, closeOn}
-use Rattle.lu62.specs.Claims.{Bytes, Untouched, RefusedChangesNothing}
+use Rattle.lu62.specs.Handing.{Left, byReading, onImage}
+use Rattle.lu62.specs.Exported.{madeOut, sentOut, takenOut, copiedOut, closeOn}
+use Rattle.lu62.specs.Untouched.{Bytes, Untouched, RefusedChangesNothing}
 use Rattle.lu62.proofs.Sizes.{at}
 
 on-image : {Cells : Type 0} (image : List ℕ) (cells : Cells) (call : End → Left Cells) → Bytes image

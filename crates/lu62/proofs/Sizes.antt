@@ -85,3 +85,5 @@ module _ (e : End) (inbox buffer : List ℕ) where
   count-small h =
       read-cases (λ (m : Called). m .answer .answer .copied < WORD) (at e [] [] inbox) buffer
       (λ q w n. omega arith) (λ a k. omega (arith, copies-held, h)) (λ a k m. omega arith)
+
+pub ruleset small = (allocate-small, confirmed-small, pace-small, close-small, send-small, take-small, read-small, count-small)

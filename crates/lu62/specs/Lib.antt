@@ -1,2 +1,3 @@
-pub mod Calls
-pub mod Claims
+pub mod Handing
+pub mod Exported
+pub mod Untouched

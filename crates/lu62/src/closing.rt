@@ -1,14 +1,14 @@
 // The calls that send the last unit of a chain.
-use handing::hand_out;
-use handing::refuse_image;
+use crate::handing::hand_out;
+use crate::handing::refuse_image;
 use header::Follows;
 use image::ImageRead;
 use image::reading::read_image;
 ghost use mathlib.Core.Path.{_≡_};
 ghost use mathlib.Core.Bool.{not};
 ghost use lib.Dec.{eqb};
-ghost use Rattle.handing.specs.Handing.{handed, left};
-ghost use Rattle.lu62.specs.Calls.{closeOn, flushOn, confirmOn, prepareToReceiveOn, deallocateOn};
+ghost use Rattle.lu62.specs.Handing.{handed, left};
+ghost use Rattle.lu62.specs.Exported.{closeOn, flushOn, confirmOn, prepareToReceiveOn, deallocateOn};
 
 // The closing call on an image, of which the four below are names.
 fn close_on(

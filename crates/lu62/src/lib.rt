@@ -4,6 +4,7 @@
 // refusal number, 0 if accepted. An image of a wrong length is refused by 4, one with a value that no record has by 5, and then
 // nothing is changed. The buffers of one call must not overlap.
 pub mod closing;
+mod handing;
 pub mod opening;
 pub mod receiving;
 pub mod sending;

@@ -1,15 +1,15 @@
 // Opening a session and starting a conversation.
+use crate::handing::hand_out;
+use crate::handing::refuse_image;
 use answers::numbers::BAD_BUFFER;
 use end::Session;
-use handing::hand_out;
-use handing::refuse_image;
 use image::IMAGE;
 use image::ImageRead;
 use image::reading::read_image;
 use session::open_session;
 ghost use mathlib.Core.Path.{_≡_};
-ghost use Rattle.handing.specs.Handing.{handed, left};
-ghost use Rattle.lu62.specs.Calls.{session, openedOn, allocateOn};
+ghost use Rattle.lu62.specs.Handing.{handed, left};
+ghost use Rattle.lu62.specs.Exported.{session, openedOn, allocateOn};
 
 // Opens a session by the lengths of the buffers that later calls will be lent. What the image held does not matter.
 #[no_mangle]

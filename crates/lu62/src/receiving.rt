@@ -1,14 +1,14 @@
 // Units taken, and bytes and marks read.
-use handing::hand_out;
-use handing::hand_out_read;
-use handing::refuse_image;
+use crate::handing::hand_out;
+use crate::handing::hand_out_read;
+use crate::handing::refuse_image;
 use image::ImageRead;
 use image::reading::read_image;
 ghost use mathlib.Core.Path.{_≡_};
 ghost use Rattle.unit.specs.Unit.{headerIn};
 ghost use Rattle.end.specs.RuleNamed.{NamesBroken};
-ghost use Rattle.handing.specs.Handing.{handed, left};
-ghost use Rattle.lu62.specs.Calls.{ruleIn, receiveUnitOn, receiveOn};
+ghost use Rattle.lu62.specs.Handing.{handed, left};
+ghost use Rattle.lu62.specs.Exported.{ruleIn, receiveUnitOn, receiveOn};
 
 // Takes one unit from the partner (document 01: take). The answer to a bid is the unit made.
 #[no_mangle]

@@ -1,11 +1,11 @@
 // Bytes given, confirmations made and pacing responses made.
-use handing::hand_out;
-use handing::refuse_image;
+use crate::handing::hand_out;
+use crate::handing::refuse_image;
 use image::ImageRead;
 use image::reading::read_image;
 ghost use mathlib.Core.Path.{_≡_};
-ghost use Rattle.handing.specs.Handing.{handed, left};
-ghost use Rattle.lu62.specs.Calls.{sendDataOn, confirmedOn, paceOn};
+ghost use Rattle.lu62.specs.Handing.{handed, left};
+ghost use Rattle.lu62.specs.Exported.{sendDataOn, confirmedOn, paceOn};
 
 // Gives bytes to the conversation. They are kept in the send buffer until more than M are held; then one unit goes.
 #[no_mangle]

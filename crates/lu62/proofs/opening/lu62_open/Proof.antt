@@ -1,7 +1,7 @@
 -- `lu62::opening::lu62_open` meets its contract: the image's length is asked first.
 -- Assumes nothing.
 use borrow.Author.Tests.{eq-eqb, ne-eqb}
-use Rattle.lu62.specs.Calls.{openedOn}
+use Rattle.lu62.specs.Exported.{openedOn}
 use Rattle.lu62.proofs.Sizes.{opened-small}
 use borrow.Author.Needs.{needs}
 use Rattle.lu62.proofs.opening.lu62_open.Statement.{statement}

@@ -6,8 +6,8 @@ use mathlib.Core.List.{List}
 use Prim.Native.Nat.{ℕ, _<_}
 use lib.Dec.{eqb}
 use Rattle.image_parts.specs.Parts.{byteAt}
-use Rattle.handing.specs.Handing.{Left}
-use Rattle.lu62.specs.Calls.{allocateOn, sendDataOn, flushOn, confirmOn, prepareToReceiveOn, deallocateOn, confirmedOn, paceOn, receiveUnitOn, receiveOn}
+use Rattle.lu62.specs.Handing.{Left}
+use Rattle.lu62.specs.Exported.{allocateOn, sendDataOn, flushOn, confirmOn, prepareToReceiveOn, deallocateOn, confirmedOn, paceOn, receiveUnitOn, receiveOn}
 
 -- an image's values are bytes, which is always so of the code's u8
 abbrev pub Bytes : List ℕ → Type 0

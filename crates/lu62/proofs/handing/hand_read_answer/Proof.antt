@@ -1,8 +1,8 @@
--- `handing::hand_read_answer` meets its contract: the seven numbers.
+-- `lu62::handing::hand_read_answer` meets its contract: the seven numbers.
 -- Assumes nothing.
 use borrow.Author.Needs.{needs}
-use Rattle.handing.proofs.hand_read_answer.Statement.{statement}
-use Rattle.handing.proofs.hand_read_answer.Tie as tie
+use Rattle.lu62.proofs.handing.hand_read_answer.Statement.{statement}
+use Rattle.lu62.proofs.handing.hand_read_answer.Tie as tie
 
 returns : tie.Need-returns
 returns c = (search needs, rw (c .before .mark-code .ensures, c .before .before .flag-code .ensures, c .before .before .before .word2 .ensures, c .before .before .before .before .word .ensures))

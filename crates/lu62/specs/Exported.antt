@@ -20,7 +20,7 @@ use Rattle.end.specs.Receive.{receive}
 use Rattle.sides.specs.declared.Session.{Session}
 use Rattle.end.specs.declared.Done.{Done}
 use Rattle.image.specs.Image.{IMAGE}
-use Rattle.handing.specs.Handing.{answerNumbers, readNumbers, Handed, handedOut, handedBack, Left, left, onImage}
+use Rattle.lu62.specs.Handing.{answerNumbers, readNumbers, Handed, handedOut, handedBack, Left, left, onImage}
 
 -- ---- what each kind of call leaves, with its cells
 

@@ -1,10 +1,10 @@
--- `handing::hand_out_read` meets its contract: the image is written, and the answer.
+-- `lu62::handing::hand_out_read` meets its contract: the image is written, and the answer.
 -- Assumes nothing.
 use borrow.Author.Tests.{eq-eqb}
 use Rattle.image.specs.Image.{imageWritten}
 use borrow.Author.Needs.{needs}
-use Rattle.handing.proofs.hand_out_read.Statement.{statement}
-use Rattle.handing.proofs.hand_out_read.Tie as tie
+use Rattle.lu62.proofs.handing.hand_out_read.Statement.{statement}
+use Rattle.lu62.proofs.handing.hand_out_read.Tie as tie
 
 returns : tie.Need-returns
 unfolding imageWritten

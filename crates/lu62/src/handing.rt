@@ -11,7 +11,7 @@ ghost use mathlib.Core.Path.{_≡_};
 ghost use Prim.Native.Nat.{_<_};
 ghost use lib.ListN.{length};
 ghost use Rattle.image.specs.Image.{IMAGE};
-ghost use Rattle.handing.specs.Handing.{answerNumbers, readNumbers, refusalNumbers, handed, handedOut};
+ghost use Rattle.lu62.specs.Handing.{answerNumbers, readNumbers, refusalNumbers, handed, handedOut};
 
 // A length as a number of 32 bits. The end's units are at most 1,029 bytes long, and a read copies at most 65,535.
 fn word(n: usize) -> u32
