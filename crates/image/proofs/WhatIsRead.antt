@@ -3,14 +3,13 @@
 use mathlib.Core.Path.{_≡_, refl}
 use mathlib.Core.Bool.{Bool, true, false, cond}
 use mathlib.Core.List.{List}
-use Prim.Native.Nat.{ℕ, _+_, _<_, _≤_}
+use Prim.Native.Nat.{ℕ, _≤_}
 use native.Mathlib.Omega.{arith}
 use lib.Dec.{eqb}
 use lib.ListN.{length}
 use borrow.Author.Tests.{eqb-true}
 use Rattle.answers.specs.Answers.{BAD-BUFFER, BAD-RECORD}
 use Rattle.end.specs.declared.End.{End}
-use Rattle.image_parts.specs.Parts.{byteAt, numberAt}
 use Rattle.image.specs.Image.{IMAGE, recordIn, imageGood, imageRead}
 use Rattle.image.specs.declared.ImageRead.{ImageRead}
 use Rattle.image.specs.declared.ImageRead.the-variants.{Record, Refused}
@@ -36,14 +35,6 @@ module _ (image : List ℕ) (e : End) where
   record-known =
       reading image (λ (r : ImageRead). r ≡ Record e → (length image ≡ IMAGE) × (imageGood image ≡ true) × (recordIn image ≡ e))
       (λ l g h. (l, g, cc)) (never BAD-RECORD e) (never BAD-BUFFER e)
-
-  -- its numbers are of 16 bits
-  pub sizes-small : ((i : ℕ) → byteAt image i < 256) → imageRead image ≡ Record e
-      → (e .sending .held < 65536) × (e .sending .max < 65536) × (e .receiving .held < 65536)
-  unfolding recordIn
-  sizes-small bytes h =
-      let small : (at : ℕ) → numberAt image at < 65536 = λ at. omega (arith, bytes at, bytes (at + 1)) in
-      rw (← record-known h .2) (small 14, small 12, small 28)
 
 -- an image is refused by 4 or 5
 pub refused-known : (image : List ℕ) (q : ℕ) → imageRead image ≡ Refused q → q ≤ BAD-RECORD

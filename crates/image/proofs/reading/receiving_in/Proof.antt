@@ -4,16 +4,6 @@ use borrow.Author.Needs.{needs}
 use Rattle.image.proofs.reading.receiving_in.Statement.{statement}
 use Rattle.image.proofs.reading.receiving_in.Tie as tie
 
-returns : tie.Need-returns
-returns c = rw (
-  c .number-at4 .ensures,
-  c .before .number-at3 .ensures,
-  c .before .before .number-at2 .ensures,
-  c .before .before .before .number-at .ensures,
-  c .before .before .before .before .before .before .before .before .pre .1,
-  c .before .before .before .before .before .before .before .before .pre .2,
-)
-
 pub receiving-in-spec : {M : Type 1} → statement M
 receiving-in-spec =
     tie.close
@@ -25,4 +15,4 @@ receiving-in-spec =
     (search needs)
     (search needs)
     (search needs)
-    returns)
+    (λ c. cc))

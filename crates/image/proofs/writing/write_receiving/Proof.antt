@@ -11,16 +11,7 @@ use Rattle.image.proofs.writing.write_receiving.Tie as tie
 
 returns : tie.Need-returns
 returns c = let a = c .before .before .before .before .before .before .before .before .before .before .before .before .before .before .before .before .before .before .before .before .before .before .before .before .before .before .before .before .before .before .args in
-    rw (
-      c .before .before .write-place2 .ensures,
-      c .before .before .before .before .before .before .write-place .ensures,
-      c .before .before .before .before .before .before .before .before .before .before .write-number4 .ensures,
-      c .before .before .before .before .before .before .before .before .before .before .before .before .before .before .write-number3 .ensures,
-      c .before .before .before .before .before .before .before .before .before .before .before .before .before .before .before .before .before .before .write-number2 .ensures,
-      c .before .before .before .before .before .before .before .before .before .before .before .before .before .before .before .before .before .before .before .before .before .before .write-number .ensures,
-      c .before .before .before .before .before .before .before .before .before .before .before .before .before .before .before .before .before .before .before .before .before .before .before .before .before .before .write-window .ensures,
-    )
-    (runs
+    cc (runs
     (windowBytes (a .r .window) ∷ numberBytes (a .r .max) ∷ numberBytes (a .r .inbox) ∷ numberBytes (a .r .held) ∷ numberBytes (a .r .number)
     ∷ placeBytes (a .r .taken) ∷ placeBytes (a .r .read) ∷ [])
     21 (now (a .image)) (omega arith))

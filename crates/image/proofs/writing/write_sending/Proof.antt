@@ -11,14 +11,7 @@ use Rattle.image.proofs.writing.write_sending.Tie as tie
 
 returns : tie.Need-returns
 returns c = let a = c .before .before .before .before .before .before .before .before .before .before .before .before .before .before .before .before .before .before .before .before .before .before .args in
-    rw (
-      c .before .before .write-place .ensures,
-      c .before .before .before .before .before .before .write-number3 .ensures,
-      c .before .before .before .before .before .before .before .before .before .before .write-number2 .ensures,
-      c .before .before .before .before .before .before .before .before .before .before .before .before .before .before .write-number .ensures,
-      c .before .before .before .before .before .before .before .before .before .before .before .before .before .before .before .before .before .before .write-window .ensures,
-    )
-    (runs
+    cc (runs
     (windowBytes (a .s .window) ∷ numberBytes (a .s .max) ∷ numberBytes (a .s .held) ∷ numberBytes (a .s .number) ∷ placeBytes (a .s .given) ∷ [])
     9 (now (a .image)) (omega arith))
 

@@ -4,14 +4,10 @@ use borrow.Author.Tests.{eq-eqb, ne-eqb}
 use Rattle.image_parts.proofs.codes.follows_of.Statement.{statement}
 use Rattle.image_parts.proofs.codes.follows_of.Tie as tie
 
-returns : tie.Need-returns
-returns c = rw (eq-eqb _ _ (c .if1 .taken))
-
-returns-2 : tie.Need-returns-2
-returns-2 c = rw (ne-eqb _ _ (c .before .if1 .left), eq-eqb _ _ (c .if2 .taken))
-
-returns-3 : tie.Need-returns-3
-returns-3 c = rw (ne-eqb _ _ (c .before .if1 .left), ne-eqb _ _ (c .if2 .left))
-
 pub follows-of-spec : {M : Type 1} → statement M
-follows-of-spec = tie.close (tie.spec returns returns-2 returns-3)
+follows-of-spec =
+    tie.close
+    (tie.spec
+    (λ c. search eq-eqb)
+    (λ c. search (eq-eqb, ne-eqb))
+    (λ c. search ne-eqb))

@@ -9,9 +9,6 @@ use borrow.Author.Needs.{needs}
 use Rattle.image_parts.proofs.parts.write_number.Statement.{statement}
 use Rattle.image_parts.proofs.parts.write_number.Tie as tie
 
-slice-write-image-2 : tie.Need-slice-write-image-2
-slice-write-image-2 c = simp length-set (omega arith)
-
 returns : tie.Need-returns
 returns c = let a = c .args in two-stored (a .n % 256) (a .n / 256) (now (a .image)) (a .at) (c .pre)
 
@@ -23,6 +20,6 @@ write-number-spec =
     (search needs)
     (search needs)
     (search needs)
-    slice-write-image-2
+    (λ c. simp length-set (omega arith))
     (search needs)
     returns)

@@ -10,9 +10,6 @@ use borrow.Author.Needs.{needs}
 use Rattle.image_parts.proofs.parts.write_place.Statement.{statement}
 use Rattle.image_parts.proofs.parts.write_place.Tie as tie
 
-write-number-requires : tie.Need-write-number-requires
-write-number-requires c κs = simp length-set (omega arith)
-
 same-length : tie.Need-same-length
 same-length c = c .before .before .write-number .kept .0 ∙ simp length-set
 
@@ -29,6 +26,6 @@ write-place-spec =
     (search needs)
     (search needs)
     (search needs)
-    write-number-requires
+    (λ c κs. simp length-set (omega arith))
     same-length
     returns)

@@ -9,12 +9,6 @@ use borrow.Author.Needs.{needs}
 use Rattle.image_parts.proofs.parts.write_window.Statement.{statement}
 use Rattle.image_parts.proofs.parts.write_window.Tie as tie
 
-slice-write-image-2 : tie.Need-slice-write-image-2
-slice-write-image-2 c = simp length-set (omega arith)
-
-slice-write-image-3 : tie.Need-slice-write-image-3
-slice-write-image-3 c = simp length-set (omega arith)
-
 returns : tie.Need-returns
 returns c = let a = c .before .before .args in
     rw (c .flag-code .ensures) (three-stored (a .w .size) (a .w .position) (flagByte (a .w .pending)) (now (a .image)) (a .at) (c .before .before .pre))
@@ -25,9 +19,9 @@ write-window-spec =
     (tie.spec
     (search needs)
     (search needs)
-    slice-write-image-2
+    (λ c. simp length-set (omega arith))
     (search needs)
     (search needs)
-    slice-write-image-3
+    (λ c. simp length-set (omega arith))
     (search needs)
     returns)
