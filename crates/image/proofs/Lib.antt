@@ -1,3 +1,7 @@
-mod Refusals
+mod Writes
+mod Listed
+mod KindsFit
+mod BackAndForth
+mod WhatIsRefused
 pub mod WhatIsRead
-pub mod RoundTrip
+pub mod ImageRoundTrip

@@ -12,8 +12,8 @@ use Rattle.sides.specs.Opening.{roleOf}
 use Rattle.end.specs.declared.End.{End}
 use Rattle.sides.specs.declared.Sending.{Sending}
 use Rattle.sides.specs.declared.Receiving.{Receiving}
-use Rattle.image_parts.specs.Codes.{stateOf, followsNumber, followsOf, markOf}
-use Rattle.image_parts.specs.Parts.{byteAt, flagByte, flagAt, flagGood, numberBytes, numberAt, windowBytes, windowAt, placeBytes, placeAt, placeGood}
+use Rattle.image.specs.Codes.{stateOf, followsNumber, followsOf, markOf}
+use Rattle.image.specs.ImageParts.{byteAt, flagByte, flagAt, flagGood, numberBytes, numberAt, windowBytes, windowAt, placeBytes, placeAt, placeGood}
 use Rattle.image.specs.declared.ImageRead.{ImageRead}
 use Rattle.image.specs.declared.ImageRead.the-variants.{Record, Refused}
 

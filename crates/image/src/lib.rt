@@ -33,9 +33,11 @@
 //
 // A record place is a kind byte and a value of two bytes: kind 0 between records, value 0; kind 1 after the first LL byte, that
 // byte as the value, at most 255; kind 2 past LL, the number of bytes left.
-pub mod reading;
+pub mod codes;
+pub mod decoding;
+pub mod encoding;
+mod image_parts;
 pub mod theorems;
-pub mod writing;
 
 // The length of an image.
 pub const IMAGE: usize = 42;

@@ -1,11 +1,11 @@
 // What is proved of images as a whole. What the functions compute does not matter: their contracts are the claims, so that a
 // check prints their names and fails if a proof goes.
-use crate::reading::read_image;
+use crate::decoding::read_image;
 use end::End;
 use logical_record::Position;
 ghost use mathlib.Core.Path.{_≡_};
 ghost use Rattle.end.specs.declared.End as holds;
-ghost use Rattle.image_parts.specs.Parts.{firstByte};
+ghost use Rattle.image.specs.ImageParts.{firstByte};
 ghost use Rattle.image.specs.Image.{imageOf, imageRead};
 ghost use Rattle.image.specs.declared.ImageRead.the-variants.{Record};
 

@@ -20,7 +20,7 @@ use Rattle.calls.proofs.Refusals.{refused-nothing, refused-buffer, refused-take
 use Rattle.image.specs.Image.{imageOf, imageRead}
 use Rattle.image.specs.declared.ImageRead.{ImageRead}
 use Rattle.image.specs.declared.ImageRead.the-variants.{Record, Refused}
-use Rattle.image.proofs.RoundTrip.{read-is-written}
+use Rattle.image.proofs.ImageRoundTrip.{read-is-written}
 use Rattle.lu62.specs.Handing.{Left, byReading, onImage}
 use Rattle.lu62.specs.Exported.{madeOut, sentOut, takenOut, copiedOut, closeOn}
 use Rattle.lu62.specs.Untouched.{Bytes, Untouched, RefusedChangesNothing}

@@ -7,7 +7,7 @@ use Rattle.control.specs.Tests.{markNumber}
 use Rattle.answers.specs.declared.Answer.{Answer}
 use Rattle.answers.specs.declared.ReadAnswer.{ReadAnswer}
 use Rattle.end.specs.declared.End.{End}
-use Rattle.image_parts.specs.Parts.{flagByte}
+use Rattle.image.specs.ImageParts.{flagByte}
 use Rattle.image.specs.Image.{imageOf, imageRead}
 use Rattle.image.specs.declared.ImageRead.{ImageRead}
 use Rattle.image.specs.declared.ImageRead.the-variants.{Record, Refused}

@@ -5,7 +5,7 @@ use mathlib.Core.Bool.{Bool, false}
 use mathlib.Core.List.{List}
 use Prim.Native.Nat.{ℕ, _<_}
 use lib.Dec.{eqb}
-use Rattle.image_parts.specs.Parts.{byteAt}
+use Rattle.image.specs.ImageParts.{byteAt}
 use Rattle.lu62.specs.Handing.{Left}
 use Rattle.lu62.specs.Exported.{allocateOn, sendDataOn, flushOn, confirmOn, prepareToReceiveOn, deallocateOn, confirmedOn, paceOn, receiveUnitOn, receiveOn}
 

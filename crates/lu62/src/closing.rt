@@ -3,7 +3,7 @@ use crate::handing::hand_out;
 use crate::handing::refuse_image;
 use header::Follows;
 use image::ImageRead;
-use image::reading::read_image;
+use image::decoding::read_image;
 ghost use mathlib.Core.Path.{_≡_};
 ghost use mathlib.Core.Bool.{not};
 ghost use lib.Dec.{eqb};

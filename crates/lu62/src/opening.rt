@@ -5,7 +5,7 @@ use answers::numbers::BAD_BUFFER;
 use end::Session;
 use image::IMAGE;
 use image::ImageRead;
-use image::reading::read_image;
+use image::decoding::read_image;
 use session::open_session;
 ghost use mathlib.Core.Path.{_≡_};
 ghost use Rattle.lu62.specs.Handing.{handed, left};

@@ -3,7 +3,7 @@ use crate::handing::hand_out;
 use crate::handing::hand_out_read;
 use crate::handing::refuse_image;
 use image::ImageRead;
-use image::reading::read_image;
+use image::decoding::read_image;
 ghost use mathlib.Core.Path.{_≡_};
 ghost use Rattle.unit.specs.Unit.{headerIn};
 ghost use Rattle.end.specs.RuleNamed.{NamesBroken};

@@ -2,7 +2,7 @@
 use crate::handing::hand_out;
 use crate::handing::refuse_image;
 use image::ImageRead;
-use image::reading::read_image;
+use image::decoding::read_image;
 ghost use mathlib.Core.Path.{_≡_};
 ghost use Rattle.lu62.specs.Handing.{handed, left};
 ghost use Rattle.lu62.specs.Exported.{sendDataOn, confirmedOn, paceOn};

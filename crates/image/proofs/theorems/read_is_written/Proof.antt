@@ -1,7 +1,7 @@
 -- `image::theorems::read_is_written` meets its contract. The slice holds bytes.
 -- Assumes nothing.
 use denote.Ref.{now}
-use Rattle.image.proofs.RoundTrip.{read-is-written}
+use Rattle.image.proofs.ImageRoundTrip.{read-is-written}
 use borrow.Author.Needs.{needs}
 use Rattle.image.proofs.theorems.read_is_written.Statement.{statement}
 use Rattle.image.proofs.theorems.read_is_written.Tie as tie

@@ -1,6 +1,6 @@
 -- `image::theorems::written_is_read` meets its contract. A first LL byte is a byte.
 -- Assumes nothing.
-use Rattle.image.proofs.RoundTrip.{written-is-read}
+use Rattle.image.proofs.ImageRoundTrip.{written-is-read}
 use borrow.Author.Needs.{needs}
 use Rattle.image.proofs.theorems.written_is_read.Statement.{statement}
 use Rattle.image.proofs.theorems.written_is_read.Tie as tie

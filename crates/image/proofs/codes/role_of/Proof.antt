@@ -1,0 +1,12 @@
+-- `image::codes::role_of` meets its contract: the tests passed on the way pick the case.
+-- Assumes nothing.
+use borrow.Author.Tests.{eq-eqb, ne-eqb}
+use Rattle.image.proofs.codes.role_of.Statement.{statement}
+use Rattle.image.proofs.codes.role_of.Tie as tie
+
+pub role-of-spec : {M : Type 1} → statement M
+role-of-spec =
+    tie.close
+    (tie.spec
+    (λ c. search eq-eqb)
+    (λ c. search ne-eqb))

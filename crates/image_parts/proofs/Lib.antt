@@ -1,4 +1,0 @@
-pub mod Writes
-pub mod Listed
-mod KindsFit
-pub mod BackAndForth
