@@ -1,6 +1,6 @@
 -- What the walks of every shape share: the types of a call, the end's record as one value that is lent, and the parameters that a function hands on for good.
 -- Assumes nothing.
-use mathlib.Core.Path.{_≡_}
+use mathlib.Core.Path.{_≡_, refl}
 use Prim.Native.Nat.{ℕ}
 use mathlib.Core.List.{[], _∷_, List}
 use lib.Dec.{T as Holds}
@@ -34,8 +34,9 @@ use Rattle.end.proofs.Done as P
 use Rattle.answers.proofs.ReadAnswer as RN
 use Rattle.answers.proofs.ReadAnswer.Laws as RN′
 use Rattle.end.proofs.ReadDone as RP
+use Rattle.host.specs.InPlace.{doneBy, readDoneBy}
 
--- the types of a call: the record that it changes, its answer, and the struct in which the method hands both back
+-- the types of a call: the record that it changes, its answer, and the struct in which the method hands both back, which is made of the two
 pub record Called : Type 2 where
   pub end : Declared
   pub answer : Declared
@@ -47,6 +48,8 @@ pub record Called : Type 2 where
   pub Both : Type 0
   pub answer-in : Both → answer .D
   pub end-in : Both → end .D
+  pub both-of : answer .D → end .D → Both
+  pub both-is : (x : Both) → both-of (answer-in x) (end-in x) ≡ x
   pub one : (x y : Both) → _≡_ {A = Denots (rows (part answer ∷ part end ∷ []))} (answer .to (answer-in x), (end .to (end-in x), tt)) (answer .to (answer-in y), (end .to (end-in y), tt)) → x ≡ y
 
 abbrev pub both : Called → Declared
@@ -75,6 +78,8 @@ calls = record {
   Both = Done;
   answer-in = λ d. d .answer;
   end-in = λ d. d .end;
+  both-of = doneBy;
+  both-is = λ d. refl;
   one = P.the-type .to-one;
 }
 
@@ -90,6 +95,8 @@ reads = record {
   Both = ReadDone;
   answer-in = λ d. d .answer;
   end-in = λ d. d .end;
+  both-of = readDoneBy;
+  both-is = λ d. refl;
   one = RP.the-type .to-one;
 }
 

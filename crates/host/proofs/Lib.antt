@@ -1,3 +1,4 @@
+mod Walking
 pub mod Called
 pub mod Shapes
 pub mod WrapUnit

@@ -249,12 +249,12 @@ module _ (Q : Called) where
     abbrev pub stays-by-value : Stays (method .signature .params) (method .kept)
     stays-by-value = (stay-none (λ _. R) yes, passed (beside-record ks))
 
-    module _ (Φ : E → In ks → Q .Both → Out ks → Type 0) (Ψ : E → In ks → Q .answer .D → E → Out ks → Type 0) {M : Type 1} (𝓤 : URA M) (H : Heap 𝓤) (A : Atoms 𝓤) where
+    module _ (Φ : E → In ks → Q .Both → Out ks → Type 0) {M : Type 1} (𝓤 : URA M) (H : Heap 𝓤) (A : Atoms 𝓤) where
       abbrev pub does : Clauses 𝓤 method
       does = λ κs a. record { ghost = Unit {0}; requires = λ _. emp 𝓤; ensures = λ _ r e. fact 𝓤 (Φ (a .0) (ins (lifetimes ks) κs 0 ks (λ κs. κs) (a .1)) r (ends (lifetimes ks) κs 0 ks (λ κs. κs) (e .1))) }
 
       abbrev pub sets : Clauses 𝓤 wrapper
-      sets = λ κs a. record { ghost = Unit {0}; requires = λ _. emp 𝓤; ensures = λ _ r e. fact 𝓤 (Ψ (a .0 .now) (ins (suc (lifetimes ks)) κs 1 ks (λ κs. κs .1) (a .1)) r (e .0 .now) (ends (suc (lifetimes ks)) κs 1 ks (λ κs. κs .1) (e .1))) }
+      sets = λ κs a. record { ghost = Unit {0}; requires = λ _. emp 𝓤; ensures = λ _ r e. fact 𝓤 (Φ (a .0 .now) (ins (suc (lifetimes ks)) κs 1 ks (λ κs. κs .1) (a .1)) (Q .both-of r (e .0 .now)) (ends (suc (lifetimes ks)) κs 1 ks (λ κs. κs .1) (e .1))) }
 
       abbrev pub Method : Contract 𝓤
       Method = tripleOf 𝓤 H A (method .signature) (closing 𝓤 H A method does)

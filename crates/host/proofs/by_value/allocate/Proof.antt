@@ -9,11 +9,9 @@ use ghost.Atoms.{Atoms}
 use contract.Monad.{Fun}
 use contract.Fact.{factI}
 use contract.Lifetimes.{Lfts}
-use contract.Running.{givenOf, tables, tablesOf}
 use denote.Triple.Entry.{Args, Res}
 use denote.Triple.Clauses.{AtExit}
-use denote.Triple.Spec.{tripleOf}
-use denote.Triple.Table.{entered, cited}
+use Rattle.host.proofs.Walking.{givenOf, tables, tablesOf, tripleOf, entered, cited}
 use Rattle.host.proofs.Promises.{Allocate}
 use Rattle.host.proofs.UnwrapUnit as unwrap
 use Rattle.host.proofs.in_place.allocate as host

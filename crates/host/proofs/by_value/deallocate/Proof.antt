@@ -1,8 +1,6 @@
 -- `host::by_value::deallocate` meets its contract: a record lent to a call in place of its shape (`UnwrapFlagSendUnit.antt`), at `in_place::deallocate`.
 -- Assumes nothing.
-use contract.Running.{givenOf, tables, tablesOf}
-use denote.Triple.Spec.{tripleOf}
-use denote.Triple.Table.{entered, cited}
+use Rattle.host.proofs.Walking.{givenOf, tables, tablesOf, tripleOf, entered, cited}
 use Rattle.host.proofs.Promises.{Deallocate}
 use Rattle.host.proofs.UnwrapFlagSendUnit as unwrap
 use Rattle.host.proofs.in_place.deallocate as host

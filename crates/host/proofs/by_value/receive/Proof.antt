@@ -1,8 +1,6 @@
 -- `host::by_value::receive` meets its contract: a record lent to a call in place of its shape (`UnwrapTwo.antt`), at `in_place::receive`.
 -- Assumes nothing.
-use contract.Running.{givenOf, tables, tablesOf}
-use denote.Triple.Spec.{tripleOf}
-use denote.Triple.Table.{entered, cited}
+use Rattle.host.proofs.Walking.{givenOf, tables, tablesOf, tripleOf, entered, cited}
 use Rattle.host.proofs.Promises.{Receive}
 use Rattle.host.proofs.UnwrapTwo as unwrap
 use Rattle.host.proofs.in_place.receive as host

@@ -1,8 +1,6 @@
 -- `host::by_value::receive_unit` meets its contract: a record lent to a call in place of its shape (`UnwrapBytesTwo.antt`), at `in_place::receive_unit`.
 -- Assumes nothing.
-use contract.Running.{givenOf, tables, tablesOf}
-use denote.Triple.Spec.{tripleOf}
-use denote.Triple.Table.{entered, cited}
+use Rattle.host.proofs.Walking.{givenOf, tables, tablesOf, tripleOf, entered, cited}
 use Rattle.host.proofs.Promises.{ReceiveUnit}
 use Rattle.host.proofs.UnwrapBytesTwo as unwrap
 use Rattle.host.proofs.in_place.receive_unit as host

@@ -1,8 +1,6 @@
 -- `host::by_value::send_data` meets its contract: a record lent to a call in place of its shape (`UnwrapBytesTwo.antt`), at `in_place::send_data`.
 -- Assumes nothing.
-use contract.Running.{givenOf, tables, tablesOf}
-use denote.Triple.Spec.{tripleOf}
-use denote.Triple.Table.{entered, cited}
+use Rattle.host.proofs.Walking.{givenOf, tables, tablesOf, tripleOf, entered, cited}
 use Rattle.host.proofs.Promises.{SendData}
 use Rattle.host.proofs.UnwrapBytesTwo as unwrap
 use Rattle.host.proofs.in_place.send_data as host
