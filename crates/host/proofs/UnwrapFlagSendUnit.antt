@@ -1,9 +1,9 @@
 -- A call in place with a flag, a send buffer to read and a unit buffer to write, made for a record that is held by value, once for every call of that shape: `fn f(end: End, confirm: bool, send: &[u8], unit: &mut [u8]) -> Done { let mut kept = end; let answer = g(&mut kept, ..); Done { answer, end: kept } }`.
 -- The call in place g is known by its key and by what it ensures, Φ of the record, the other parameters, the outcome and the last values; f ensures the same of what it returns.
 -- Assumes nothing.
-use Rattle.host.proofs.Walking.{refl, ap, ℕ, [], _∷_, List, length, URA, fullShare, Name, named, Val, vptr, SProp, ent, emp, via, fst∗, id⊢, GName, Fml, fsep, flft, fat, flent, Heap, Calls, Loops, WpFn, Tables, Atoms, fact, Lfts, Shares, toks, FmC, fmOf}
+use Rattle.host.proofs.Walking.{refl, ap, ℕ, [], _∷_, List, length, URA, fullShare, Name, named, Val, vptr, SProp, ent, id⊢, GName, Fml, fsep, flft, fat, flent, Heap, Calls, Loops, WpFn, Tables, Atoms, fact, Lfts, Shares, toks, FmC, fmOf}
 use Rattle.host.proofs.Walking.{Given, ‵, raw, some, later, _⊛_, ⋆, _$_, _∵_, !, qed, by, move, keep, use1, use3, split, join, pick, rewrite, fsplit, fjoin, suffices, frame, await, done, use2, look, init, forget, stop, hop, fld, from, load, addr, of-opd, and-then, no-more, assigns, land, returns, enter, alloc1, alloc0, params1, pass1, pass0, free1, free0, agg, whole, sub, look-in, BodyAt, lft-new, lft-end}
-use Rattle.host.proofs.Walking.{owns, mem, Is, shows, u8, RefT, MutRef, Room, only, peeks, heard, owned, nothing, own-shut, typesAt, onEntry, all, Fins, lastsOf, Meets, tripleOf, Contract, Triple, calls-at, Clauses, closing, ensured, lasts, says, walkOf, Walks, ends-at, walked, yes, lends-ref, ref-back}
+use Rattle.host.proofs.Walking.{owns, mem, Is, shows, u8, RefT, MutRef, Room, only, peeks, heard, owned, nothing, own-shut, typesAt, onEntry, all, Fins, lastsOf, Meets, tripleOf, Contract, Triple, calls-at, Clauses, closing, ensured, lasts, says, walkOf, ends-at, yes, lends-ref, ref-back}
 use Rattle.host.proofs.Walking.LL
 use Rattle.end.specs.declared.End.{End}
 use Rattle.answers.specs.declared.Answer.{Answer}
@@ -16,7 +16,7 @@ use Rattle.end.proofs.Done as P
 use Rattle.end.proofs.Done.Laws as P′
 use Rattle.host.specs.InPlace.{doneBy}
 use Rattle.host.proofs.Called.{Called, calls, R, val, vals, typed, lays, lifts}
-use Rattle.host.proofs.Shapes.{lifetimes, In, Out, Tuple, nows, machine, passed-values, spells, tellss, beside-record, method, wrapper, by-value, stays-by-value, does, sets, walk-by-value-is-enough}
+use Rattle.host.proofs.Shapes.{lifetimes, In, Out, Tuple, nows, machine, passed-values, beside-record, method, wrapper, by-value, stays-by-value, does, sets, walk-by-value-is-enough}
 use Rattle.host.proofs.WrapFlagSendUnit.{ks}
 
 abbrev Q : Called
@@ -95,9 +95,6 @@ module _ (g : Name) (Φ : End → In ks → Done → Out ks → Type 0) {M : Typ
           move ! (23 ∷ 24 ∷ []) $ free1 ! $ move ! (21 ∷ 22 ∷ []) $ free1 ! $ move ! (19 ∷ 20 ∷ []) $ free1 ! $ move ! (17 ∷ 18 ∷ []) $ free1 ! $ move ! (15 ∷ 16 ∷ []) $ free1 ! $ move ! (1 ∷ 14 ∷ []) $ free1 ! $ move ! (11 ∷ 12 ∷ []) $ free1 ! $ move ! (9 ∷ 10 ∷ []) $ free1 ! $ move ! (7 ∷ 8 ∷ []) $ free1 ! $ move ! (5 ∷ 6 ∷ []) $ free1 ! $ move ! (3 ∷ 4 ∷ []) $ free1 ! $ free0 ! $
           keep ! (1 ∷ 2 ∷ 0 ∷ []) $ by ! (exits (doneBy r (zs .0)) (zs .1) _ e)))))))))))))))))))))
 
-  walks : (C : Calls 𝓤 H) (Λ : Loops 𝓤 H) → FmC 𝓤 H (W .laws) C → Triple 𝓤 (C g) Host → Walks 𝓤 H A (method Q ks) (stays-by-value Q ks) (WpFn 𝓤 H C Λ (by-value Q ks g)) hands-back
-  walks C Λ fm known = walked 𝓤 H A (method Q ks) (stays-by-value Q ks) hands-back (WpFn 𝓤 H C Λ (by-value Q ks g)) (λ κs. (vals, spells (lifetimes ks) κs 0 ks (λ κs. κs))) (λ κs. (LL.tells T.the-type T′.the-laws, tellss (lifetimes ks) κs 0 ks (λ κs. κs)))
-      (λ κs qs bounds a _ are. via 𝓤 _ (fst∗ 𝓤 _ (emp 𝓤)) (walk κs qs (a .0) (are .0) (a .1) C Λ fm known (are .1 .1 .0 .0 .1) (are .1 .1 .1 .0 .0 .1)))
-
   pub meets : (𝓣 : Tables 𝓤 H) → Triple 𝓤 (𝓣 .C g) Host → Meets 𝓤 H A (method Q ks .signature) (WpFn 𝓤 H (𝓣 .C) (𝓣 .Λ) (by-value Q ks g)) (closing 𝓤 H A (method Q ks) hands-back)
-  meets 𝓣 known = walk-by-value-is-enough Q ks Φ 𝓤 H A W (λ κs x f. refl) g 𝓣 (walks (𝓣 .C) (𝓣 .Λ) (fmOf 𝓤 H (W .laws) 𝓣) known)
+  meets 𝓣 known = walk-by-value-is-enough Q ks Φ 𝓤 H A W (λ κs x f. refl) g 𝓣
+      (λ κs qs a are. walk κs qs (a .0) (are .0) (a .1) (𝓣 .C) (𝓣 .Λ) (fmOf 𝓤 H (W .laws) 𝓣) known (are .1 .1 .0 .0 .1) (are .1 .1 .1 .0 .0 .1))

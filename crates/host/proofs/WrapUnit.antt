@@ -2,12 +2,12 @@
 -- The method g is known by its key and by what it ensures, Φ of the record, the other parameters, the outcome and the last values; f ensures the same of its answer and the record that it leaves. Nothing is known of the types but that they are declared.
 -- What the other parameters own goes to the method as it is, and what the method's contract says of their last values is what f's says.
 -- Assumes nothing.
-use Rattle.host.proofs.Walking.{_≡_, refl, sym, ap, subst, ℕ, suc, [], _∷_, List, length, URA, fullShare, Name, named, Val, vptr, SProp, ent, emp, via, fst∗, id⊢, Lft, Share, GName, Fml, fsep, flft, fobs, fbor, fat, Heap, Calls, Loops, WpFn, Tables, Atoms, fact, Lfts, Shares, toks, FmC, fmOf}
+use Rattle.host.proofs.Walking.{_≡_, refl, sym, ap, subst, ℕ, suc, [], _∷_, List, length, URA, fullShare, Name, named, Val, vptr, SProp, ent, id⊢, Lft, Share, GName, Fml, fsep, flft, fobs, fbor, fat, Heap, Calls, Loops, WpFn, Tables, Atoms, fact, Lfts, Shares, toks, FmC, fmOf}
 use Rattle.host.proofs.Walking.{Given, ‵, raw, given, some, later, _⊛_, ⋆, _$_, _∵_, !, qed, by, move, keep, drop, use1, use3, split, join, pick, learn, rewrite, fsplit, fsplit3, fjoin, fjoin3, feqI, suffices, frame, await, done, look, look-raw, init, store-raw, forget, stop, hop, fld, from, load, addr, of-opd, and-then, no-more, assigns, land, returns, enter, alloc1, alloc0, params1, pass1, pass0, free1, free0, agg, whole, sub, look-in, BodyAt}
-use Rattle.host.proofs.Walking.{owns, mem, Is, shows, u8, MutRef, ptr-vals, mut-tells, Room, only, opens, closes, peeks, heard, spelt, all-own, own-open, typesAt, onEntry, lastsOf, Meets, Contract, Triple, calls-at, Clauses, Lasts, closing, ensured, says, walkOf, Walks, ends-at, walked, shape, layout}
+use Rattle.host.proofs.Walking.{owns, mem, Is, shows, u8, MutRef, Room, only, opens, closes, peeks, heard, spelt, all-own, own-open, typesAt, onEntry, lastsOf, Meets, Contract, Triple, calls-at, Clauses, Lasts, closing, ensured, says, walkOf, ends-at, shape, layout}
 use Rattle.host.proofs.Walking.LL
 use Rattle.host.proofs.Called.{Called, both, both-laws, typed}
-use Rattle.host.proofs.Shapes.{Kind, cells, lifetimes, In, Out, Tuple, nows, machine, passed-values, spells, tellss, E, R, N, P, vals, beside-reference, method, wrapper, in-place, stays-in-place, does, sets, Method, walk-is-enough}
+use Rattle.host.proofs.Shapes.{Kind, cells, lifetimes, In, Out, Tuple, nows, machine, passed-values, E, R, N, P, vals, beside-reference, method, wrapper, in-place, stays-in-place, does, sets, Method, walk-is-enough}
 
 -- the parameters beside the record
 abbrev pub ks : List Kind
@@ -75,9 +75,6 @@ module _ (Q : Called) (g : Name) (Φ : E Q → In ks → Q .Both → Out ks → 
           move ! (19 ∷ 20 ∷ []) $ free1 ! $ move ! (17 ∷ 18 ∷ []) $ free1 ! $ move ! (15 ∷ 16 ∷ []) $ free1 ! $ move ! (13 ∷ 14 ∷ []) $ free1 ! $ move ! (11 ∷ 12 ∷ []) $ free1 ! $ move ! (9 ∷ 10 ∷ []) $ free1 ! $ move ! (7 ∷ 8 ∷ []) $ free1 ! $ free0 ! $
           keep ! (0 ∷ 1 ∷ 2 ∷ 5 ∷ 6 ∷ 3 ∷ []) $ by ! (exits r zs _ e))))))))))))))))))
 
-  walks : (C : Calls 𝓤 H) (Λ : Loops 𝓤 H) → FmC 𝓤 H (W .laws) C → Triple 𝓤 (C g) Called-method → Walks 𝓤 H A (wrapper Q ks) (stays-in-place Q ks) (WpFn 𝓤 H C Λ (in-place Q ks g)) leaves
-  walks C Λ fm known = walked 𝓤 H A (wrapper Q ks) (stays-in-place Q ks) leaves (WpFn 𝓤 H C Λ (in-place Q ks g)) (λ κs. (ptr-vals, spells (suc (lifetimes ks)) κs 1 ks (λ κs. κs .1))) (λ κs. (mut-tells (named 0) (κs .0) (R Q), tellss (suc (lifetimes ks)) κs 1 ks (λ κs. κs .1)))
-      (λ κs qs bounds a _ are. via 𝓤 _ (fst∗ 𝓤 _ (emp 𝓤)) (walk (κs .0) (κs .1) (qs .0) (qs .1) (a .0 .ptr .0) (a .0 .ptr .1) (a .0 .name) (a .0 .now) (a .1) C Λ fm known (are .1 .0 .0 .1)))
-
   pub meets : (𝓣 : Tables 𝓤 H) → Triple 𝓤 (𝓣 .C g) Called-method → Meets 𝓤 H A (wrapper Q ks .signature) (WpFn 𝓤 H (𝓣 .C) (𝓣 .Λ) (in-place Q ks g)) (closing 𝓤 H A (wrapper Q ks) leaves)
-  meets 𝓣 known = walk-is-enough Q ks Φ 𝓤 H A W g 𝓣 (walks (𝓣 .C) (𝓣 .Λ) (fmOf 𝓤 H (W .laws) 𝓣) known)
+  meets 𝓣 known = walk-is-enough Q ks Φ 𝓤 H A W g 𝓣
+      (λ κs qs a are. walk (κs .0) (κs .1) (qs .0) (qs .1) (a .0 .ptr .0) (a .0 .ptr .1) (a .0 .name) (a .0 .now) (a .1) (𝓣 .C) (𝓣 .Λ) (fmOf 𝓤 H (W .laws) 𝓣) known (are .1 .0 .0 .1))
