@@ -44,21 +44,21 @@ record-arm image cells call {read} {e} {l} p s h = rw (← p, s, h)
 -- what a call hands out, and the length of the unit made, from the call's promise
 module _ {d : Done} {after : List ℕ} {m : Made} (p : madeBy d after ≡ m) where
   pub made-out : {h : Handed} → h ≡ handedOut (answerNumbers (d .answer)) (d .end) → left h after ≡ madeOut m
-  made-out {h} k = rw (← p, k)
+  made-out {h} k = rw k (ap (λ (x : Made). madeOut x) p)
 
   pub made-unit : m .done .answer .unit < WORD → d .answer .unit < WORD
   made-unit h = subst (λ (x : Made). x .done .answer .unit < WORD) (sym p) h
 
 module _ {d : Done} {send unit : List ℕ} {m : Sent} (p : sentBy d send unit ≡ m) where
   pub sent-out : {h : Handed} → h ≡ handedOut (answerNumbers (d .answer)) (d .end) → left h (send, unit) ≡ sentOut m
-  sent-out {h} k = rw (← p, k)
+  sent-out {h} k = rw k (ap (λ (x : Sent). sentOut x) p)
 
   pub sent-unit : m .done .answer .unit < WORD → d .answer .unit < WORD
   sent-unit h = subst (λ (x : Sent). x .done .answer .unit < WORD) (sym p) h
 
 module _ {d : ReadDone} {inbox buffer : List ℕ} {m : Copied} (p : copiedBy d inbox buffer ≡ m) where
   pub copied-out : {h : Handed} → h ≡ handedOut (readNumbers (d .answer)) (d .end) → left h (inbox, buffer) ≡ copiedOut m
-  copied-out {h} k = rw (← p, k)
+  copied-out {h} k = rw k (ap (λ (x : Copied). copiedOut x) p)
 
   pub copied-unit : m .done .answer .answer .unit < WORD → d .answer .answer .unit < WORD
   copied-unit h = subst (λ (x : Copied). x .done .answer .answer .unit < WORD) (sym p) h
@@ -77,7 +77,7 @@ module _ (d : Done) {r : ℕ} {answer after : List ℕ} (k : handed r answer aft
   pub taken-out : (e : End) (u was cells : List ℕ) {inbox unit : List ℕ} → takenBy d inbox unit ≡ receiveUnit (d .answer .rule) e u was cells
       → left (handed r answer after) (inbox, unit) ≡ takenOut (receiveUnit (ruleIn answer) e u was cells)
   taken-out e u was cells {inbox} {unit} p =
-      subst (λ (rule : ℕ). left (handed r answer after) (inbox, unit) ≡ takenOut (receiveUnit rule e u was cells)) rule-is (rw (← p, k))
+      subst (λ (rule : ℕ). left (handed r answer after) (inbox, unit) ≡ takenOut (receiveUnit rule e u was cells)) rule-is (rw k (ap (λ (x : Taken). takenOut x) p))
 
   pub still-named : (header : HeaderBytes) → (d .answer .refusal ≡ 21 → NamesBroken (d .answer .rule) header) → r ≡ 21 → NamesBroken (ruleIn answer) header
   still-named header f h = subst (λ (rule : ℕ). NamesBroken rule header) rule-is (f (sym (ap (λ (h : Handed). h .returned) k) ∙ h))
