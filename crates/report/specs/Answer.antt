@@ -11,7 +11,7 @@ use Rattle.control.specs.Tests.{isNothing}
 use Rattle.answers.specs.Answers.{SHORT-UNIT, BAD-HEADER}
 use Rattle.report.specs.Ascii.{ascii}
 use Rattle.report.specs.Named.{endWord, requestWords, markWord}
-use Rattle.text.specs.Numerals.{decimalOf, hexOf, hexWordOf}
+use Rattle.digits.specs.Printed.{decimalOf, hexOf, hexWordOf}
 
 -- the end, and the call's words
 unfoldable pub callText : Bool → Request → List ℕ

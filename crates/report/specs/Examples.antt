@@ -12,7 +12,7 @@ use Rattle.control.specs.declared.WhatReceived.{WhatReceived}
 use Rattle.control.specs.declared.WhatReceived.the-variants as mark
 use Rattle.control.specs.declared.State.the-variants as state
 use Rattle.report.specs.Ascii.{ascii}
-use Rattle.text.specs.Numerals.{decimalIn, decimalOf, hexOf, hexWordOf}
+use Rattle.digits.specs.Printed.{decimalIn, decimalOf, hexOf, hexWordOf}
 use Rattle.report.specs.Answer.{callText, senseText, ruleText, refusalText, bytesText, completeText, markText, answerText}
 use Rattle.report.specs.Lines.{openText, nothingWaitingText, fullText, badLineText, stateText, countText, countsText, endText}
 

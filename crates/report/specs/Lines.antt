@@ -8,7 +8,7 @@ use Rattle.control.specs.declared.WhatReceived.{WhatReceived}
 use Rattle.control.specs.declared.State.{State}
 use Rattle.report.specs.Ascii.{ascii}
 use Rattle.report.specs.Named.{endWord, markWord, stateWord}
-use Rattle.text.specs.Numerals.{decimalOf}
+use Rattle.digits.specs.Printed.{decimalOf}
 use Rattle.report.specs.Answer.{callText}
 
 unfoldable pub openText : Bool → ℕ → List ℕ

@@ -7,11 +7,11 @@ use answers::numbers::BAD_HEADER;
 use answers::numbers::SHORT_UNIT;
 use control::WhatReceived;
 use control::tests::is_nothing;
+use digits::printed::decimal;
+use digits::printed::hex_bytes;
+use digits::printed::hex_word;
+use digits::printed::put;
 use script::Request;
-use text::decimal;
-use text::hex_bytes;
-use text::hex_word;
-use text::put;
 ghost use Rattle.report.specs.Prints.{PrintsAt, Prints};
 ghost use Rattle.report.specs.Answer.{callText, senseText, ruleText, refusalText, bytesText, completeText, markText, answerText};
 

@@ -7,9 +7,9 @@ use crate::words::put_word;
 use crate::words::state_word;
 use control::State;
 use control::WhatReceived;
+use digits::printed::decimal;
+use digits::printed::put;
 use script::Request;
-use text::decimal;
-use text::put;
 ghost use Rattle.report.specs.Prints.{PrintsAt, Prints};
 ghost use Rattle.report.specs.Lines.{openText, nothingWaitingText, fullText, badLineText, stateText, countText, countsText, endText};
 

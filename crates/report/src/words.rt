@@ -1,14 +1,14 @@
 // The words for an end, a call, a mark and a state.
 use control::State;
 use control::WhatReceived;
+use digits::printed::put;
 use header::Follows;
 use script::Request;
 use script::Verb;
-use text::put;
 ghost use mathlib.Core.Path.{_≡_};
 ghost use Prim.Native.Nat.{_≤_};
 ghost use lib.ListN.{length, take};
-ghost use Rattle.text.specs.Put.{putAt};
+ghost use Rattle.digits.specs.PutAt.{putAt};
 ghost use Rattle.report.specs.Named.{endWord, closingWords, verbWords, requestWords, markWord, stateWord};
 
 // Letters, filled up with blanks, and how many of them count.

@@ -9,8 +9,8 @@ use native.Mathlib.Omega.{arith}
 use lib.Dec.{leb}
 use lib.ListN.{length}
 use borrow.Author.Tests.{leb-true, leb-false, le-leb, lt-leb}
-use Rattle.numerals.proofs.Pairs.{pairs-length}
-use Rattle.numerals.specs.Hexadecimal.{arePairs, bytesOf, hexOf}
+use Rattle.digits.proofs.Pairs.{pairs-length}
+use Rattle.digits.specs.HexadecimalRead.{arePairs, bytesOf, bytesRead}
 
 least-leb : (t : Bool) (k m : ℕ) → leb k m ≡ t → k ≤ 2048 → leb k (min 2048 m) ≡ t
 least-leb true k m e h = let l = leb-true k m e in le-leb k (min 2048 m) (omega arith)
@@ -23,8 +23,8 @@ short true s m e h =
     rw (least-leb (leb (length (bytesOf s)) m) (length (bytesOf s)) m refl (omega arith))
 short false s m e h = refl
 
-pub hex-short : (s : List ℕ) (m : ℕ) → length s ≤ 4096 → hexOf s (min 2048 m) ≡ hexOf s m
-unfolding hexOf
+pub hex-short : (s : List ℕ) (m : ℕ) → length s ≤ 4096 → bytesRead s (min 2048 m) ≡ bytesRead s m
+unfolding bytesRead
 hex-short s m h = rw (short (arePairs s) s m refl h)
 
 long : (g : Bool) (s : List ℕ) (m : ℕ) → arePairs s ≡ g → 4096 < length s
@@ -34,6 +34,6 @@ long true s m e h =
     rw (le-leb 1 (length (bytesOf s)) (omega arith), lt-leb (length (bytesOf s)) (min 2048 m) (omega arith))
 long false s m e h = refl
 
-pub hex-long : (s : List ℕ) (m : ℕ) → 4096 < length s → hexOf s (min 2048 m) ≡ none
-unfolding hexOf
+pub hex-long : (s : List ℕ) (m : ℕ) → 4096 < length s → bytesRead s (min 2048 m) ≡ none
+unfolding bytesRead
 hex-long s m h = rw (long (arePairs s) s m refl h)

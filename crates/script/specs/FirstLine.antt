@@ -5,9 +5,9 @@ use mathlib.Core.Bool.{Bool, true, false, cond, _&&_}
 use mathlib.Core.List.{List, [], _∷_}
 use lib.ListN.{drop}
 use Rattle.script.specs.Words.{begins, wordOf, behindWord}
-use Rattle.numerals.specs.Numbers.{numberOf}
-use Rattle.numerals.specs.declared.Number.{Number}
-use Rattle.numerals.specs.declared.Number.the-variants as number
+use Rattle.digits.specs.DecimalRead.{numberOf}
+use Rattle.digits.specs.declared.Number.{Number}
+use Rattle.digits.specs.declared.Number.the-variants as number
 use Rattle.script.specs.declared.FirstLine.{FirstLine}
 use Rattle.script.specs.declared.FirstLine.the-variants.{Ends, Bad}
 

@@ -6,12 +6,12 @@ use mathlib.Core.List.{List, [], _∷_}
 use mathlib.Core.Option.{Option}
 use lib.Dec.{leb}
 use Rattle.cells.specs.Equal.{sameBytes}
-use Rattle.numerals.specs.Numbers.{numberOf}
-use Rattle.numerals.specs.Hexadecimal.{hexOf, hexAnswer, hexBytes}
-use Rattle.numerals.specs.declared.Number.{Number}
-use Rattle.numerals.specs.declared.Number.the-variants as number
-use Rattle.numerals.specs.declared.Hex.{Hex}
-use Rattle.numerals.specs.declared.Hex.the-variants as hex
+use Rattle.digits.specs.DecimalRead.{numberOf}
+use Rattle.digits.specs.HexadecimalRead.{bytesRead, hexAnswer, hexBytes}
+use Rattle.digits.specs.declared.Number.{Number}
+use Rattle.digits.specs.declared.Number.the-variants as number
+use Rattle.digits.specs.declared.Hex.{Hex}
+use Rattle.digits.specs.declared.Hex.the-variants as hex
 use Rattle.script.specs.declared.Verb.the-variants.{Allocate, Confirmed, SendPacingResponse, SendData, Receive}
 use Rattle.script.specs.Closing.{flush, confirm, prepareToReceive, deallocate}
 use Rattle.script.specs.declared.Request.{Request}
@@ -74,7 +74,7 @@ counted second request hex.Bad = parsed.Bad
 -- 1 to 2,048 bytes, for which there are cells
 unfoldable pub givenOf : Bool → Request → List ℕ → ℕ → Reading
 givenOf second request text cells =
-    let found : Option (List ℕ) = hexOf text (min 2048 cells) in
+    let found : Option (List ℕ) = bytesRead text (min 2048 cells) in
     record { parsed = counted second request (hexAnswer found); given = hexBytes found }
 
 -- `-` is a unit of no byte

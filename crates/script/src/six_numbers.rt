@@ -3,8 +3,8 @@ use crate::FirstLine;
 use crate::Sizes;
 use crate::words::behind_word;
 use crate::words::word;
-use numerals::Number;
-use numerals::numbers::number;
+use digits::Number;
+use digits::decimal_read::number;
 ghost use mathlib.Core.Path.{_≡_};
 ghost use Rattle.script.specs.FirstLine.{isNumber, valueOf, sixOf, sizesOf};
 

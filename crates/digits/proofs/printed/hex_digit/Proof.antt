@@ -1,0 +1,15 @@
+-- `digits::printed::hex_digit` meets its contract. Below ten a figure, else a letter.
+-- Assumes nothing.
+use borrow.Author.Tests.{lt-ltb, le-ltb}
+use borrow.Author.Needs.{needs}
+use Rattle.digits.proofs.printed.hex_digit.Statement.{statement}
+use Rattle.digits.proofs.printed.hex_digit.Tie as tie
+
+returns : tie.Need-returns
+returns c = rw (lt-ltb _ _ (c .if1 .taken))
+
+returns-2 : tie.Need-returns-2
+returns-2 c = rw (le-ltb _ _ (c .if1 .left))
+
+pub hex-digit-spec : {M : Type 1} → statement M
+hex-digit-spec = tie.close (tie.spec (search needs) (search needs) returns returns-2)

@@ -1,3 +1,0 @@
-mod Digits
-mod Givens
-pub mod Pairs
