@@ -1,1 +1,2 @@
+mod CallLeaves
 mod Stepping

@@ -25,7 +25,7 @@ use Rattle.unit_lines.specs.declared.Line.{Line}
 use Rattle.bench.specs.declared.Outcome.{Outcome}
 use Rattle.bench.specs.declared.Outcome.the-variants.{Answered, NothingWaiting, Full}
 use Rattle.unit_lines.specs.Lines.{Holds}
-use Rattle.script_calls.specs.Calls.{verbOf, isRead, stationOf, actedBy, plainDone}
+use Rattle.bench.specs.CallMade.{verbOf, isRead, stationOf, actedBy, plainDone}
 use Rattle.bench.specs.Step.{Bench, benchOf, unlessFull, outcomeOf, replyTo, NamesRule, accepted, Steps}
 use Rattle.calls.proofs.UnitSizes.{Fits, acts-fit, takes-fit}
 use Rattle.calls.specs.Calls.{Called, called, taken, Reply, Station, plain, unitsOf}

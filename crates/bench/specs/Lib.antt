@@ -1,1 +1,2 @@
+pub mod CallMade
 pub mod Step

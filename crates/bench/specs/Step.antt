@@ -21,7 +21,7 @@ use Rattle.unit_lines.specs.declared.Line.{Line}
 use Rattle.bench.specs.declared.Outcome.{Outcome}
 use Rattle.bench.specs.declared.Outcome.the-variants.{Answered, NothingWaiting, Full}
 use Rattle.unit_lines.specs.Lines.{MOST-UNITS, Holds}
-use Rattle.script_calls.specs.Calls.{verbOf, isRead, replyOf, stationOf}
+use Rattle.bench.specs.CallMade.{verbOf, isRead, replyOf, stationOf}
 use Rattle.calls.specs.Calls.{Reply, Station}
 
 -- What a step is lent and leaves: an end with its buffers; the buffer of a read; the line to this end; and the line to the other end.

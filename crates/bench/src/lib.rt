@@ -1,13 +1,15 @@
 // Two joined ends on the bench, one step at a time: a request at one end, the units that wait for it on the line to it, and the
 // unit that it makes on the line to the other end.
+mod made_call;
+
+use crate::made_call::call;
+use crate::made_call::plain;
 use control::WhatReceived;
 use end::Answer;
 use end::End;
 use end::ReadAnswer;
 use script::Request;
 use script::Verb;
-use script_calls::call;
-use script_calls::plain;
 use unit_lines::Line;
 use unit_lines::deliver;
 use unit_lines::is_full;

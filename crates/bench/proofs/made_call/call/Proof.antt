@@ -2,11 +2,11 @@ use mathlib.Core.Path.{refl, sym, _∙_}
 use mathlib.Core.Bool.{false≢true}
 use denote.Ref.{now}
 use Rattle.calls.specs.Calls.{called}
-use Rattle.script_calls.specs.Calls.{stationOf}
-use Rattle.script_calls.proofs.Acting.{copied-left, read-is}
+use Rattle.bench.specs.CallMade.{stationOf}
+use Rattle.bench.proofs.CallLeaves.{copied-left, read-is}
 use borrow.Author.Needs.{needs}
-use Rattle.script_calls.proofs.call.Statement.{statement}
-use Rattle.script_calls.proofs.call.Tie as tie
+use Rattle.bench.proofs.made_call.call.Statement.{statement}
+use Rattle.bench.proofs.made_call.call.Tie as tie
 
 returns : tie.Need-returns
 unfolding called

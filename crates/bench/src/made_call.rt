@@ -11,10 +11,10 @@ ghost use mathlib.Core.Bool.{false};
 ghost use mathlib.Core.List.{List};
 ghost use Prim.Native.Nat.{ℕ};
 ghost use Rattle.calls.specs.Calls.{called};
-ghost use Rattle.script_calls.specs.Calls.{verbOf, isRead, stationOf, actedBy, plainDone};
+ghost use Rattle.bench.specs.CallMade.{verbOf, isRead, stationOf, actedBy, plainDone};
 
 // The answer of a call that is no read: nothing copied, no record complete, no mark.
-pub fn plain(done: Done) -> ReadDone
+pub(crate) fn plain(done: Done) -> ReadDone
     ensures { λ r. ⌜ r ≡ plainDone done ⌝ }
 {
     let given = done.answer;
@@ -70,7 +70,7 @@ fn make(end: End, verb: Verb, given: &[u8], send: &mut [u8], unit: &mut [u8]) ->
 }
 
 // Makes the call. A read goes into the buffer; no other call touches it.
-pub fn call(
+pub(crate) fn call(
     end: End,
     verb: Verb,
     given: &[u8],

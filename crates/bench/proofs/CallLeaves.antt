@@ -16,7 +16,7 @@ use Rattle.bools.proofs.Cases.{cases}
 use Rattle.calls.specs.Calls.{Called, Reply, Station, copies, makes, sends, unitsOf}
 use Rattle.script.specs.declared.Verb.{Verb}
 use Rattle.script.specs.declared.Verb.the-variants.{Allocate, Confirmed, SendPacingResponse, SendData, Close, Receive}
-use Rattle.script_calls.specs.Calls.{isRead, stationOf, plainDone}
+use Rattle.bench.specs.CallMade.{isRead, stationOf, plainDone}
 
 -- one call alone is a read
 pub read-is : (v : Verb) → isRead v ≡ true → v ≡ Receive

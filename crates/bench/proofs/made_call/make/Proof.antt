@@ -2,11 +2,11 @@ use mathlib.Core.Path.{refl, sym}
 use mathlib.Core.Bool.{false≢true}
 use denote.Ref.{now}
 use Rattle.calls.specs.Calls.{called}
-use Rattle.script_calls.specs.Calls.{stationOf}
-use Rattle.script_calls.proofs.Acting.{made-left, sent-left}
+use Rattle.bench.specs.CallMade.{stationOf}
+use Rattle.bench.proofs.CallLeaves.{made-left, sent-left}
 use borrow.Author.Needs.{needs}
-use Rattle.script_calls.proofs.make.Statement.{statement}
-use Rattle.script_calls.proofs.make.Tie as tie
+use Rattle.bench.proofs.made_call.make.Statement.{statement}
+use Rattle.bench.proofs.made_call.make.Tie as tie
 
 returns : tie.Need-returns
 unfolding called
