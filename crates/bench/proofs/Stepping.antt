@@ -24,19 +24,11 @@ use Rattle.script.specs.declared.Request.the-variants.{Call, Take, Offer}
 use Rattle.unit_lines.specs.declared.Line.{Line}
 use Rattle.bench.specs.declared.Outcome.{Outcome}
 use Rattle.bench.specs.declared.Outcome.the-variants.{Answered, NothingWaiting, Full}
-use Rattle.unit_lines.specs.Lines.{Holds}
+use Rattle.unit_lines.specs.UnitLine.{Holds}
 use Rattle.bench.specs.CallMade.{verbOf, isRead, stationOf, actedBy, plainDone}
 use Rattle.bench.specs.Step.{Bench, benchOf, unlessFull, outcomeOf, replyTo, NamesRule, accepted, Steps}
 use Rattle.calls.proofs.UnitSizes.{Fits, acts-fit, takes-fit}
 use Rattle.calls.specs.Calls.{Called, called, taken, Reply, Station, plain, unitsOf}
-
--- ---- outcomes are apart
-
-full-apart : Full ≡ Answered → ⊥
-full-apart e = let z : _≡_ {A = ℕ} 0 1 = cc in omega arith
-
-nothing-apart : NothingWaiting ≡ Answered → ⊥
-nothing-apart e = let z : _≡_ {A = ℕ} 0 1 = cc in omega arith
 
 -- ---- no call is made
 
@@ -44,29 +36,22 @@ nothing-apart e = let z : _≡_ {A = ℕ} 0 1 = cc in omega arith
 pub counted : (l : Line) (cells : List ℕ) (vs : List (List ℕ)) (t : Bool) → Holds l cells vs → leb 512 (l .units) ≡ t → leb 512 (length vs) ≡ t
 counted l cells vs t h e = ap (leb 512) (sym (h .units-are)) ∙ e
 
-pub full-step : (q : Request) (given : List ℕ) (b : Bench) (o : Outcome) (a : ReadAnswer) (b₁ : Bench) (es : Log) (us vs : List (List ℕ))
-    → o ≡ Full → b₁ ≡ b → leb 512 (length vs) ≡ true → outcomeOf q us vs ≡ unlessFull vs
-    → Steps q given b o a b₁ es us vs
-full-step q given b o a b₁ es us vs eo eb f u =
-    record {
-      outcome-is = eo ∙ sym (u ∙ rw f);
-      answered = λ n. absurd (full-apart (sym eo ∙ n));
-      named = λ n. absurd (full-apart (sym eo ∙ n));
-      unread = λ n. ap (λ (x : Bench). x .buffer) eb;
-      unchanged = λ n. eb;
-    }
+module _ (q : Request) (given : List ℕ) (b : Bench) (o : Outcome) (a : ReadAnswer) (b₁ : Bench) (es : Log) (us vs : List (List ℕ)) (same : b₁ ≡ b) where
+  unmade : o ≡ outcomeOf q us vs → (o ≡ Answered → ⊥) → Steps q given b o a b₁ es us vs
+  unmade e n =
+      record {
+        outcome-is = e;
+        answered = λ y. absurd (n y);
+        named = λ y. absurd (n y);
+        unread = λ z. ap (λ (x : Bench). x .buffer) same;
+        unchanged = λ z. same;
+      }
 
-pub nothing-step : (given : List ℕ) (b : Bench) (o : Outcome) (a : ReadAnswer) (b₁ : Bench) (es : Log) (vs : List (List ℕ))
-    → o ≡ NothingWaiting → b₁ ≡ b
-    → Steps Take given b o a b₁ es [] vs
-nothing-step given b o a b₁ es vs eo eb =
-    record {
-      outcome-is = eo;
-      answered = λ n. absurd (nothing-apart (sym eo ∙ n));
-      named = λ n. absurd (nothing-apart (sym eo ∙ n));
-      unread = λ n. ap (λ (x : Bench). x .buffer) eb;
-      unchanged = λ n. eb;
-    }
+  pub full-step : o ≡ Full → leb 512 (length vs) ≡ true → outcomeOf q us vs ≡ unlessFull vs → Steps q given b o a b₁ es us vs
+  full-step e f u = unmade (e ∙ sym (u ∙ rw f)) (λ y. let z : _≡_ {A = ℕ} 0 1 = cc in omega arith)
+
+  pub nothing-step : o ≡ NothingWaiting → outcomeOf q us vs ≡ NothingWaiting → Steps q given b o a b₁ es us vs
+  nothing-step e u = unmade (e ∙ sym u) (λ y. let z : _≡_ {A = ℕ} 0 1 = cc in omega arith)
 
 -- ---- a call
 

@@ -20,7 +20,7 @@ use Rattle.script.specs.declared.Request.the-variants.{Call, Take, Offer}
 use Rattle.unit_lines.specs.declared.Line.{Line}
 use Rattle.bench.specs.declared.Outcome.{Outcome}
 use Rattle.bench.specs.declared.Outcome.the-variants.{Answered, NothingWaiting, Full}
-use Rattle.unit_lines.specs.Lines.{MOST-UNITS, Holds}
+use Rattle.unit_lines.specs.UnitLine.{MOST-UNITS, Holds}
 use Rattle.bench.specs.CallMade.{verbOf, isRead, replyOf, stationOf}
 use Rattle.calls.specs.Calls.{Reply, Station}
 

@@ -19,7 +19,7 @@ ghost use mathlib.Core.Path.{_≡_};
 ghost use mathlib.Core.List.{List};
 ghost use Prim.Native.Nat.{ℕ};
 ghost use Rattle.joined.specs.Histories.{Log};
-ghost use Rattle.unit_lines.specs.Lines.{Holds};
+ghost use Rattle.unit_lines.specs.UnitLine.{Holds};
 ghost use Rattle.bench.specs.Step.{accepted, benchOf, Steps};
 
 // Whether the call was made.
@@ -76,7 +76,13 @@ fn step_call(
     to: Line,
     far: &mut [u8],
 ) -> Stepped
-    ensures { λ r. ⌜ ((waiting : List ℕ) (es : Log) (us vs : List (List ℕ)) → Holds from waiting us → Holds to (now (far .entry)) vs → Steps (Request.Call verb) (now (given .entry)) (benchOf end (now (send .entry)) (now (unit .entry)) (now (inbox .entry)) (now (buffer .entry)) from waiting to (now (far .entry))) (r .outcome) (r .answer) (benchOf (r .end) (now (send .exit)) (now (unit .exit)) (now (inbox .exit)) (now (buffer .exit)) (r .from) waiting (r .to) (now (far .exit))) es us vs) ⌝ }
+    ensures { λ r.
+        ⌜ ((waiting : List ℕ) (es : Log) (us vs : List (List ℕ)) → Holds from waiting us → Holds to (now (far .entry)) vs
+        → Steps (Request.Call verb) (now (given .entry))
+        (benchOf end (now (send .entry)) (now (unit .entry)) (now (inbox .entry)) (now (buffer .entry)) from waiting to (now (far .entry)))
+        (r .outcome) (r .answer)
+        (benchOf (r .end) (now (send .exit)) (now (unit .exit)) (now (inbox .exit)) (now (buffer .exit)) (r .from) waiting (r .to) (now (far .exit)))
+        es us vs) ⌝ }
 {
     if is_full(to) {
         return unmade(Outcome::Full, end, from, to);
@@ -105,7 +111,13 @@ fn step_offer(
     to: Line,
     far: &mut [u8],
 ) -> Stepped
-    ensures { λ r. ⌜ ((send buffer waiting : List ℕ) (es : Log) (us vs : List (List ℕ)) → Holds from waiting us → Holds to (now (far .entry)) vs → Steps Request.Offer (now (taken .entry)) (benchOf end send (now (unit .entry)) (now (inbox .entry)) buffer from waiting to (now (far .entry))) (r .outcome) (r .answer) (benchOf (r .end) send (now (unit .exit)) (now (inbox .exit)) buffer (r .from) waiting (r .to) (now (far .exit))) es us vs) ⌝ }
+    ensures { λ r.
+        ⌜ ((send buffer waiting : List ℕ) (es : Log) (us vs : List (List ℕ)) → Holds from waiting us → Holds to (now (far .entry)) vs
+        → Steps Request.Offer (now (taken .entry))
+        (benchOf end send (now (unit .entry)) (now (inbox .entry)) buffer from waiting to (now (far .entry)))
+        (r .outcome) (r .answer)
+        (benchOf (r .end) send (now (unit .exit)) (now (inbox .exit)) buffer (r .from) waiting (r .to) (now (far .exit)))
+        es us vs) ⌝ }
 {
     if is_full(to) {
         return unmade(Outcome::Full, end, from, to);
@@ -145,7 +157,12 @@ fn step_take(
     to: Line,
     far: &mut [u8],
 ) -> Stepped
-    ensures { λ r. ⌜ ((given send buffer : List ℕ) (es : Log) (us vs : List (List ℕ)) → Holds from (now (waiting .entry)) us → Holds to (now (far .entry)) vs → Steps Request.Take given (benchOf end send (now (unit .entry)) (now (inbox .entry)) buffer from (now (waiting .entry)) to (now (far .entry))) (r .outcome) (r .answer) (benchOf (r .end) send (now (unit .exit)) (now (inbox .exit)) buffer (r .from) (now (waiting .exit)) (r .to) (now (far .exit))) es us vs) ⌝ }
+    ensures { λ r.
+        ⌜ ((given send buffer : List ℕ) (es : Log) (us vs : List (List ℕ))
+        → Holds from (now (waiting .entry)) us → Holds to (now (far .entry)) vs → Steps Request.Take given
+        (benchOf end send (now (unit .entry)) (now (inbox .entry)) buffer from (now (waiting .entry)) to (now (far .entry)))
+        (r .outcome) (r .answer)
+        (benchOf (r .end) send (now (unit .exit)) (now (inbox .exit)) buffer (r .from) (now (waiting .exit)) (r .to) (now (far .exit))) es us vs) ⌝ }
 {
     let past = oldest_end(from, waiting);
     if past == 0 {
@@ -185,7 +202,14 @@ pub fn step(
     to: Line,
     far: &mut [u8],
 ) -> Stepped
-    ensures { λ r. ⌜ ((es : Log) (us vs : List (List ℕ)) → Holds from (now (waiting .entry)) us → Holds to (now (far .entry)) vs → Steps request (now (given .entry)) (benchOf end (now (send .entry)) (now (unit .entry)) (now (inbox .entry)) (now (buffer .entry)) from (now (waiting .entry)) to (now (far .entry))) (r .outcome) (r .answer) (benchOf (r .end) (now (send .exit)) (now (unit .exit)) (now (inbox .exit)) (now (buffer .exit)) (r .from) (now (waiting .exit)) (r .to) (now (far .exit))) es us vs) ⌝ }
+    ensures { λ r.
+        ⌜ ((es : Log) (us vs : List (List ℕ)) → Holds from (now (waiting .entry)) us → Holds to (now (far .entry)) vs
+        → Steps request (now (given .entry))
+        (benchOf end (now (send .entry)) (now (unit .entry)) (now (inbox .entry)) (now (buffer .entry))
+        from (now (waiting .entry)) to (now (far .entry))) (r .outcome) (r .answer)
+        (benchOf (r .end) (now (send .exit)) (now (unit .exit)) (now (inbox .exit)) (now (buffer .exit))
+        (r .from) (now (waiting .exit)) (r .to) (now (far .exit)))
+        es us vs) ⌝ }
 {
     match request {
         Request::Call(verb) => step_call(

@@ -57,7 +57,9 @@ fn unmade(end: End) -> Done
 
 // Makes a call that is no read; a read is not made here.
 fn make(end: End, verb: Verb, given: &[u8], send: &mut [u8], unit: &mut [u8]) -> Done
-    ensures { λ r. ⌜ (isRead verb ≡ false → (inbox buffer : List ℕ) → actedBy verb (plainDone r) (now (send .exit)) (now (unit .exit)) inbox buffer ≡ called (stationOf end (now (send .entry)) (now (unit .entry)) inbox) (verbOf verb (now (given .entry)) buffer)) ⌝ }
+    ensures { λ r.
+        ⌜ (isRead verb ≡ false → (inbox buffer : List ℕ) → actedBy verb (plainDone r) (now (send .exit)) (now (unit .exit)) inbox buffer
+        ≡ called (stationOf end (now (send .entry)) (now (unit .entry)) inbox) (verbOf verb (now (given .entry)) buffer)) ⌝ }
 {
     match verb {
         Verb::Allocate => end.allocate(unit),
@@ -79,7 +81,9 @@ pub(crate) fn call(
     inbox: &mut [u8],
     buffer: &mut [u8],
 ) -> ReadDone
-    ensures acted { λ r. ⌜ actedBy verb r (now (send .exit)) (now (unit .exit)) (now (inbox .exit)) (now (buffer .exit)) ≡ called (stationOf end (now (send .entry)) (now (unit .entry)) (now (inbox .entry))) (verbOf verb (now (given .entry)) (now (buffer .entry))) ⌝ }
+    ensures acted { λ r.
+        ⌜ actedBy verb r (now (send .exit)) (now (unit .exit)) (now (inbox .exit)) (now (buffer .exit))
+        ≡ called (stationOf end (now (send .entry)) (now (unit .entry)) (now (inbox .entry))) (verbOf verb (now (given .entry)) (now (buffer .entry))) ⌝ }
     ensures unread { λ _. ⌜ (isRead verb ≡ false → now (buffer .exit) ≡ now (buffer .entry)) ⌝ }
 {
     if is_read(verb) {

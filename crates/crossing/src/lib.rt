@@ -1,9 +1,9 @@
 // A script run on two joined ends: each line is read, its call made, and its answer handed out.
-mod answer;
-mod ends;
+mod both_ends;
 mod handing;
-mod line;
 pub mod named;
 mod near;
-mod openings;
+mod opened_ends;
 pub mod run;
+mod script_line;
+mod step_text;

@@ -1,9 +1,9 @@
 // A step at the near end, and its answer handed out.
-use crate::answer::step_text;
-use crate::ends::Joined;
-use crate::ends::Side;
+use crate::both_ends::Joined;
+use crate::both_ends::Side;
 use crate::handing::Met;
 use crate::handing::hand_front;
+use crate::step_text::step_text;
 use bench::Stepped;
 use bench::step;
 use end::End;

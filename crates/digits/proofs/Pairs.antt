@@ -1,8 +1,8 @@
 -- Pairs of hexadecimal digits: one more is passed, and the bytes that they are.
 -- Assumes nothing.
-use mathlib.Core.Path.{_≡_, refl, sym, ap, _∙_}
+use mathlib.Core.Path.{_≡_, refl}
 use mathlib.Core.Bool.{true, false}
-use mathlib.Core.List.{List, [], _∷_, _++_}
+use mathlib.Core.List.{List, [], _∷_}
 use Prim.Native.Nat.{ℕ, zero, suc, _+_, _-_, _*_, _≤_, _<_}
 use native.Mathlib.Nat.{zero-add}
 use native.Mathlib.Numerals.{add-one}
@@ -12,35 +12,22 @@ use lib.ListN.{length, getD, set, drop, drop-of-length-le}
 use lib.Seq.{drop-cons, paste, paste-suc, take-length}
 use borrow.Author.Tests.{leb-true}
 use Rattle.cells.specs.Cells.{front}
-use Rattle.digits.proofs.DecimalDigits.{decimal-bounds}
 use Rattle.bools.proofs.Tests.{both}
-use Rattle.digits.specs.DecimalRead.{isDecimal}
-use Rattle.digits.specs.HexadecimalRead.{isLetter, digitOf, isPair, byteOf, arePairs, bytesOf}
+use Rattle.digits.specs.HexadecimalRead.{isLetter, isPair, byteOf, arePairs, bytesOf}
 
 -- ---- one digit
 
-pub decimal-digit : (b : ℕ) → isDecimal b ≡ true → (0x30 ≤ b) × (b - 0x30 ≡ digitOf b) × (b - 0x30 ≤ 15)
-decimal-digit b e =
-    let t = decimal-bounds b e in
-    (t .0, rw e, omega arith)
-
-pub letter-digit : (b : ℕ) → isDecimal b ≡ false → isLetter b ≡ true → (0x37 ≤ b) × (b - 0x37 ≡ digitOf b) × (b - 0x37 ≤ 15)
-letter-digit b n e =
+pub letter-bounds : (b : ℕ) → isLetter b ≡ true → (0x41 ≤ b) × (b ≤ 0x46)
+letter-bounds b e =
     let t = both (leb 0x41 b) (leb b 0x46) e in
-    let l = leb-true 0x41 b (t .0) in
-    let m = leb-true b 0x46 (t .1) in
-    (omega arith, rw (n, e), omega arith)
-
-pub no-digit : (b : ℕ) → isDecimal b ≡ false → isLetter b ≡ false → 0 ≡ digitOf b
-no-digit b n e = rw (n, e)
+    (leb-true 0x41 b (t .0), leb-true b 0x46 (t .1))
 
 -- ---- the pairs from a place on
 
 two-at : (s : List ℕ) (i : ℕ) → i + 1 < length s → drop i s ≡ getD s i 0 ∷ getD s (i + 1) 0 ∷ drop (i + 2) s
 two-at s i h =
-    let e : i + 1 ≡ suc i = add-one i in
     let f : i + 2 ≡ suc (suc i) = omega arith in
-    rw (e, f, drop-cons s i 0 (omega arith), drop-cons s (suc i) 0 (omega arith))
+    rw (add-one, f, drop-cons s i 0 (omega arith), drop-cons s (suc i) 0 (omega arith))
 
 module _ (s : List ℕ) (i : ℕ) where
   pub pairs-more : i + 1 < length s → isPair (getD s i 0) (getD s (i + 1) 0) ≡ true → arePairs (drop (i + 2) s) ≡ arePairs (drop i s)
@@ -84,12 +71,8 @@ byte-at (a ∷ b ∷ rest) (suc i) h =
 
 pub written-more : (cells bs : List ℕ) (i : ℕ) → i < length cells → i < length bs
     → set (paste cells 0 bs i) i (getD bs i 0) ≡ paste cells 0 bs (i + 1)
-written-more cells bs i h l =
-    rw add-one
-    (let t : set (paste cells 0 bs i) (0 + i) (getD bs i 0) ≡ paste cells 0 bs (suc i) = paste-suc cells 0 bs i 0 (omega arith) l in
-    ap (λ (k : ℕ). set (paste cells 0 bs i) k (getD bs i 0)) (sym (zero-add i)) ∙ t)
+written-more cells bs i h l = rw add-one (simp zero-add (simp zero-add at (paste-suc cells 0 bs i 0 (omega arith) l)))
 
 pub written-all : (cells bs : List ℕ) → paste cells 0 bs (length bs) ≡ front bs cells
 unfolding front
-written-all cells bs =
-    ap (λ (l : List ℕ). l ++ drop (0 + length bs) cells) (take-length bs) ∙ ap (λ (k : ℕ). bs ++ drop k cells) (zero-add (length bs))
+written-all cells bs = simp (take-length, zero-add)

@@ -1,9 +1,9 @@
 -- What is printed is read back: digit by digit, in decimal from the first, in hexadecimal two by two.
 -- Assumes nothing.
-use mathlib.Core.Path.{_≡_, refl, sym, ap, _∙_}
-use mathlib.Core.Bool.{Bool, true, false, _&&_, _||_}
+use mathlib.Core.Path.{_≡_, refl, _∙_}
+use mathlib.Core.Bool.{true, false, _&&_, _||_}
 use mathlib.Core.List.{List, [], _∷_, _++_}
-use Prim.Native.Nat.{ℕ, zero, suc, _+_, _-_, _*_, _/_, _%_, _^_, _≤_, _<_}
+use Prim.Native.Nat.{ℕ, zero, suc, _+_, _*_, _/_, _%_, _^_, _≤_, _<_}
 use native.Mathlib.Omega.{arith}
 use lib.Dec.{eqb, ltb, leb}
 use lib.ListN.{length}
@@ -13,7 +13,7 @@ use Rattle.bools.proofs.Cases.{split}
 use Rattle.digits.specs.DecimalRead.{isDecimal, withDigit, readOn, numberOf}
 use Rattle.digits.specs.HexadecimalRead.{isLetter, digitOf, arePairs, bytesOf, bytesRead}
 use Rattle.digits.specs.Printed.{decimalIn, decimalOf, hexDigit, hexOf}
-use Rattle.digits.specs.ReadBack.{NumberReadBack, areBytes, ReadBackAs, BytesReadBack}
+use Rattle.digits.specs.ReadBack.{NumberReadBack, areBytes, BytesReadBack}
 use Rattle.digits.specs.declared.Number.the-variants.{Is, Bad}
 use Rattle.digits.proofs.PrintedDigits.{below-ten, ten-up, fewer}
 
@@ -71,10 +71,6 @@ number-read-back (suc n) h =
 
 -- ---- hexadecimal
 
-record DigitRead (d : ℕ) : Type 0 where
-  is : isDecimal (hexDigit d) || isLetter (hexDigit d) ≡ true
-  value : digitOf (hexDigit d) ≡ d
-
 figure-read : (d x : ℕ) → d < 10 → x ≡ 48 + d → (isDecimal x || isLetter x ≡ true) × (digitOf x ≡ d)
 figure-read d x h e =
     let t = le-leb 0x30 x (omega arith) in
@@ -89,11 +85,11 @@ letter-read d x h l e =
     let w = le-leb x 0x46 (omega arith) in
     (rw (t, u, v, w), rw (t, u, v, w) (omega arith))
 
-digit-read : (d : ℕ) → d < 16 → DigitRead d
+digit-read : (d : ℕ) → d < 16 → (isDecimal (hexDigit d) || isLetter (hexDigit d) ≡ true) × (digitOf (hexDigit d) ≡ d)
 digit-read d h =
     split (ltb d 10)
-    (λ t. let r = figure-read d (48 + d) (ltb-true d 10 t) (omega arith) in record { is = rw t (r .0); value = rw t (r .1) })
-    (λ t. let r = letter-read d (55 + d) (ltb-false d 10 t) h (omega arith) in record { is = rw t (r .0); value = rw t (r .1) })
+    (λ t. figure-read d (hexDigit d) (ltb-true d 10 t) (rw t))
+    (λ t. letter-read d (hexDigit d) (ltb-false d 10 t) h (rw t))
 
 bytes-read : (bs : List ℕ) → areBytes bs ≡ true → (arePairs (hexOf bs) ≡ true) × (bytesOf (hexOf bs) ≡ bs)
 unfolding areBytes arePairs bytesOf hexOf
@@ -105,7 +101,7 @@ bytes-read (b ∷ bs) h =
     let low = digit-read (b % 16) (omega arith) in
     let rest = bytes-read bs (p .1) in
     let e : 16 * (b / 16) + b % 16 ≡ b = omega arith in
-    (rw (high .is, low .is) (rest .0), rw (high .value, low .value, e, rest .1))
+    (rw (high .0, low .0) (rest .0), rw (high .1, low .1, e, rest .1))
 
 pub bytes-read-back : BytesReadBack
 unfolding bytesRead

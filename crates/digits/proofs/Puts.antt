@@ -4,13 +4,13 @@ use mathlib.Core.Path.{_≡_, refl, sym, ap, _∙_}
 use mathlib.Core.List.{List, [], _++_, append-assoc}
 use Prim.Native.Nat.{ℕ, _+_, _-_, _≤_, _<_}
 use native.Mathlib.Omega.{arith}
-use lib.ListN.{length, take, drop, length-append, take-append-drop}
-use lib.Seq.{take-length, length-take-le, drop-at}
+use lib.ListN.{length, take, drop, length-append}
+use lib.Seq.{length-take-le, drop-at}
 use borrow.Author.Tests.{le-leb, lt-leb}
 use borrow.Rule.Slice.PartMut.{midOf, putMid}
 use Rattle.cells.specs.Cells.{front, written}
-use Rattle.cells.proofs.Fronts.{front-then, written-bytes, written-length}
-use Rattle.cells.proofs.Parts.{part-is, part-back}
+use Rattle.cells.proofs.Copies.{copy-part}
+use Rattle.cells.proofs.Fronts.{front-then, written-bytes, written-length, written-none}
 use Rattle.digits.specs.PutAt.{putAt}
 
 module _ (text : List ℕ) (at : ℕ) (cells : List ℕ) where
@@ -23,15 +23,10 @@ module _ (text : List ℕ) (at : ℕ) (cells : List ℕ) where
   is-put h = rw (le-leb (at + length text) (length cells) h)
 
   -- a copy into the part that starts at `at`
-  copied-at : (part : List ℕ) → part ≡ take (length text) text ++ drop (length text) (midOf at (length cells - at) cells)
-      → putMid at (length cells - at) cells part ≡ written at text cells
-  unfolding written front
-  copied-at part e = rw (part-back at cells part, e, part-is at cells, take-length text)
-
   pub put-copied : at + length text ≤ length cells
       → (part : List ℕ) → part ≡ take (length text) text ++ drop (length text) (midOf at (length cells - at) cells)
       → _≡_ {A = ℕ × List ℕ} (at + length text, putMid at (length cells - at) cells part) (putAt text at cells)
-  put-copied h part e = rw (copied-at part e, is-put h)
+  put-copied h part e = rw (copy-part at text cells part e, is-put h)
 
   -- the cells behind the bytes
   written-past : at ≤ length cells → drop (at + length text) (written at text cells) ≡ drop (length text) (drop at cells)
@@ -52,10 +47,6 @@ written-then a b at cells h =
     ∙ append-assoc (take at cells) a (front b (drop (length a) (drop at cells)))
     ∙ ap (λ (l : List ℕ). take at cells ++ l) (front-then a b (drop at cells))
 
-pub written-none : (at : ℕ) (cells : List ℕ) → written at [] cells ≡ cells
-unfolding written front
-written-none at cells = take-append-drop at cells
-
 -- what a text that fits is, where it fits
 module _ (text : List ℕ) (at : ℕ) (cells : List ℕ) (r : ℕ) (after : List ℕ) (e : _≡_ {A = ℕ × List ℕ} (r, after) (putAt text at cells))
     (h : at + length text ≤ length cells) where
@@ -73,26 +64,26 @@ pub record Left (text : List ℕ) (at : ℕ) (cells : List ℕ) (rest : List ℕ
   pub completes : written next rest now ≡ written at text cells
   pub same : length now ≡ length cells
 
-pub left-all : (text : List ℕ) (at : ℕ) (cells : List ℕ) → at + length text ≤ length cells → Left text at cells text at cells
-left-all text at cells h = record { fits = h; place = refl; completes = refl; same = refl }
+module _ {text : List ℕ} {at : ℕ} {cells : List ℕ} where
+  pub left-all : at + length text ≤ length cells → Left text at cells text at cells
+  left-all h = record { fits = h; place = refl; completes = refl; same = refl }
 
-pub left-none : (text : List ℕ) (at : ℕ) (cells : List ℕ) (next : ℕ) (now : List ℕ) → Left text at cells [] next now
-    → _≡_ {A = ℕ × List ℕ} (next, now) (putAt text at cells)
-left-none text at cells next now l =
-    let n : next ≡ at + length text = omega (arith, l .place) in
-    let w : now ≡ written at text cells = sym (written-none next now) ∙ l .completes in
-    rw (is-put text at cells (l .fits), n, w)
+  pub left-none : {next : ℕ} {now : List ℕ} → Left text at cells [] next now → _≡_ {A = ℕ × List ℕ} (next, now) (putAt text at cells)
+  left-none {next} {now} l =
+      let n : next ≡ at + length text = omega (arith, l .place) in
+      let w : now ≡ written at text cells = sym (written-none next now) ∙ l .completes in
+      rw (is-put text at cells (l .fits), n, w)
 
-pub left-less : (text : List ℕ) (at : ℕ) (cells a rest : List ℕ) (next : ℕ) (now : List ℕ) (r : ℕ) (after : List ℕ)
-    → Left text at cells (a ++ rest) next now → _≡_ {A = ℕ × List ℕ} (r, after) (putAt a next now) → Left text at cells rest r after
-left-less text at cells a rest next now r after l e =
-    let n : length (a ++ rest) ≡ length a + length rest = length-append a rest in
-    let h : next + length a ≤ length now = omega (arith, l .place, l .same, l .fits) in
-    let er : r ≡ next + length a = put-place a next now r after e h in
-    let ea : after ≡ written next a now = put-cells a next now r after e h in
-    record {
-      fits = l .fits;
-      place = omega (arith, l .place);
-      completes = rw (er, ea, written-then a rest next now (omega arith)) (l .completes);
-      same = rw ea (written-length next a now h ∙ l .same);
-    }
+  pub left-less : (a : List ℕ) {rest : List ℕ} {next : ℕ} {now : List ℕ} {r : ℕ} {after : List ℕ}
+      → Left text at cells (a ++ rest) next now → _≡_ {A = ℕ × List ℕ} (r, after) (putAt a next now) → Left text at cells rest r after
+  left-less a {rest} {next} {now} {r} {after} l e =
+      let n : length (a ++ rest) ≡ length a + length rest = length-append a rest in
+      let h : next + length a ≤ length now = omega (arith, l .place, l .same, l .fits) in
+      let er : r ≡ next + length a = put-place a next now r after e h in
+      let ea : after ≡ written next a now = put-cells a next now r after e h in
+      record {
+        fits = l .fits;
+        place = omega (arith, l .place);
+        completes = rw (er, ea, written-then a rest next now (omega arith)) (l .completes);
+        same = rw ea (written-length next a now h ∙ l .same);
+      }

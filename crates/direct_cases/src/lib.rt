@@ -1,9 +1,9 @@
 // Named cases that no script can ask for: each makes the delivered calls itself and compares every byte.
 mod forged;
 mod lent_short;
-mod numbers;
 mod opened;
 mod refused;
+mod wrapping;
 
 use check::same;
 use forged::refusal_5_forged_receives;
@@ -14,8 +14,8 @@ use lent_short::refusal_4_inbox_of_read;
 use lent_short::refusal_4_inbox_of_take;
 use lent_short::refusal_4_send_buffer;
 use lent_short::refusal_4_unit_buffer;
-use numbers::seq;
 use opened::refusal_1_role;
+use wrapping::seq;
 
 fn opened_and_forged(name: &[u8]) -> bool {
     (same(name, b"refusal_1_role") & refusal_1_role())

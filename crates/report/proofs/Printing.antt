@@ -9,10 +9,10 @@ use lib.Dec.{leb}
 use lib.ListN.{length, length-append}
 use borrow.Author.Tests.{leb-true, leb-false}
 use Rattle.cells.specs.Cells.{written}
-use Rattle.cells.proofs.Fronts.{written-length}
+use Rattle.cells.proofs.Fronts.{written-length, written-none}
 use Rattle.digits.specs.PutAt.{putAt}
 use Rattle.report.specs.Prints.{PrintsAt, Prints}
-use Rattle.digits.proofs.Puts.{not-put, put-place, put-cells, written-then, written-none}
+use Rattle.digits.proofs.Puts.{not-put, put-place, put-cells, written-then}
 
 put-within : (b : Bool) (text : List ℕ) (at : ℕ) (cells : List ℕ) (r : ℕ) (after : List ℕ) → leb (at + length text) (length cells) ≡ b
     → _≡_ {A = ℕ × List ℕ} (r, after) (putAt text at cells) → at ≤ length cells → r ≤ length after

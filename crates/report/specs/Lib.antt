@@ -1,6 +1,6 @@
-pub mod Answer
+pub mod AnswerLine
 pub mod Ascii
-pub mod Examples
-pub mod Lines
-pub mod Named
+pub mod ReportExamples
+pub mod OtherLines
+pub mod AnswerWords
 pub mod Prints

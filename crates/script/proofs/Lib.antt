@@ -1,3 +1,3 @@
-mod Givens
-mod Lines
-mod Parts
+mod MostBytes
+mod CallLineRows
+mod PartsFound

@@ -4,8 +4,8 @@ use Prim.Native.Nat.{ℕ}
 use mathlib.Core.Bool.{Bool, true, false, cond}
 use mathlib.Core.List.{List, [], _∷_}
 use lib.ListN.{length, drop}
-use Rattle.script.specs.Words.{begins}
-use Rattle.script.specs.Requests.{Reading, noBytes, wordRows, rowOf, givenOf, offerOf, readOf}
+use Rattle.script.specs.TextParts.{begins}
+use Rattle.script.specs.WordsAsked.{Reading, noBytes, wordRows, rowOf, givenOf, offerOf, readOf}
 use Rattle.cells.specs.Cells.{front}
 use Rattle.script.specs.declared.Verb.the-variants.{SendData}
 use Rattle.script.specs.declared.Request.the-variants.{Call}

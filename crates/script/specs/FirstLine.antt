@@ -4,7 +4,7 @@ use Prim.Native.Nat.{ℕ}
 use mathlib.Core.Bool.{Bool, true, false, cond, _&&_}
 use mathlib.Core.List.{List, [], _∷_}
 use lib.ListN.{drop}
-use Rattle.script.specs.Words.{begins, wordOf, behindWord}
+use Rattle.script.specs.TextParts.{begins, wordOf, behindWord}
 use Rattle.digits.specs.DecimalRead.{numberOf}
 use Rattle.digits.specs.declared.Number.{Number}
 use Rattle.digits.specs.declared.Number.the-variants as number

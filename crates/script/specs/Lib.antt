@@ -1,7 +1,7 @@
-pub mod Words
+pub mod TextParts
 pub mod FirstLine
 pub mod Closing
-pub mod Requests
+pub mod WordsAsked
 pub mod CallLine
-pub mod Examples
+pub mod ScriptExamples
 pub mod LineEnds

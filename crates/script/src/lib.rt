@@ -1,9 +1,9 @@
 // A script of calls on two joined ends: the forms of its lines.
-pub mod line;
-mod requests;
+pub mod line_forms;
 mod six_numbers;
 pub mod text;
-mod words;
+mod text_parts;
+mod words_asked;
 
 use header::Follows;
 

@@ -1,8 +1,8 @@
 // Six numbers of a first line: all are numbers, or the line is bad.
 use crate::FirstLine;
 use crate::Sizes;
-use crate::words::behind_word;
-use crate::words::word;
+use crate::text_parts::behind_word;
+use crate::text_parts::word;
 use digits::Number;
 use digits::decimal_read::number;
 ghost use mathlib.Core.Path.{_≡_};

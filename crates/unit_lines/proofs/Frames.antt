@@ -9,7 +9,7 @@ use lib.Seq.{take-length}
 use borrow.Rule.Slice.PartMut.{midOf, putMid}
 use Rattle.cells.specs.Cells.{front}
 use Rattle.cells.proofs.Parts.{part-is, part-back}
-use Rattle.unit_lines.specs.Lines.{framed, frames, NoneLonger}
+use Rattle.unit_lines.specs.UnitLine.{framed, frames, NoneLonger}
 
 -- two stores, and the unit in the part that starts at cell 2
 two-and-unit : (h l : ℕ) (u c : List ℕ) → 2 ≤ length c

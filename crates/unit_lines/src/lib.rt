@@ -9,7 +9,7 @@ ghost use lib.Dec.{leb};
 ghost use lib.ListN.{length, getD};
 ghost use Rattle.cells.specs.Cells.{front};
 ghost use Rattle.calls.specs.Calls.{unitsOf};
-ghost use Rattle.unit_lines.specs.Lines.{MOST-UNITS, LONGEST-UNIT, LONGEST-FRAME, framed, Holds, hasRoom, stands, oldestEnd, UnitTo};
+ghost use Rattle.unit_lines.specs.UnitLine.{MOST-UNITS, LONGEST-UNIT, LONGEST-FRAME, framed, Holds, hasRoom, stands, oldestEnd, UnitTo};
 
 // A line holds up to 512 units.
 pub const MOST_UNITS: u16 = 512;
@@ -63,8 +63,13 @@ fn put_frame(cells: &mut [u8], unit: &[u8])
 
 // The unit joins behind those on the line.
 pub fn put(line: Line, cells: &mut [u8], unit: &[u8]) -> Line
-    ensures held { λ r. ⌜ ((us : List (List ℕ)) → Holds line (now (cells .entry)) us → length us < MOST-UNITS → length (now (unit .entry)) ≤ LONGEST-UNIT → Holds r (now (cells .exit)) (us ++ (now (unit .entry) ∷ []))) ⌝ }
-    ensures kept { λ r. ⌜ (hasRoom line (length (now (cells .entry))) (length (now (unit .entry))) ≡ false → (r ≡ line) × (now (cells .exit) ≡ now (cells .entry))) ⌝ }
+    ensures held { λ r.
+        ⌜ ((us : List (List ℕ)) → Holds line (now (cells .entry)) us
+        → length us < MOST-UNITS → length (now (unit .entry)) ≤ LONGEST-UNIT
+        → Holds r (now (cells .exit)) (us ++ (now (unit .entry) ∷ []))) ⌝ }
+    ensures kept { λ r.
+        ⌜ (hasRoom line (length (now (cells .entry))) (length (now (unit .entry))) ≡ false
+        → (r ≡ line) × (now (cells .exit) ≡ now (cells .entry))) ⌝ }
 {
     if has_room(line, cells.len(), unit.len()) {
         let at = line.used;
@@ -80,7 +85,10 @@ pub fn put(line: Line, cells: &mut [u8], unit: &[u8]) -> Line
 
 // The unit made, n bytes at the front of the unit buffer, joins the line; 0 is no unit.
 pub fn deliver(line: Line, cells: &mut [u8], unit: &[u8], n: usize) -> Line
-    ensures { λ r. ⌜ ((vs : List (List ℕ)) → Holds line (now (cells .entry)) vs → length vs < MOST-UNITS → n ≤ LONGEST-UNIT → n ≤ length (now (unit .entry)) → Holds r (now (cells .exit)) (vs ++ unitsOf n (now (unit .entry)))) ⌝ }
+    ensures { λ r.
+        ⌜ ((vs : List (List ℕ)) → Holds line (now (cells .entry)) vs
+        → length vs < MOST-UNITS → n ≤ LONGEST-UNIT → n ≤ length (now (unit .entry))
+        → Holds r (now (cells .exit)) (vs ++ unitsOf n (now (unit .entry)))) ⌝ }
 {
     if n == 0 {
         return line;

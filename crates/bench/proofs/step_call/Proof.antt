@@ -1,3 +1,5 @@
+-- `bench::step_call` meets its contract. A full line leaves all as it was; else the call is made, and its unit joins the line.
+-- Assumes nothing.
 use mathlib.Core.Path.{refl, sym, _∙_}
 use mathlib.Core.Bool.{true, false}
 use borrow.Author.Tests.{leb-false}
@@ -17,8 +19,8 @@ returns c =
     λ waiting es us vs hw hf.
     full-step (Call (a .verb)) (now (a .given))
     (benchOf (a .end) (now (a .send)) (now (a .unit)) (now (a .inbox)) (now (a .buffer)) (a .from) waiting (a .to) (now (a .far))) _ _ _ es us vs
-    (u .0)
     (rw (u .1, u .2, u .3))
+    (u .0)
     (counted (a .to) (now (a .far)) vs true hf (sym (c .before .before .is-full .ensures) ∙ c .before .if1 .taken))
     refl
 
@@ -39,14 +41,6 @@ pub step-call-spec : {M : Type 1} → statement M
 step-call-spec =
     tie.close
     (tie.spec
-    (search needs)
-    (search needs)
-    returns
-    (search needs)
-    (search needs)
-    (search needs)
-    (search needs)
-    (search needs)
-    (search needs)
-    (search needs)
+    (search needs) (search needs) returns
+    (search needs) (search needs) (search needs) (search needs) (search needs) (search needs) (search needs)
     returns-2)

@@ -1,3 +1,5 @@
+-- `bench::step_offer` meets its contract. A full line leaves all as it was; else the call is made, and its unit joins the line.
+-- Assumes nothing.
 use mathlib.Core.Path.{refl, sym, _∙_}
 use mathlib.Core.Bool.{true, false}
 use borrow.Author.Tests.{leb-false}
@@ -16,8 +18,8 @@ returns c =
     let u = c .unmade .ensures in
     λ send buffer waiting es us vs hw hf.
     full-step Offer (now (a .taken)) (benchOf (a .end) send (now (a .unit)) (now (a .inbox)) buffer (a .from) waiting (a .to) (now (a .far))) _ _ _ es us vs
-    (u .0)
     (rw (u .1, u .2, u .3))
+    (u .0)
     (counted (a .to) (now (a .far)) vs true hf (sym (c .before .before .is-full .ensures) ∙ c .before .if1 .taken))
     refl
 
@@ -38,13 +40,5 @@ pub step-offer-spec : {M : Type 1} → statement M
 step-offer-spec =
     tie.close
     (tie.spec
-    (search needs)
-    (search needs)
-    returns
-    (search needs)
-    (search needs)
-    (search needs)
-    (search needs)
-    (search needs)
-    (search needs)
-    returns-2)
+    (search needs) (search needs) returns
+    (search needs) (search needs) (search needs) (search needs) (search needs) (search needs) returns-2)

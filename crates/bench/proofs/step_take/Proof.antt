@@ -1,9 +1,13 @@
+-- `bench::step_take` meets its contract. The oldest unit is offered, and goes from the line where the take is accepted.
+-- Assumes nothing.
 use Prim.Native.Nat.{ℕ, _-_, _≤_}
 use mathlib.Core.Path.{refl, sym, ap, _∙_}
 use native.Mathlib.Omega.{arith}
 use denote.Ref.{now}
 use lib.ListN.{length, take, drop}
-use Rattle.unit_lines.specs.Lines.{oldestEnd}
+use mathlib.Core.List.{[]}
+use Rattle.script.specs.declared.Request.the-variants.{Take}
+use Rattle.unit_lines.specs.UnitLine.{oldestEnd}
 use Rattle.bench.specs.Step.{benchOf}
 use Rattle.unit_lines.proofs.Held.{apart, end-within, none-waits, one-waits}
 use Rattle.bench.proofs.Stepping.{nothing-step, take-step}
@@ -24,17 +28,9 @@ returns c =
     let u = c .unmade .ensures in
     λ given send buffer es us vs hw hf.
     rw (none-waits (a .from) (now (a .waiting)) us hw (sym (c .before .before .oldest-end .ensures .0) ∙ c .before .if1 .taken))
-    (nothing-step given
-    (benchOf (a .end) send (now (a .unit)) (now (a .inbox)) buffer (a .from) (now (a .waiting)) (a .to) (now (a .far))) _ _ _ es vs (u .0) (rw (u .1, u .2, u .3)))
-
-sub-step-offer : tie.Need-sub-step-offer
-sub-step-offer c = rw (c .before .oldest-end .ensures .0) (within c .1)
-
-part-step-offer-start : tie.Need-part-step-offer-start
-part-step-offer-start c = rw (c .before .before .oldest-end .ensures .0) (within (c .before) .1)
-
-part-step-offer-end : tie.Need-part-step-offer-end
-part-step-offer-end c = rw (c .before .before .oldest-end .ensures .0) (within (c .before) .0)
+    (nothing-step Take given
+    (benchOf (a .end) send (now (a .unit)) (now (a .inbox)) buffer (a .from) (now (a .waiting)) (a .to) (now (a .far))) _ _ _ es [] vs
+    (rw (u .1, u .2, u .3)) (u .0) refl)
 
 returns-2 : tie.Need-returns-2
 returns-2 c =
@@ -72,23 +68,10 @@ pub step-take-spec : {M : Type 1} → statement M
 step-take-spec =
     tie.close
     (tie.spec
-    (search needs)
-    (search needs)
-    (search needs)
-    returns
-    sub-step-offer
-    part-step-offer-start
-    part-step-offer-end
-    (search needs)
-    (search needs)
-    (search needs)
-    (search needs)
-    (search needs)
-    (search needs)
-    (search needs)
+    (search needs) (search needs) (search needs) returns
+    (λ c. rw (c .before .oldest-end .ensures .0) (within c .1))
+    (λ c. rw (c .before .before .oldest-end .ensures .0) (within (c .before) .1))
+    (λ c. rw (c .before .before .oldest-end .ensures .0) (within (c .before) .0))
+    (search needs) (search needs) (search needs) (search needs) (search needs) (search needs) (search needs)
     returns-2
-    (search needs)
-    (search needs)
-    (search needs)
-    (search needs)
-    returns-3)
+    (search needs) (search needs) (search needs) (search needs) returns-3)

@@ -14,9 +14,6 @@ Inv-loop max window parts whole send₀ unit₀ inbox₀ buffer₀ pair₀ turns
 abbrev μ-loop : tie.MeasureT-loop
 μ-loop max window parts whole send₀ unit₀ inbox₀ buffer₀ pair₀ turns₀ send unit inbox buffer pair turns = turns
 
-loop-holds : tie.Need-loop-holds Inv-loop μ-loop
-loop-holds c = (refl, refl, refl, refl)
-
 sub-turns : tie.Need-sub-turns Inv-loop μ-loop
 sub-turns c = let test = c .before .before .before .before .before .before .before .before .before .before .before .before .before .loop-test .taken in omega (arith, test)
 
@@ -30,15 +27,9 @@ pub carry-spec : {M : Type 1} → statement M
 carry-spec =
     tie.close
     (tie.spec
-    Inv-loop
-    μ-loop
-    loop-holds
-    (search needs)
-    sub-turns
+    Inv-loop μ-loop
+    (λ c. (refl, refl, refl, refl))
+    (search needs) sub-turns
     loop-less
     loop-again
-    (search needs)
-    (search needs)
-    (search needs)
-    (search needs)
-    (search needs))
+    (search needs) (search needs) (search needs) (search needs) (search needs))

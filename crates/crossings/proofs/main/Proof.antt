@@ -7,14 +7,9 @@ use borrow.Author.Needs.{needs}
 use Rattle.crossings.proofs.main.Statement.{statement}
 use Rattle.crossings.proofs.main.Tie as tie
 
-slice-aggregate-run-input : tie.Need-slice-aggregate-run-input
-slice-aggregate-run-input c = sym {0} (length-replicate {0} {A = ℕ} 1048577 0)
-
-run-input-requires : tie.Need-run-input-requires
-run-input-requires c κs = search needs
-
-returns : tie.Need-returns
-returns c = search needs
-
 pub main-spec : {M : Type 1} → statement M
-main-spec = tie.close (tie.spec slice-aggregate-run-input run-input-requires returns)
+main-spec =
+    tie.close
+    (tie.spec
+    (λ c. sym {0} (length-replicate {0} {A = ℕ} 1048577 0))
+    (λ c κs. search needs) (λ c. search needs))

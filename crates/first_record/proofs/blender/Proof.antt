@@ -15,17 +15,6 @@ pub blender-spec : {M : Type 1} → statement M
 blender-spec =
     tie.close
     (tie.spec
-    (search needs)
-    (search needs)
-    (search needs)
-    (search needs)
-    (search needs)
-    (search needs)
+    (search needs) (search needs) (search needs) (search needs) (search needs) (search needs)
     slice-aggregate-receive-unit
-    (search needs)
-    (search needs)
-    (search needs)
-    (search needs)
-    (search needs)
-    (search needs)
-    (search needs))
+    (search needs) (search needs) (search needs) (search needs) (search needs) (search needs) (search needs))

@@ -8,12 +8,6 @@ use borrow.Author.Needs.{needs}
 use Rattle.unit_lines.proofs.deliver.Statement.{statement}
 use Rattle.unit_lines.proofs.deliver.Tie as tie
 
-returns : tie.Need-returns
-returns c = λ vs h m s t. rw (c .if1 .taken, append-nil) h
-
-returns-2 : tie.Need-returns-2
-returns-2 c = λ vs h m s t. absurd (omega arith)
-
 slice-aggregate-put : tie.Need-slice-aggregate-put
 slice-aggregate-put c = let a = c .before .before .before .before .before .before .args in sym (length-take-le (a .n) (now (a .unit)) (omega arith))
 
@@ -26,4 +20,9 @@ returns-3 c =
 
 pub deliver-spec : {M : Type 1} → statement M
 deliver-spec =
-    tie.close (tie.spec returns returns-2 slice-aggregate-put (search needs) (search needs) returns-3)
+    tie.close
+    (tie.spec
+    (λ c. λ vs h m s t. rw (c .if1 .taken, append-nil) h)
+    (λ c. λ vs h m s t. absurd (omega arith))
+    slice-aggregate-put
+    (search needs) (search needs) returns-3)

@@ -1,6 +1,6 @@
 use Prim.Native.Nat.{zero-le}
 use mathlib.Core.Path.{refl}
-use Rattle.unit_lines.specs.Lines.{frames, NoneLonger}
+use Rattle.unit_lines.specs.UnitLine.{frames, NoneLonger}
 use Rattle.unit_lines.proofs.empty.Statement.{statement}
 use Rattle.unit_lines.proofs.empty.Tie as tie
 

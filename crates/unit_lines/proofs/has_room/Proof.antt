@@ -4,11 +4,9 @@ use Rattle.unit_lines.proofs.Held.{room-is, no-room}
 use Rattle.unit_lines.proofs.has_room.Statement.{statement}
 use Rattle.unit_lines.proofs.has_room.Tie as tie
 
-returns : tie.Need-returns
-returns c = let a = c .before .args in sym (no-room (a .line) (a .cells) (a .n) (omega arith))
-
-returns-2 : tie.Need-returns-2
-returns-2 c = let a = c .before .before .before .args in room-is (a .line) (a .cells) (a .n) (omega arith)
-
 pub has-room-spec : {M : Type 1} → statement M
-has-room-spec = tie.close (tie.spec returns returns-2)
+has-room-spec =
+    tie.close
+    (tie.spec
+    (λ c. let a = c .before .args in sym (no-room (a .line) (a .cells) (a .n) (omega arith)))
+    (λ c. let a = c .before .before .before .args in room-is (a .line) (a .cells) (a .n) (omega arith)))

@@ -1,7 +1,7 @@
 use mathlib.Core.Path.{_≡_, sym, subst}
 use Prim.Native.Nat.{ℕ, _+_, _*_}
 use denote.Ref.{now}
-use Rattle.unit_lines.specs.Lines.{oldestEnd, UnitTo}
+use Rattle.unit_lines.specs.UnitLine.{oldestEnd, UnitTo}
 use Rattle.unit_lines.proofs.Held.{unit-stands}
 use borrow.Author.Needs.{needs}
 use Rattle.unit_lines.proofs.oldest_end.Statement.{statement}
@@ -27,11 +27,5 @@ pub oldest-end-spec : {M : Type 1} → statement M
 oldest-end-spec =
     tie.close
     (tie.spec
-    (search needs)
-    (search needs)
-    (search needs)
-    (search needs)
-    (search needs)
-    (search needs)
-    returns
+    (search needs) (search needs) (search needs) (search needs) (search needs) (search needs) returns
     returns-2)

@@ -16,18 +16,6 @@ room-at c =
     let a = c .before .before .before .before .args in
     room-for (a .line) (length (now (a .cells))) (length (now (a .unit))) (sym (c .before .has-room .ensures) ∙ c .if1 .taken)
 
-sub-put-frame : tie.Need-sub-put-frame
-sub-put-frame c = omega (arith, room-at c .2)
-
-part-put-frame-start : tie.Need-part-put-frame-start
-part-put-frame-start c = omega (arith, room-at c .2)
-
-put-frame-requires : tie.Need-put-frame-requires
-put-frame-requires c κs = let r = room-at (c .before) in (r .1, rw part-is (simp length-drop (omega (arith, r .2))))
-
-add-t14 : tie.Need-add-t14
-add-t14 c = omega (arith, room-at (c .before .before .before .before .before) .0)
-
 add-t11 : tie.Need-add-t11
 add-t11 c = omega (arith, room-at (c .before .before .before .before .before) .2, c .before .before .before .before .before .before .before .before .before .good)
 
@@ -55,13 +43,12 @@ put-spec =
     tie.close
     (tie.spec
     (search needs)
-    sub-put-frame
-    part-put-frame-start
+    (λ c. omega (arith, room-at c .2))
+    (λ c. omega (arith, room-at c .2))
     (search needs)
-    put-frame-requires
-    add-t14
+    (λ c κs. let r = room-at (c .before) in (r .1, rw part-is (simp length-drop (omega (arith, r .2)))))
+    (λ c. omega (arith, room-at (c .before .before .before .before .before) .0))
     add-t11
     add-t16
-    (search needs)
-    returns
+    (search needs) returns
     returns-2)

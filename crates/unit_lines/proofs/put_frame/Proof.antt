@@ -5,23 +5,11 @@ use denote.Ref.{now}
 use lib.ListN.{length, length-set, length-drop}
 use Rattle.cells.proofs.Parts.{part-is}
 use Rattle.cells.proofs.Fronts.{front-length}
-use Rattle.unit_lines.specs.Lines.{framed}
+use Rattle.unit_lines.specs.UnitLine.{framed}
 use Rattle.unit_lines.proofs.Frames.{frame-put}
 use borrow.Author.Needs.{needs}
 use Rattle.unit_lines.proofs.put_frame.Statement.{statement}
 use Rattle.unit_lines.proofs.put_frame.Tie as tie
-
-slice-write-cells-2 : tie.Need-slice-write-cells-2
-slice-write-cells-2 c = simp length-set (omega arith)
-
-sub-copy : tie.Need-sub-copy
-sub-copy c = simp length-set (omega arith)
-
-part-copy-start : tie.Need-part-copy-start
-part-copy-start c = simp length-set (omega arith)
-
-copy-requires : tie.Need-copy-requires
-copy-requires c κs = rw part-is (simp (length-drop, length-set) (omega arith))
 
 same-length : tie.Need-same-length
 same-length c = let a = c .before .before .before .before .before .before .args in
@@ -37,13 +25,11 @@ pub put-frame-spec : {M : Type 1} → statement M
 put-frame-spec =
     tie.close
     (tie.spec
+    (search needs) (search needs) (search needs)
+    (λ c. simp length-set (omega arith))
+    (λ c. simp length-set (omega arith))
+    (λ c. simp length-set (omega arith))
     (search needs)
-    (search needs)
-    (search needs)
-    slice-write-cells-2
-    sub-copy
-    part-copy-start
-    (search needs)
-    copy-requires
+    (λ c κs. rw part-is (simp (length-drop, length-set) (omega arith)))
     same-length
     returns)

@@ -4,7 +4,7 @@ use denote.Ref.{now}
 use lib.ListN.{length}
 use Prim.Native.Nat.{_≤_}
 use lib.Seq.{length-take-le}
-use Rattle.unit_lines.specs.Lines.{oldestEnd}
+use Rattle.unit_lines.specs.UnitLine.{oldestEnd}
 use Rattle.unit_lines.proofs.Held.{unit-stands, end-within, removed}
 use borrow.Author.Needs.{needs}
 use Rattle.unit_lines.proofs.remove_oldest.Statement.{statement}
@@ -25,14 +25,8 @@ returns c =
       λ z. (refl, refl),
     )
 
-slice-relend-prefix-move-to-front : tie.Need-slice-relend-prefix-move-to-front
-slice-relend-prefix-move-to-front c = within c .1
-
 slice-aggregate-move-to-front : tie.Need-slice-aggregate-move-to-front
 slice-aggregate-move-to-front c = let a = c .before .before .before .before .before .args in sym (length-take-le (a .line .used) (now (a .cells)) (within (c .before) .1))
-
-sub-t11 : tie.Need-sub-t11
-sub-t11 c = within (c .before .before .before .before .before) .0
 
 sub-t12 : tie.Need-sub-t12
 sub-t12 c = rw (c .before .before .before .before .before .before .oldest-end .ensures .0) (within (c .before .before .before .before .before) .2)
@@ -41,7 +35,7 @@ returns-2 : tie.Need-returns-2
 returns-2 c =
     let a = c .before .before .before .before .before .before .before .before .before .args in
     let e = c .before .before .before .before .before .before .oldest-end .ensures .0 in (
-      λ u us h. rw e (removed (a .line) (now (a .cells)) u us (c .before .before .before .move-to-front .last .0) h (rw (← e) (c .before .before .before .move-to-front .ensures))),
+      λ u us h. rw e (removed (a .line) (now (a .cells)) u us h (c .before .before .before .move-to-front .last .0) (rw (← e) (c .before .before .before .move-to-front .ensures))),
       λ z. absurd (c .before .before .before .before .before .if1 .left (e ∙ z)),
     )
 
@@ -49,13 +43,10 @@ pub remove-oldest-spec : {M : Type 1} → statement M
 remove-oldest-spec =
     tie.close
     (tie.spec
-    (search needs)
-    (search needs)
-    returns
-    slice-relend-prefix-move-to-front
+    (search needs) (search needs) returns
+    (λ c. within c .1)
     slice-aggregate-move-to-front
     (search needs)
-    sub-t11
+    (λ c. within (c .before .before .before .before .before) .0)
     sub-t12
-    (search needs)
-    returns-2)
+    (search needs) returns-2)

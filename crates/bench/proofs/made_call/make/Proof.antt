@@ -1,9 +1,10 @@
-use mathlib.Core.Path.{refl, sym}
+-- `bench::made_call::make` meets its contract. Each call is the one of two joined ends, by what it ensures; a read is not made here.
+-- Assumes nothing.
+use mathlib.Core.Path.{sym, ap}
 use mathlib.Core.Bool.{false≢true}
 use denote.Ref.{now}
-use Rattle.calls.specs.Calls.{called}
+use Rattle.calls.specs.Calls.{called, makes, sends}
 use Rattle.bench.specs.CallMade.{stationOf}
-use Rattle.bench.proofs.CallLeaves.{made-left, sent-left}
 use borrow.Author.Needs.{needs}
 use Rattle.bench.proofs.made_call.make.Statement.{statement}
 use Rattle.bench.proofs.made_call.make.Tie as tie
@@ -13,75 +14,44 @@ unfolding called
 returns c =
     let a = c .before .before .before .before .before .before .before .before .before .args in
     rw (c .before .before .before .before .enum-told .given .1)
-    (λ n inbox buffer.
-    let s = stationOf (a .end) (now (a .send)) (now (a .unit)) inbox in
-    made-left s _ _ _ _ refl (c .before .before .allocate .ensures))
+    (λ n inbox buffer. ap (makes (stationOf (a .end) (now (a .send)) (now (a .unit)) inbox)) (c .before .before .allocate .ensures))
 
 returns-2 : tie.Need-returns-2
 unfolding called
 returns-2 c =
     let a = c .before .before .before .before .before .before .before .before .before .args in
     rw (c .before .before .before .before .enum-told2 .given .1)
-    (λ n inbox buffer.
-    let s = stationOf (a .end) (now (a .send)) (now (a .unit)) inbox in
-    made-left s _ _ _ _ refl (c .before .before .confirmed .ensures))
+    (λ n inbox buffer. ap (makes (stationOf (a .end) (now (a .send)) (now (a .unit)) inbox)) (c .before .before .confirmed .ensures))
 
 returns-3 : tie.Need-returns-3
 unfolding called
 returns-3 c =
     let a = c .before .before .before .before .before .before .before .before .before .args in
     rw (c .before .before .before .before .enum-told3 .given .1)
-    (λ n inbox buffer.
-    let s = stationOf (a .end) (now (a .send)) (now (a .unit)) inbox in
-    made-left s _ _ _ _ refl (c .before .before .send-pacing-response .ensures))
+    (λ n inbox buffer. ap (makes (stationOf (a .end) (now (a .send)) (now (a .unit)) inbox)) (c .before .before .send-pacing-response .ensures))
 
 returns-4 : tie.Need-returns-4
 unfolding called
 returns-4 c =
     let a = c .before .before .before .before .before .before .before .before .before .before .before .before .args in
     rw (c .before .before .before .before .before .before .before .enum-told4 .given .1)
-    (λ n inbox buffer.
-    let s = stationOf (a .end) (now (a .send)) (now (a .unit)) inbox in
-    sent-left s _ _ _ _ _ refl (c .before .before .before .before .send-data .ensures))
+    (λ n inbox buffer. ap (sends (stationOf (a .end) (now (a .send)) (now (a .unit)) inbox)) (c .before .before .before .before .send-data .ensures))
 
 returns-5 : tie.Need-returns-5
 unfolding called
 returns-5 c =
     let a = c .before .before .before .before .before .before .before .before .before .before .before .args in
     rw (c .before .before .before .before .before .before .verb .given .1)
-    (λ n inbox buffer.
-    let s = stationOf (a .end) (now (a .send)) (now (a .unit)) inbox in
-    made-left s _ _ _ _ refl (c .before .before .close .ensures))
-
-returns-6 : tie.Need-returns-6
-returns-6 c = rw (c .before .enum-told5 .given .1) (λ n inbox buffer. absurd (false≢true (sym n)))
+    (λ n inbox buffer. ap (makes (stationOf (a .end) (now (a .send)) (now (a .unit)) inbox)) (c .before .before .close .ensures))
 
 pub make-spec : {M : Type 1} → statement M
 make-spec =
     tie.close
     (tie.spec
-    (search needs)
-    (search needs)
-    (search needs)
-    (search needs)
-    (search needs)
-    (search needs)
-    (search needs)
-    (search needs)
-    (search needs)
-    (search needs)
-    (search needs)
-    (search needs)
-    (search needs)
-    returns
-    (search needs)
-    returns-2
-    (search needs)
-    returns-3
-    (search needs)
-    (search needs)
-    returns-4
-    (search needs)
-    (search needs)
-    returns-5
-    returns-6)
+    (search needs) (search needs) (search needs) (search needs) (search needs) (search needs) (search needs)
+    (search needs) (search needs) (search needs) (search needs) (search needs) (search needs) returns
+    (search needs) returns-2
+    (search needs) returns-3
+    (search needs) (search needs) returns-4
+    (search needs) (search needs) returns-5
+    (λ c. rw (c .before .enum-told5 .given .1) (λ n inbox buffer. absurd (false≢true (sym n)))))

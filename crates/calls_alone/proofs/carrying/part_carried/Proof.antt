@@ -15,16 +15,7 @@ pub part-carried-spec : {M : Type 1} → statement M
 part-carried-spec =
     tie.close
     (tie.spec
-    (search needs)
-    (search needs)
-    (search needs)
-    (search needs)
-    (search needs)
-    (search needs)
-    (search needs)
-    (search needs)
-    same-length-3
+    (search needs) (search needs) (search needs) (search needs) (search needs) (search needs) (search needs)
+    (search needs) same-length-3
     same-length-4
-    (search needs)
-    (search needs)
-    (search needs))
+    (search needs) (search needs) (search needs))

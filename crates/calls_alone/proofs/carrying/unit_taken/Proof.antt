@@ -15,9 +15,5 @@ pub unit-taken-spec : {M : Type 1} → statement M
 unit-taken-spec =
     tie.close
     (tie.spec
-    (search needs)
-    slice-aggregate-receive-unit
-    (search needs)
-    (search needs)
-    (search needs)
-    (search needs))
+    (search needs) slice-aggregate-receive-unit
+    (search needs) (search needs) (search needs) (search needs))

@@ -7,9 +7,6 @@ use borrow.Author.Needs.{needs}
 use Rattle.digits.proofs.decimal_read.number.Statement.{statement}
 use Rattle.digits.proofs.decimal_read.number.Tie as tie
 
-returns : tie.Need-returns
-returns c = sym (number-none (now (c .before .before .args .text)) (c .if1 .taken))
-
 returns-2 : tie.Need-returns-2
 returns-2 c = sym (number-leading-zero (now (c .before .before .before .before .args .text)) (c .if2 .taken))
 
@@ -18,4 +15,8 @@ returns-3 c = c .read-digits .ensures ∙ number-digits (now (c .before .before 
 
 pub number-spec : {M : Type 1} → statement M
 number-spec =
-    tie.close (tie.spec returns (search needs) returns-2 (search needs) returns-3)
+    tie.close
+    (tie.spec
+    (λ c. sym (number-none (now (c .before .before .args .text)) (c .if1 .taken)))
+    (search needs) returns-2
+    (search needs) returns-3)

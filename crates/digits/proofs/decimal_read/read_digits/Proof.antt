@@ -19,12 +19,6 @@ Inv-loop text value₀ i₀ value i = (i ≤ length text) × (value ≤ 65535) �
 abbrev μ-loop : tie.MeasureT-loop
 μ-loop text value₀ i₀ value i = length text - i
 
-loop-holds : tie.Need-loop-holds Inv-loop μ-loop
-loop-holds c = (zero-le, omega arith, refl)
-
-shared-slice-read-b : tie.Need-shared-slice-read-b Inv-loop μ-loop
-shared-slice-read-b c = omega arith
-
 returns : tie.Need-returns Inv-loop μ-loop
 returns c =
     let l = c .before .before .before .before .loop in
@@ -32,32 +26,12 @@ returns c =
     let d = sym (c .before .is-decimal .ensures) ∙ not-true (c .before .is-decimal .result) (c .if1 .taken) in
     sym (read-other (l .value) (l .i) s (c .before .before .before .loop-test .taken) d) ∙ l .inv .2
 
-mul-value : tie.Need-mul-value Inv-loop μ-loop
-mul-value c = omega arith
-
-sub-value : tie.Need-sub-value Inv-loop μ-loop
-sub-value c =
-    let s = now (c .before .before .before .before .before .before .args .text) in
-    let d =
-    decimal-bounds (getD s (c .before .before .before .before .loop .i) 0)
-    (sym (c .before .is-decimal .ensures) ∙ not-false (c .before .is-decimal .result) (c .if1 .left)) in
-    omega arith
-
-cast-value : tie.Need-cast-value Inv-loop μ-loop
-cast-value c =
-    let s = now (c .before .before .before .before .before .before .args .text) in
-    let d =
-    decimal-bounds (getD s (c .before .before .before .before .loop .i) 0)
-    (sym (c .before .is-decimal .ensures) ∙ not-false (c .before .is-decimal .result) (c .if1 .left)) in
-    omega arith
-
-add-value : tie.Need-add-value Inv-loop μ-loop
-add-value c =
-    let s = now (c .before .before .before .before .before .before .args .text) in
-    let d =
-    decimal-bounds (getD s (c .before .before .before .before .loop .i) 0)
-    (sym (c .before .is-decimal .ensures) ∙ not-false (c .before .is-decimal .result) (c .if1 .left)) in
-    omega arith
+-- behind the test the byte is a digit
+digit-at : (c : tie.Else1 Inv-loop μ-loop)
+    → (let b = getD (now (c .before .before .before .before .before .before .args .text)) (c .before .before .before .before .loop .i) 0 in (0x30 ≤ b) × (b ≤ 0x39))
+digit-at c =
+    decimal-bounds (getD (now (c .before .before .before .before .before .before .args .text)) (c .before .before .before .before .loop .i) 0)
+    (sym (c .before .is-decimal .ensures) ∙ not-false (c .before .is-decimal .result) (c .if1 .left))
 
 returns-2 : tie.Need-returns-2 Inv-loop μ-loop
 returns-2 c =
@@ -66,21 +40,12 @@ returns-2 c =
     let d = sym (c .before .before .is-decimal .ensures) ∙ not-false (c .before .before .is-decimal .result) (c .before .if1 .left) in
     sym (read-past (l .value) (l .i) s (c .before .before .before .before .loop-test .taken) d (c .if2 .taken)) ∙ l .inv .2
 
-add-i : tie.Need-add-i Inv-loop μ-loop
-add-i c = omega arith
-
-loop-less : tie.Need-loop-less Inv-loop μ-loop
-loop-less c = omega arith
-
 loop-again : tie.Need-loop-again Inv-loop μ-loop
 loop-again c =
     let l = c .before .before .before .before .before .loop in
     let s = now (c .before .before .before .before .before .before .before .args .text) in
     let d = sym (c .before .before .is-decimal .ensures) ∙ not-false (c .before .before .is-decimal .result) (c .before .if1 .left) in
     (omega arith, c .if2 .left, read-more (l .value) (l .i) s (c .before .before .before .before .loop-test .taken) d (c .if2 .left) ∙ l .inv .2)
-
-cast-t12 : tie.Need-cast-t12 Inv-loop μ-loop
-cast-t12 c = omega arith
 
 returns-3 : tie.Need-returns-3 Inv-loop μ-loop
 returns-3 c = sym (read-end (c .before .loop .value) (c .before .loop .i) (now (c .before .before .before .args .text)) (c .loop-test .left)) ∙ c .before .loop .inv .2
@@ -89,19 +54,13 @@ pub read-digits-spec : {M : Type 1} → statement M
 read-digits-spec =
     tie.close
     (tie.spec
-    Inv-loop
-    μ-loop
-    loop-holds
-    shared-slice-read-b
-    (search needs)
-    returns
-    mul-value
-    sub-value
-    cast-value
-    add-value
+    Inv-loop μ-loop
+    (λ c. (zero-le, omega arith, refl))
+    (omega arith) (search needs) returns
+    (omega arith)
+    (λ c. omega (arith, digit-at c))
+    (λ c. omega (arith, digit-at c))
+    (λ c. omega (arith, digit-at c))
     returns-2
-    add-i
-    loop-less
-    loop-again
-    cast-t12
-    returns-3)
+    (omega arith) (omega arith) loop-again
+    (omega arith) returns-3)

@@ -19,35 +19,14 @@ Inv-loop text i₀ i = (i ≤ length text) × (arePairs (drop i text) ≡ arePai
 abbrev μ-loop : tie.MeasureT-loop
 μ-loop text i₀ i = length text - i
 
-loop-holds : tie.Need-loop-holds Inv-loop μ-loop
-loop-holds c = (zero-le, refl)
-
-sub-if1 : tie.Need-sub-if1 Inv-loop μ-loop
-sub-if1 c = omega arith
-
 returns : tie.Need-returns Inv-loop μ-loop
 returns c = let s = now (c .before .before .before .before .args .text) in
     sym (pairs-odd s (c .before .before .loop .i) (c .before .loop-test .taken) (c .if1 .taken)) ∙ c .before .before .loop .inv .1
-
-shared-slice-read-high : tie.Need-shared-slice-read-high Inv-loop μ-loop
-shared-slice-read-high c = omega arith
-
-add-low : tie.Need-add-low Inv-loop μ-loop
-add-low c = omega arith
-
-shared-slice-read-low : tie.Need-shared-slice-read-low Inv-loop μ-loop
-shared-slice-read-low c = omega arith
 
 returns-2 : tie.Need-returns-2 Inv-loop μ-loop
 returns-2 c = let s = now (c .before .before .before .before .before .before .before .before .args .text) in
     let e = sym (c .before .is-pair .ensures) ∙ not-true (c .before .is-pair .result) (c .if2 .taken) in
     sym (pairs-other s (c .before .before .before .before .before .before .loop .i) (omega arith) e) ∙ c .before .before .before .before .before .before .loop .inv .1
-
-add-i : tie.Need-add-i Inv-loop μ-loop
-add-i c = omega arith
-
-loop-less : tie.Need-loop-less Inv-loop μ-loop
-loop-less c = omega arith
 
 loop-again : tie.Need-loop-again Inv-loop μ-loop
 loop-again c = let s = now (c .before .before .before .before .before .before .before .before .args .text) in
@@ -61,17 +40,9 @@ pub are-pairs-spec : {M : Type 1} → statement M
 are-pairs-spec =
     tie.close
     (tie.spec
-    Inv-loop
-    μ-loop
-    loop-holds
-    sub-if1
-    returns
-    shared-slice-read-high
-    add-low
-    shared-slice-read-low
-    (search needs)
-    returns-2
-    add-i
-    loop-less
-    loop-again
+    Inv-loop μ-loop
+    (λ c. (zero-le, refl))
+    (omega arith) returns
+    (omega arith) (omega arith) (omega arith) (search needs) returns-2
+    (omega arith) (omega arith) loop-again
     returns-3)

@@ -1,47 +1,36 @@
 -- `digits::hexadecimal_read::digit` meets its contract. Each return is one row of the rule, and each digit is below 16.
 -- Assumes nothing.
-use mathlib.Core.Path.{sym, _∙_}
+use mathlib.Core.Path.{_≡_}
+use mathlib.Core.Bool.{true, false}
 use native.Mathlib.Omega.{arith}
-use Rattle.digits.proofs.Pairs.{decimal-digit, letter-digit, no-digit}
+use Rattle.digits.specs.DecimalRead.{isDecimal}
+use Rattle.digits.specs.HexadecimalRead.{isLetter}
+use Rattle.digits.proofs.DecimalDigits.{decimal-bounds}
+use Rattle.digits.proofs.Pairs.{letter-bounds}
 use borrow.Author.Needs.{needs}
 use Rattle.digits.proofs.hexadecimal_read.digit.Statement.{statement}
 use Rattle.digits.proofs.hexadecimal_read.digit.Tie as tie
 
-sub-result : tie.Need-sub-result
-sub-result c = let t = decimal-digit (c .before .before .args .b) (sym (c .before .is-decimal .ensures) ∙ c .if1 .taken) in omega arith
-
-returns : tie.Need-returns
-returns c = let t = decimal-digit (c .before .before .args .b) (sym (c .before .is-decimal .ensures) ∙ c .if1 .taken) in (t .1, t .2)
-
-sub-result-2 : tie.Need-sub-result-2
-sub-result-2 c =
-    let t =
-    letter-digit (c .before .before .before .before .args .b) (sym (c .before .before .before .is-decimal .ensures) ∙ c .before .before .if1 .left)
-    (sym (c .before .is-letter .ensures) ∙ c .if2 .taken) in
-    omega arith
-
 returns-2 : tie.Need-returns-2
 returns-2 c =
-    let t =
-    letter-digit (c .before .before .before .before .args .b) (sym (c .before .before .before .is-decimal .ensures) ∙ c .before .before .if1 .left)
-    (sym (c .before .is-letter .ensures) ∙ c .if2 .taken) in
-    (t .1, t .2)
+    let n : isDecimal (c .before .before .before .before .args .b) ≡ false = cc in
+    let l : isLetter (c .before .before .before .before .args .b) ≡ true = cc in
+    (rw (n, l), omega (arith, letter-bounds (c .before .before .before .before .args .b) l))
 
 returns-3 : tie.Need-returns-3
-returns-3 c = (
-  no-digit (c .before .before .before .before .args .b) (sym (c .before .before .before .is-decimal .ensures) ∙ c .before .before .if1 .left)
-      (sym (c .before .is-letter .ensures) ∙ c .if2 .left),
-  omega arith,
-)
+returns-3 c =
+    let n : isDecimal (c .before .before .before .before .args .b) ≡ false = cc in
+    let l : isLetter (c .before .before .before .before .args .b) ≡ false = cc in
+    (rw (n, l), omega arith)
 
 pub digit-spec : {M : Type 1} → statement M
 digit-spec =
     tie.close
     (tie.spec
     (search needs)
-    sub-result
-    returns
+    (λ c. omega (arith, decimal-bounds (c .before .before .args .b) (cc)))
+    (λ c. (cc, omega (arith, decimal-bounds (c .before .before .args .b) (cc))))
     (search needs)
-    sub-result-2
+    (λ c. omega (arith, letter-bounds (c .before .before .before .before .args .b) (cc)))
     returns-2
     returns-3)

@@ -30,5 +30,4 @@ returns-2 c =
     (rw g, rw (g, front-none))
 
 pub hex-spec : {M : Type 1} → statement M
-hex-spec =
-    tie.close (tie.spec (search needs) write-bytes-requires (search needs) returns returns-2)
+hex-spec = tie.close (tie.spec (search needs) write-bytes-requires (search needs) returns returns-2)

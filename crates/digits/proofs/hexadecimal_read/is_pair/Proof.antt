@@ -4,21 +4,5 @@ use borrow.Author.Needs.{needs}
 use Rattle.digits.proofs.hexadecimal_read.is_pair.Statement.{statement}
 use Rattle.digits.proofs.hexadecimal_read.is_pair.Tie as tie
 
-returns : tie.Need-returns
-returns c =
-    rw (
-      c .is-letter2 .ensures,
-      c .before .is-decimal2 .ensures,
-      c .before .before .is-letter .ensures,
-      c .before .before .before .is-decimal .ensures,
-    )
-
 pub is-pair-spec : {M : Type 1} → statement M
-is-pair-spec =
-    tie.close
-    (tie.spec
-    (search needs)
-    (search needs)
-    (search needs)
-    (search needs)
-    returns)
+is-pair-spec = tie.close (tie.spec (search needs) (search needs) (search needs) (search needs) (λ c. cc))

@@ -24,30 +24,6 @@ loop-holds : tie.Need-loop-holds Inv-loop μ-loop
 loop-holds c = let a = c .before .before .args in
     (zero-le, half (now (a .text)) (c .before .before .pre .0), omega arith, refl, paste-zero (now (a .into)) 0 (bytesOf (now (a .text))))
 
-mul-byte : tie.Need-mul-byte Inv-loop μ-loop
-mul-byte c = omega arith
-
-shared-slice-read-byte : tie.Need-shared-slice-read-byte Inv-loop μ-loop
-shared-slice-read-byte c = omega arith
-
-mul-byte-2 : tie.Need-mul-byte-2 Inv-loop μ-loop
-mul-byte-2 c = omega arith
-
-add-byte : tie.Need-add-byte Inv-loop μ-loop
-add-byte c = omega arith
-
-shared-slice-read-byte-2 : tie.Need-shared-slice-read-byte-2 Inv-loop μ-loop
-shared-slice-read-byte-2 c = omega arith
-
-slice-write-into : tie.Need-slice-write-into Inv-loop μ-loop
-slice-write-into c = let h = c .before .before .before .before .before .before .before .pre .1 in omega arith
-
-add-i : tie.Need-add-i Inv-loop μ-loop
-add-i c = omega arith
-
-loop-less : tie.Need-loop-less Inv-loop μ-loop
-loop-less c = omega arith
-
 loop-again : tie.Need-loop-again Inv-loop μ-loop
 loop-again c =
     let l = c .before .before .before .before .loop in
@@ -61,9 +37,6 @@ loop-again c =
       rw (l .inv .4, c .byte .ensures, ← byte-at s (l .i) (omega arith)) (written-more (now (a .into)) (bytesOf s) (l .i) (omega arith) (omega arith)),
     )
 
-same-length : tie.Need-same-length Inv-loop μ-loop
-same-length c = c .before .loop .inv .3
-
 returns : tie.Need-returns Inv-loop μ-loop
 returns c =
     let l = c .before .loop in
@@ -75,18 +48,10 @@ pub write-bytes-spec : {M : Type 1} → statement M
 write-bytes-spec =
     tie.close
     (tie.spec
-    Inv-loop
-    μ-loop
+    Inv-loop μ-loop
     loop-holds
-    mul-byte
-    shared-slice-read-byte
-    mul-byte-2
-    add-byte
-    shared-slice-read-byte-2
-    (search needs)
-    slice-write-into
-    add-i
-    loop-less
-    loop-again
-    same-length
+    (omega arith) (omega arith) (omega arith) (omega arith) (omega arith) (search needs)
+    (λ c. let h = c .before .before .before .before .before .before .before .pre .1 in omega arith)
+    (omega arith) (omega arith) loop-again
+    (λ c. c .before .loop .inv .3)
     returns)

@@ -21,21 +21,6 @@ abbrev μ-loop : tie.MeasureT-loop
 loop-holds : tie.Need-loop-holds Inv-loop μ-loop
 loop-holds c = (omega arith, omega arith, refl, sym (append-nil (decimalOf (c .before .args .n))), omega arith)
 
-cast-digits : tie.Need-cast-digits Inv-loop μ-loop
-cast-digits c = omega arith
-
-add-digits : tie.Need-add-digits Inv-loop μ-loop
-add-digits c = omega arith
-
-array-write-digits : tie.Need-array-write-digits Inv-loop μ-loop
-array-write-digits c = omega arith
-
-sub-i : tie.Need-sub-i Inv-loop μ-loop
-sub-i c = let l = c .before .loop in more-left (l .rest) (l .i) (l .inv .1) (c .loop-test .taken) .0
-
-loop-less : tie.Need-loop-less Inv-loop μ-loop
-loop-less c = omega arith
-
 loop-again : tie.Need-loop-again Inv-loop μ-loop
 loop-again c =
     let l = c .before .loop in
@@ -47,24 +32,6 @@ loop-again c =
       rw e (digit-stored (c .before .before .before .args .n) (l .rest) (l .i) (l .digits) (l .inv .4) (omega arith) (omega arith) (l .inv .3)),
       omega arith,
     )
-
-cast-digits-2 : tie.Need-cast-digits-2 Inv-loop μ-loop
-cast-digits-2 c = omega arith
-
-add-digits-2 : tie.Need-add-digits-2 Inv-loop μ-loop
-add-digits-2 c = omega arith
-
-array-write-digits-2 : tie.Need-array-write-digits-2 Inv-loop μ-loop
-array-write-digits-2 c = omega arith
-
-sub-put : tie.Need-sub-put Inv-loop μ-loop
-sub-put c = omega arith
-
-part-put-start : tie.Need-part-put-start Inv-loop μ-loop
-part-put-start c = omega arith
-
-part-put-end : tie.Need-part-put-end Inv-loop μ-loop
-part-put-end c = simp length-set (omega (arith, c .before .before .before .loop .inv .2))
 
 returns : tie.Need-returns Inv-loop μ-loop
 returns c =
@@ -78,21 +45,11 @@ pub decimal-spec : {M : Type 1} → statement M
 decimal-spec =
     tie.close
     (tie.spec
-    Inv-loop
-    μ-loop
+    Inv-loop μ-loop
     loop-holds
-    cast-digits
-    add-digits
-    array-write-digits
-    sub-i
-    loop-less
-    loop-again
-    cast-digits-2
-    add-digits-2
-    array-write-digits-2
-    sub-put
-    part-put-start
-    part-put-end
-    (search needs)
-    (search needs)
-    returns)
+    (omega arith) (omega arith) (omega arith)
+    (λ c. let l = c .before .loop in more-left (l .rest) (l .i) (l .inv .1) (c .loop-test .taken) .0)
+    (omega arith) loop-again
+    (omega arith) (omega arith) (omega arith) (omega arith) (omega arith)
+    (λ c. simp length-set (omega (arith, c .before .before .before .loop .inv .2)))
+    (search needs) (search needs) returns)

@@ -9,11 +9,4 @@ returns c = rw (c .before .before .before .before .before .before .hex-digit .en
 
 pub hex-byte-spec : {M : Type 1} → statement M
 hex-byte-spec =
-    tie.close
-    (tie.spec
-    (search needs)
-    (search needs)
-    (search needs)
-    (search needs)
-    (search needs)
-    returns)
+    tie.close (tie.spec (search needs) (search needs) (search needs) (search needs) (search needs) returns)

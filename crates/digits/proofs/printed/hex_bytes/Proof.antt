@@ -2,7 +2,7 @@
 -- Assumes nothing.
 use mathlib.Core.Path.{_≡_, sym}
 use mathlib.Core.List.{[]}
-use Prim.Native.Nat.{_≤_, _+_, _-_}
+use Prim.Native.Nat.{_≤_, _-_}
 use native.Mathlib.Omega.{arith}
 use lib.ListN.{length, drop, getD, drop-of-length-le}
 use denote.Ref.{now}
@@ -25,9 +25,6 @@ returns c =
     let e = length-hex (now (a .bytes)) in
     sym (not-put (hexOf (now (a .bytes))) (a .at) (now (a .out)) (omega arith))
 
-sub-if2 : tie.Need-sub-if2 Inv-loop μ-loop
-sub-if2 c = omega arith
-
 returns-2 : tie.Need-returns-2 Inv-loop μ-loop
 returns-2 c =
     let a = c .before .before .before .before .args in
@@ -35,65 +32,31 @@ returns-2 c =
     sym (not-put (hexOf (now (a .bytes))) (a .at) (now (a .out)) (omega arith))
 
 loop-holds : tie.Need-loop-holds Inv-loop μ-loop
-loop-holds c =
-    let a = c .before .before .before .before .args in
-    let e = length-hex (now (a .bytes)) in (omega arith, left-all (hexOf (now (a .bytes))) (a .at) (now (a .out)) (omega arith))
-
-shared-slice-read-hex-byte : tie.Need-shared-slice-read-hex-byte Inv-loop μ-loop
-shared-slice-read-hex-byte c = omega arith
-
-add-i : tie.Need-add-i Inv-loop μ-loop
-add-i c = omega arith
-
-loop-less : tie.Need-loop-less Inv-loop μ-loop
-loop-less c = omega arith
+loop-holds c = let e = length-hex (now (c .before .before .before .before .args .bytes)) in (omega arith, left-all (omega arith))
 
 loop-again : tie.Need-loop-again Inv-loop μ-loop
 loop-again c =
-    let a = c .before .before .before .before .before .before .before .before .before .before .before .args in
+    let bs = now (c .before .before .before .before .before .before .before .before .before .before .before .args .bytes) in
     let l = c .before .before .before .before .before .before .loop in
-    let h = c .before .before .hex-byte in
-    let m = hex-more (now (a .bytes)) (l .i) (omega arith) in (
-      omega arith,
-      left-less
-          (hexOf (now (a .bytes)))
-          (a .at)
-          (now (a .out))
-          (hexByte (getD (now (a .bytes)) (l .i) 0))
-          (hexOf (drop (l .i + 1) (now (a .bytes))))
-          (l .next)
-          (l .out)
-          (h .result)
-          (h .last .0)
-          (rw m at (l .inv .1))
-          (h .ensures),
-    )
-
-same-length : tie.Need-same-length Inv-loop μ-loop
-same-length c = c .before .loop .inv .1 .same
+    let m = hex-more bs (l .i) (omega arith) in
+    (omega arith, left-less (hexByte (getD bs (l .i) 0)) (rw m at (l .inv .1)) (c .before .before .hex-byte .ensures))
 
 returns-3 : tie.Need-returns-3 Inv-loop μ-loop
 unfolding hexOf
 returns-3 c =
-    let a = c .before .before .before .before .before .before .args in
+    let bs = now (c .before .before .before .before .before .before .args .bytes) in
     let l = c .before .loop in
-    let n : drop (l .i) (now (a .bytes)) ≡ [] = drop-of-length-le (now (a .bytes)) {i = l .i} (omega arith) in
-    left-none (hexOf (now (a .bytes))) (a .at) (now (a .out)) (l .next) (l .out) (rw n at (l .inv .1))
+    let n : drop (l .i) bs ≡ [] = drop-of-length-le bs {i = l .i} (omega arith) in
+    left-none (rw n at (l .inv .1))
 
 pub hex-bytes-spec : {M : Type 1} → statement M
 hex-bytes-spec =
     tie.close
     (tie.spec
-    Inv-loop
-    μ-loop
+    Inv-loop μ-loop
     returns
-    sub-if2
-    returns-2
+    (omega arith) returns-2
     loop-holds
-    shared-slice-read-hex-byte
-    (search needs)
-    add-i
-    loop-less
-    loop-again
-    same-length
+    (omega arith) (search needs) (omega arith) (omega arith) loop-again
+    (λ c. c .before .loop .inv .1 .same)
     returns-3)

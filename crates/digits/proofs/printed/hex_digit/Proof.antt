@@ -5,11 +5,10 @@ use borrow.Author.Needs.{needs}
 use Rattle.digits.proofs.printed.hex_digit.Statement.{statement}
 use Rattle.digits.proofs.printed.hex_digit.Tie as tie
 
-returns : tie.Need-returns
-returns c = rw (lt-ltb _ _ (c .if1 .taken))
-
-returns-2 : tie.Need-returns-2
-returns-2 c = rw (le-ltb _ _ (c .if1 .left))
-
 pub hex-digit-spec : {M : Type 1} → statement M
-hex-digit-spec = tie.close (tie.spec (search needs) (search needs) returns returns-2)
+hex-digit-spec =
+    tie.close
+    (tie.spec
+    (search needs) (search needs)
+    (λ c. rw (lt-ltb _ _ (c .if1 .taken)))
+    (λ c. rw (le-ltb _ _ (c .if1 .left))))

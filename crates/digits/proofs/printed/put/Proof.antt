@@ -25,12 +25,5 @@ put-spec =
     tie.close
     (tie.spec
     returns
-    (search needs)
-    returns-2
-    (search needs)
-    (search needs)
-    (search needs)
-    (search needs)
-    (search needs)
-    (search needs)
-    returns-3)
+    (search needs) returns-2
+    (search needs) (search needs) (search needs) (search needs) (search needs) (search needs) returns-3)

@@ -4,8 +4,5 @@ use Rattle.digits.proofs.PrintedIsRead.{number-read-back, bytes-read-ba
 use Rattle.digits.proofs.read_back.printed_is_read_back.Statement.{statement}
 use Rattle.digits.proofs.read_back.printed_is_read_back.Tie as tie
 
-returns : tie.Need-returns
-returns c = (number-read-back, bytes-read-back)
-
 pub printed-is-read-back-spec : {M : Type 1} → statement M
-printed-is-read-back-spec = tie.close (tie.spec returns)
+printed-is-read-back-spec = tie.close (tie.spec (λ c. (number-read-back, bytes-read-back)))

@@ -1,20 +1,16 @@
 -- `script::six_numbers::all_six` meets its contract. All six are numbers, or the line is bad.
 -- Assumes nothing.
+use mathlib.Core.Path.{_≡_}
+use mathlib.Core.Bool.{true, false, _&&_}
+use Rattle.script.specs.FirstLine.{isNumber}
 use borrow.Author.Needs.{needs}
 use Rattle.script.proofs.six_numbers.all_six.Statement.{statement}
 use Rattle.script.proofs.six_numbers.all_six.Tie as tie
 
 returns : tie.Need-returns
 returns c =
-    let e =
-    rw (
-      c .before .before .before .before .before .before .before .is-number6 .ensures,
-      c .before .before .before .before .before .before .before .before .is-number5 .ensures,
-      c .before .before .before .before .before .before .before .before .before .is-number4 .ensures,
-      c .before .before .before .before .before .before .before .before .before .before .is-number3 .ensures,
-      c .before .before .before .before .before .before .before .before .before .before .before .is-number2 .ensures,
-      c .before .before .before .before .before .before .before .before .before .before .before .before .is-number .ensures,
-    ) at (c .before .before .before .before .before .before .if1 .taken) in
+    let n = c .before .before .before .before .before .before .before .before .before .before .before .before .before .args in
+    let e : isNumber (n .a) && isNumber (n .b) && isNumber (n .c) && isNumber (n .d) && isNumber (n .e) && isNumber (n .f) ≡ true = cc in
     rw (
       c .value6 .ensures,
       c .before .value5 .ensures,
@@ -27,32 +23,14 @@ returns c =
 
 returns-2 : tie.Need-returns-2
 returns-2 c =
-    let e =
-    rw (
-      c .before .is-number6 .ensures,
-      c .before .before .is-number5 .ensures,
-      c .before .before .before .is-number4 .ensures,
-      c .before .before .before .before .is-number3 .ensures,
-      c .before .before .before .before .before .is-number2 .ensures,
-      c .before .before .before .before .before .before .is-number .ensures,
-    ) at (c .if1 .left) in
+    let n = c .before .before .before .before .before .before .before .args in
+    let e : isNumber (n .a) && isNumber (n .b) && isNumber (n .c) && isNumber (n .d) && isNumber (n .e) && isNumber (n .f) ≡ false = cc in
     rw e
 
 pub all-six-spec : {M : Type 1} → statement M
 all-six-spec =
     tie.close
     (tie.spec
-    (search needs)
-    (search needs)
-    (search needs)
-    (search needs)
-    (search needs)
-    (search needs)
-    (search needs)
-    (search needs)
-    (search needs)
-    (search needs)
-    (search needs)
-    (search needs)
-    returns
+    (search needs) (search needs) (search needs) (search needs) (search needs) (search needs) (search needs)
+    (search needs) (search needs) (search needs) (search needs) (search needs) returns
     returns-2)

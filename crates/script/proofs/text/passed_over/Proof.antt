@@ -5,11 +5,10 @@ use borrow.Author.Tests.{eq-eqb, ne-eqb}
 use Rattle.script.proofs.text.passed_over.Statement.{statement}
 use Rattle.script.proofs.text.passed_over.Tie as tie
 
-returns : tie.Need-returns
-returns c = rw (eq-eqb _ _ (c .if1 .taken))
-
-returns-2 : tie.Need-returns-2
-returns-2 c = rw (ne-eqb _ _ (c .before .if1 .left))
-
 pub passed-over-spec : {M : Type 1} → statement M
-passed-over-spec = tie.close (tie.spec returns (search needs) returns-2)
+passed-over-spec =
+    tie.close
+    (tie.spec
+    (λ c. rw (eq-eqb _ _ (c .if1 .taken)))
+    (search needs)
+    (λ c. rw (ne-eqb _ _ (c .before .if1 .left))))

@@ -16,15 +16,11 @@ of-no-byte : (line : List ℕ) → length line ≡ 0 → 0 ≡ textLength line
 of-no-byte [] h = refl
 of-no-byte (x ∷ line) h = absurd (omega (arith, h))
 
-returns : tie.Need-returns
-returns c = (of-no-byte (now (c .before .args .line)) (c .if1 .taken), omega arith)
-
-returns-2 : tie.Need-returns-2
-returns-2 c = (rw (eq-eqb _ _ (c .if2 .taken)), omega arith)
-
-returns-3 : tie.Need-returns-3
-returns-3 c = (rw (ne-eqb _ _ (c .if2 .left)), omega arith)
-
 pub text-length-spec : {M : Type 1} → statement M
 text-length-spec =
-    tie.close (tie.spec returns (search needs) (search needs) (search needs) returns-2 returns-3)
+    tie.close
+    (tie.spec
+    (λ c. (of-no-byte (now (c .before .args .line)) (c .if1 .taken), omega arith))
+    (search needs) (search needs) (search needs)
+    (λ c. (rw (eq-eqb _ _ (c .if2 .taken)), omega arith))
+    (λ c. (rw (ne-eqb _ _ (c .if2 .left)), omega arith)))

@@ -1,0 +1,143 @@
+// What the words behind a line's end ask.
+use crate::Asked;
+use crate::Parsed;
+use crate::Request;
+use crate::Verb;
+use cells::same;
+use digits::Hex;
+use digits::Number;
+use digits::decimal_read::number;
+use digits::hexadecimal_read::hex;
+use header::Follows;
+ghost use mathlib.Core.Path.{_≡_};
+ghost use lib.ListN.{length, drop};
+ghost use Rattle.script.specs.WordsAsked.{handedBack, plain, wordRows, rowOf, counted, givenOf, offerOf, readOf};
+
+const GREATEST_COUNT: u16 = 2048;
+// Two digits for each byte.
+const MOST_DIGITS: usize = 4096;
+
+fn plain(second: bool, request: Request, count: usize) -> Parsed
+    ensures { λ r. ⌜ r ≡ plain second request count ⌝ }
+{
+    Parsed::Call(Asked {
+        second,
+        request,
+        count,
+    })
+}
+
+// The words that stand alone, in three parts: rows 0 to 3, 4 to 7 and 8 to 10.
+pub(crate) fn words_alone(second: bool, words: &[u8]) -> Parsed
+    ensures { λ r. ⌜ r ≡ rowOf second (now (words .entry)) wordRows ⌝ }
+{
+    if same(words, b"allocate") {
+        return plain(second, Request::Call(Verb::Allocate), 0);
+    }
+    if same(words, b"flush") {
+        return plain(second, Request::Call(Verb::Close(Follows::Stay, false)), 0);
+    }
+    if same(words, b"confirm") {
+        return plain(second, Request::Call(Verb::Close(Follows::Stay, true)), 0);
+    }
+    if same(words, b"confirmed") {
+        return plain(second, Request::Call(Verb::Confirmed), 0);
+    }
+    turn_or_end(second, words)
+}
+
+fn turn_or_end(second: bool, words: &[u8]) -> Parsed
+    ensures { λ r. ⌜ r ≡ rowOf second (now (words .entry)) (drop 4 wordRows) ⌝ }
+{
+    if same(words, b"turn") {
+        return plain(
+            second,
+            Request::Call(Verb::Close(Follows::ChangeDirection, false)),
+            0,
+        );
+    }
+    if same(words, b"turn confirm") {
+        return plain(
+            second,
+            Request::Call(Verb::Close(Follows::ChangeDirection, true)),
+            0,
+        );
+    }
+    if same(words, b"end") {
+        return plain(
+            second,
+            Request::Call(Verb::Close(Follows::EndBracket, false)),
+            0,
+        );
+    }
+    if same(words, b"end confirm") {
+        return plain(
+            second,
+            Request::Call(Verb::Close(Follows::EndBracket, true)),
+            0,
+        );
+    }
+    take_pace_send(second, words)
+}
+
+fn take_pace_send(second: bool, words: &[u8]) -> Parsed
+    ensures { λ r. ⌜ r ≡ rowOf second (now (words .entry)) (drop 8 wordRows) ⌝ }
+{
+    if same(words, b"take") {
+        return plain(second, Request::Take, 0);
+    }
+    if same(words, b"pace") {
+        return plain(second, Request::Call(Verb::SendPacingResponse), 0);
+    }
+    if same(words, b"send") {
+        return plain(second, Request::Call(Verb::SendData), 0);
+    }
+    Parsed::Bad
+}
+
+fn counted(second: bool, request: Request, found: Hex) -> Parsed
+    ensures { λ r. ⌜ r ≡ counted second request found ⌝ }
+{
+    match found {
+        Hex::Bytes(n) => plain(second, request, n),
+        Hex::Bad => Parsed::Bad,
+    }
+}
+
+// A request with 1 to 2,048 bytes.
+pub(crate) fn given(second: bool, request: Request, text: &[u8], bytes: &mut [u8]) -> Parsed
+    ensures { λ r.
+        ⌜ (r, now (bytes .exit)) ≡ handedBack (givenOf second request (now (text .entry)) (length (now (bytes .entry)))) (now (bytes .entry)) ⌝ }
+{
+    if MOST_DIGITS < text.len() {
+        return Parsed::Bad;
+    }
+    counted(second, request, hex(text, bytes))
+}
+
+// A unit that the line gives: `-` is that of no byte.
+pub(crate) fn offer(second: bool, text: &[u8], bytes: &mut [u8]) -> Parsed
+    ensures { λ r.
+        ⌜ (r, now (bytes .exit)) ≡ handedBack (offerOf second (now (text .entry)) (length (now (bytes .entry)))) (now (bytes .entry)) ⌝ }
+{
+    if same(text, b"-") {
+        return plain(second, Request::Offer, 0);
+    }
+    given(second, Request::Offer, text, bytes)
+}
+
+// A buffer of 0 to 2,048 cells.
+pub(crate) fn read(second: bool, text: &[u8]) -> Parsed
+    ensures { λ r. ⌜ r ≡ readOf second (now (text .entry)) ⌝ }
+{
+    let n = number(text);
+    match n {
+        Number::Is(cells) => {
+            if cells <= GREATEST_COUNT {
+                return plain(second, Request::Call(Verb::Receive), cells as usize);
+            }
+            Parsed::Bad
+        }
+        Number::Bad => Parsed::Bad,
+    }
+}
