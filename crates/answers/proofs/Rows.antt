@@ -8,7 +8,7 @@ use native.Mathlib.Omega.{arith}
 use lib.ListN.{getD}
 use lib.Dec.{T, eqb}
 use borrow.Author.Tests.{ne-eqb}
-use Rattle.answers.specs.Questions.{firstNo, thenAsk}
+use Rattle.answers.specs.FirstNo.{firstNo, thenAsk}
 
 pub both-left : (a b : Bool) → T (a && b) → T a
 both-left true b t = tt

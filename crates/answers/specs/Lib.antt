@@ -1,2 +1,2 @@
-pub mod Questions
+pub mod FirstNo
 pub mod Answers

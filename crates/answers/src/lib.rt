@@ -1,6 +1,6 @@
 // The answers that calls give: the refusal number, its sense, and the rule that a refusal names.
+pub mod first_no;
 pub mod numbers;
-pub mod questions;
 
 use crate::numbers::BAD_HEADER;
 use control::Control;

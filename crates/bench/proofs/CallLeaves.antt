@@ -8,7 +8,7 @@ use lib.Dec.{eqb}
 use lib.ListN.{length}
 use Rattle.end.specs.Outcome.{Copied}
 use Rattle.end.specs.Results.{copiedBy}
-use Rattle.end.specs.Receive.{readRefusal, someHeld, bytesRead, markRead, readDecision, receive}
+use Rattle.end.specs.Receive.{receiveRefusal, someHeld, bytesRead, markRead, receiveDecision, receive}
 use Rattle.end.specs.declared.End.{End}
 use Rattle.end.specs.declared.ReadDone.{ReadDone}
 use Rattle.bools.proofs.Cases.{cases}
@@ -27,10 +27,10 @@ read-is (Close f b) e = absurd (false≢true e)
 read-is Receive e = refl
 
 -- a read makes no unit
-no-unit : (e : End) (inbox : List ℕ) (n : ℕ) → readDecision e inbox n .answer .answer .unit ≡ 0
-unfolding readDecision bytesRead markRead
+no-unit : (e : End) (inbox : List ℕ) (n : ℕ) → receiveDecision e inbox n .answer .answer .unit ≡ 0
+unfolding receiveDecision bytesRead markRead
 no-unit e inbox n =
-    let q : ℕ = readRefusal e inbox n in
+    let q : ℕ = receiveRefusal e inbox n in
     let P : ReadDone → Type 0 = λ d. d .answer .answer .unit ≡ 0 in
     cases P (eqb q 0) (λ y. cases P (someHeld e) (λ z. refl) (λ z. refl)) (λ y. refl)
 

@@ -16,7 +16,7 @@ use Rattle.calls.specs.Calls.{Called, Reply, Station, plain, unitsOf}
 abbrev pub verbOf : Verb → List ℕ → List ℕ → J.Verb
 verbOf Allocate given buffer = J.allocate
 verbOf Confirmed given buffer = J.confirmed
-verbOf SendPacingResponse given buffer = J.pace
+verbOf SendPacingResponse given buffer = J.sendPacingResponse
 verbOf SendData given buffer = J.sendData given
 verbOf (Close f b) given buffer = J.close f b
 verbOf Receive given buffer = J.receive buffer

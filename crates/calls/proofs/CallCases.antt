@@ -3,20 +3,20 @@
 use Rattle.calls.proofs.CallWords.{ℕ, _+_, _≤_, eqb-true, leb-true, ne-eqb, eqb, leb, take, drop, length, Bool, true, false, cond, not, _&&_, _||_}
 use Rattle.calls.proofs.CallWords.{List, [], _∷_, _++_, _≡_, refl, sym, ap, _∙_, arith, cases, both, left, or-right, front, written, walk, placeOr}
 use Rattle.calls.proofs.CallWords.{Position, Walked, At, BadLength, headerGood, ChainEnd, Continues, Last, DataHeader, Follows, Header, bidRu, fixedRu}
-use Rattle.calls.proofs.CallWords.{ruGood, RU-START, unitOf, numberIn, headerIn, unit-length, paced, hasCredit, mayAllocate, mayConfirm, grantFits}
-use Rattle.calls.proofs.CallWords.{refusalFits, confirmationFits, isSend, isNothing, agree, isFirstSpeaker, controlGood, Control, bidAnswer, allocated}
-use Rattle.calls.proofs.CallWords.{confirmationMade, markAnswered, bidTaken, grantTaken, refusalTaken, confirmationTaken, accepted, refused}
+use Rattle.calls.proofs.CallWords.{ruGood, RU-START, unitOf, numberIn, headerIn, unit-length, paced, hasCredit, mayAllocate, mayConfirm, positiveResponseFits}
+use Rattle.calls.proofs.CallWords.{negativeResponseFits, confirmationFits, isSend, isNothing, agree, isFirstSpeaker, controlGood, Control, bidAnswer, allocated}
+use Rattle.calls.proofs.CallWords.{confirmationMade, markAnswered, bidReceived, positiveResponseReceived, negativeResponseReceived, confirmationReceived, accepted, refused}
 use Rattle.calls.proofs.CallWords.{refusedNaming, firstNo, yes, windowAnswered, keeps, nextNumber, bidMade, allocateRefusal, allocateDecision}
 use Rattle.calls.proofs.CallWords.{allocate, lastMade, nothingGoes, closeRefusal, closeDecision, close, confirmedRefusal, confirmedDecision, confirmed}
-use Rattle.calls.proofs.CallWords.{withControl, withReceiving, Decision, decided, paceRefusal, paceDecision, pace, bytesRead, inboxMoved, someHeld}
-use Rattle.calls.proofs.CallWords.{readRefusal, markRead, readDecision, receive, ruTaken, dataJoined, bidAnswered, creditRaised, headerTaken}
-use Rattle.calls.proofs.CallWords.{takeRefusal, takeDecision, receiveUnit, recordGood, dataHeader, heldBytes, gone, bytesKept, bytesSpilled}
+use Rattle.calls.proofs.CallWords.{withControl, withReceiving, Decision, decided, sendPacingResponseRefusal, sendPacingResponseDecision, sendPacingResponse, bytesRead, inboxMoved, someHeld}
+use Rattle.calls.proofs.CallWords.{receiveRefusal, markRead, receiveDecision, receive, ruReceived, dataJoined, bidAnswered, creditRaised, headerReceived}
+use Rattle.calls.proofs.CallWords.{receiveUnitRefusal, receiveUnitDecision, receiveUnit, recordGood, dataHeader, heldBytes, gone, bytesKept, bytesSpilled}
 use Rattle.calls.proofs.CallWords.{sendRefusal, sendDecision, sendData, End, ReadDone, facts, Called, Station, Verb, called, taken}
 use lib.Dec.{T}
 use lib.ListN.{getD}
 use Rattle.cells.proofs.Fronts.{front-bytes}
 use Rattle.logical_record.specs.Positions.{isWhole}
-use Rattle.logical_record.specs.Reading.{rest}
+use Rattle.logical_record.specs.RestOfRecord.{rest}
 use Rattle.unit.specs.Ru.{marks}
 use Rattle.header.specs.declared.Header.the-variants.{Data, Bid, PositiveBidResponse, NegativeBidResponse, Confirmation, PacingResponse}
 use Rattle.control.proofs.States.{fits-not-send}
@@ -31,11 +31,11 @@ use Rattle.logical_record.specs.Walk.{isGood}
 use Rattle.end.specs.SendData.{sendQuestions, sendCells}
 use Rattle.end.specs.Close.{closeQuestions}
 use Rattle.end.specs.Confirmed.{confirmedQuestions}
-use Rattle.end.specs.ReceiveUnit.{headQuestions, kindQuestions, kindTaken, kindJoined, inboxCells, answerNaming}
-use Rattle.end.specs.Receive.{recordRest, readQuestions, copyCount}
-use Rattle.reading.specs.Reading.{restGood}
-use Rattle.sides.specs.Receiving.{recordsFit, mayPace}
-use Rattle.end.specs.Pace.{paceQuestions}
+use Rattle.end.specs.ReceiveUnit.{headQuestions, kindQuestions, kindReceived, kindJoined, inboxCells, answerNaming}
+use Rattle.end.specs.Receive.{recordRest, receiveQuestions, copyCount}
+use Rattle.receiving.specs.BytesRead.{restGood}
+use Rattle.receiving.specs.Receiving.{recordsFit, mayAnswerPacing}
+use Rattle.end.specs.SendPacingResponse.{sendPacingResponseQuestions}
 use Rattle.answers.proofs.Rows.{numbered, outcomes}
 use Rattle.answers.proofs.TwoRows.{pass-both}
 use Rattle.bools.proofs.Cases.{never}
@@ -252,13 +252,13 @@ pub pace-cases :
     (P : Called → Type 0) (s : Station)
     → ((q : ℕ) → eqb q 0 ≡ false → P (refusedAct s q))
     → (recordGood (s .end) ≡ true
-    → mayPace (s .end .receiving) ≡ true
+    → mayAnswerPacing (s .end .receiving) ≡ true
     → P (unitAct s (withReceiving (windowAnswered (s .end .receiving)) (s .end)) 0 PacingResponse []))
-    → P (called s Verb.pace)
-unfolding called pace paceDecision paceRefusal
+    → P (called s Verb.sendPacingResponse)
+unfolding called sendPacingResponse sendPacingResponseDecision sendPacingResponseRefusal
 pace-cases P s refuses goes =
     let e = s .end in
-    decided-cases P s (paceQuestions e (length (s .unit))) _ tt refuses
+    decided-cases P s (sendPacingResponseQuestions e (length (s .unit))) _ tt refuses
     (λ t. made-unit P s (withReceiving (windowAnswered (e .receiving)) e) 0 PacingResponse [] (goes (t 1) (t 2)))
 
 -- ---- read
@@ -300,20 +300,20 @@ markAct s buffer =
 
 pub read-cases :
     (P : Called → Type 0) (s : Station) (buffer : List ℕ)
-    → ((q : ℕ) → q ≡ readRefusal (s .end) (s .inbox) (length buffer) → eqb q 0 ≡ false → P (refusedRead s q buffer))
+    → ((q : ℕ) → q ≡ receiveRefusal (s .end) (s .inbox) (length buffer) → eqb q 0 ≡ false → P (refusedRead s q buffer))
     → (ReadAsked s buffer → someHeld (s .end) ≡ true → P (bytesAct s buffer))
     → (ReadAsked s buffer → someHeld (s .end) ≡ false → not (isNothing (s .end .control .mark)) ≡ true → P (markAct s buffer))
     → P (called s (Verb.receive buffer))
-unfolding called receive readDecision readRefusal bytesRead markRead inboxMoved front
+unfolding called receive receiveDecision receiveRefusal bytesRead markRead inboxMoved front
 read-cases P s buffer refuses copied marked =
     let e = s .end in
-    let q : ℕ = readRefusal e (s .inbox) (length buffer) in
+    let q : ℕ = receiveRefusal e (s .inbox) (length buffer) in
     cases
     (λ (d : ReadDone).
     P (copies s (record { done = d; inbox = inboxMoved e (d .answer .copied) (s .inbox); buffer = front (take (d .answer .copied) (s .inbox)) buffer })))
     (eqb q 0)
     (λ y.
-    let t = yes (readQuestions e (s .inbox) (length buffer)) tt (eqb-true q 0 y) in
+    let t = yes (receiveQuestions e (s .inbox) (length buffer)) tt (eqb-true q 0 y) in
     let asked : ReadAsked s buffer =
     record { inbox = eqb-true _ _ (t 0); good = t 1; least = leb-true _ _ (t 2); rest = t 3 } in
     cases
@@ -330,9 +330,9 @@ read-cases P s buffer refuses copied marked =
 abbrev controlAfter : Header → Control → Control
 controlAfter (Data d) c = c
 controlAfter (Bid p) c = c
-controlAfter PositiveBidResponse c = grantTaken c
-controlAfter NegativeBidResponse c = refusalTaken c
-controlAfter Confirmation c = confirmationTaken c
+controlAfter PositiveBidResponse c = positiveResponseReceived c
+controlAfter NegativeBidResponse c = negativeResponseReceived c
+controlAfter Confirmation c = confirmationReceived c
 controlAfter PacingResponse c = c
 
 -- bytes join the inbox
@@ -375,7 +375,7 @@ tookOf naming s u d inbox =
 took-kind :
     (P : Called → Type 0) (naming : List ℕ → ℕ) (s : Station) (u : List ℕ) (h : Header) (n : ℕ) (ru : List ℕ)
     → P (tookKind s h n ru)
-    → P (tookOf naming s u (kindTaken (s .end) h n ru) (cond (eqb (kindTaken (s .end) h n ru .refusal) 0) (kindJoined (s .end) h ru (s .inbox)) (s .inbox)))
+    → P (tookOf naming s u (kindReceived (s .end) h n ru) (cond (eqb (kindReceived (s .end) h n ru .refusal) 0) (kindJoined (s .end) h ru (s .inbox)) (s .inbox)))
 unfolding dataJoined bidAnswered creditRaised
 took-kind P naming s u (Data d) n ru p = p
 took-kind P naming s u (Bid b) n ru p =
@@ -392,7 +392,7 @@ passes k [] = true
 passes k (q ∷ qs) = (not (eqb (q .1) k) || q .0) && passes k qs
 
 -- every kind that is taken is accepted, and none of its questions gives the number 5
-pub kind-accepted : (e : End) (h : Header) (n : ℕ) (ru : List ℕ) → (kindTaken e h n ru .refusal ≡ 0) × (passes 5 (kindQuestions e h n ru) ≡ true)
+pub kind-accepted : (e : End) (h : Header) (n : ℕ) (ru : List ℕ) → (kindReceived e h n ru .refusal ≡ 0) × (passes 5 (kindQuestions e h n ru) ≡ true)
 unfolding dataJoined bidAnswered creditRaised
 kind-accepted e (Data d) n ru = (refl, refl)
 kind-accepted e (Bid p) n ru = (refl, refl)
@@ -415,17 +415,17 @@ refusedTake naming s u q = record { end = s; answer = plain (refusedNaming (nami
 -- a take, by the kind of the unit
 pub kind-cases :
     (P : Called → Type 0) (naming : List ℕ → ℕ) (s : Station) (u : List ℕ)
-    → ((q : ℕ) → q ≡ takeRefusal (s .end) u (length (s .inbox)) (length (s .unit)) → eqb q 0 ≡ false → P (refusedTake naming s u q))
-    → (TakeAsked s u → firstNo (kindQuestions (s .end) (headerTaken u) (numberIn u) (ruTaken u)) ≡ 0 → P (tookKind s (headerTaken u) (numberIn u) (ruTaken u)))
+    → ((q : ℕ) → q ≡ receiveUnitRefusal (s .end) u (length (s .inbox)) (length (s .unit)) → eqb q 0 ≡ false → P (refusedTake naming s u q))
+    → (TakeAsked s u → firstNo (kindQuestions (s .end) (headerReceived u) (numberIn u) (ruReceived u)) ≡ 0 → P (tookKind s (headerReceived u) (numberIn u) (ruReceived u)))
     → P (taken naming s u)
-unfolding taken receiveUnit takeDecision inboxCells takeRefusal
+unfolding taken receiveUnit receiveUnitDecision inboxCells receiveUnitRefusal
 kind-cases P naming s u refuses takesIt =
     let e = s .end in
-    let q : ℕ = takeRefusal e u (length (s .inbox)) (length (s .unit)) in
-    cases (λ (d : Decision). P (tookOf naming s u d (cond (eqb (d .refusal) 0) (kindJoined e (headerTaken u) (ruTaken u) (s .inbox)) (s .inbox)))) (eqb q 0)
+    let q : ℕ = receiveUnitRefusal e u (length (s .inbox)) (length (s .unit)) in
+    cases (λ (d : Decision). P (tookOf naming s u d (cond (eqb (d .refusal) 0) (kindJoined e (headerReceived u) (ruReceived u) (s .inbox)) (s .inbox)))) (eqb q 0)
     (λ y.
     let head = headQuestions e u (length (s .inbox)) (length (s .unit)) in
-    let both = pass-both head (kindQuestions e (headerTaken u) (numberIn u) (ruTaken u)) tt (eqb-true q 0 y) in
+    let both = pass-both head (kindQuestions e (headerReceived u) (numberIn u) (ruReceived u)) tt (eqb-true q 0 y) in
     let t = yes head tt (both .0) in
     let asked : TakeAsked s u =
     record {
@@ -435,7 +435,7 @@ kind-cases P naming s u refuses takesIt =
       long = leb-true _ _ (t 3);
       header = t 4;
     } in
-    took-kind P naming s u (headerTaken u) (numberIn u) (ruTaken u) (takesIt asked (both .1)))
+    took-kind P naming s u (headerReceived u) (numberIn u) (ruReceived u) (takesIt asked (both .1)))
     (λ y. rw y (refuses q refl y))
 
 -- ---- a take by the sort of the unit
@@ -462,39 +462,39 @@ fits-at ends p BadLength e = cc
 
 pub take-cases :
     (P : Called → Type 0) (naming : List ℕ → ℕ) (s : Station) (u : List ℕ)
-    → ((q : ℕ) → q ≡ takeRefusal (s .end) u (length (s .inbox)) (length (s .unit)) → eqb q 0 ≡ false → P (refusedTake naming s u q))
-    → ((d : DataHeader) → TakeAsked s u → sortOf (headerTaken u) ≡ brings d → DataAsked s d (ruTaken u) → P (joinedAct s d (numberIn u) (ruTaken u)))
-    → ((p : Bool) → TakeAsked s u → sortOf (headerTaken u) ≡ asks p → RequestAsked (s .end .receiving .window) p
-    → Moved (s .end .control) (bidTaken (s .end .control)) → P (answeredAct s (numberIn u)))
-    → ((c : Control) → TakeAsked s u → sortOf (headerTaken u) ≡ answers → Moved (s .end .control) c → P (quietAct s (withControl c (s .end))))
-    → (TakeAsked s u → sortOf (headerTaken u) ≡ paces → s .end .sending .window .pending ≡ true → P (creditAct s))
+    → ((q : ℕ) → q ≡ receiveUnitRefusal (s .end) u (length (s .inbox)) (length (s .unit)) → eqb q 0 ≡ false → P (refusedTake naming s u q))
+    → ((d : DataHeader) → TakeAsked s u → sortOf (headerReceived u) ≡ brings d → DataAsked s d (ruReceived u) → P (joinedAct s d (numberIn u) (ruReceived u)))
+    → ((p : Bool) → TakeAsked s u → sortOf (headerReceived u) ≡ asks p → RequestAsked (s .end .receiving .window) p
+    → Moved (s .end .control) (bidReceived (s .end .control)) → P (answeredAct s (numberIn u)))
+    → ((c : Control) → TakeAsked s u → sortOf (headerReceived u) ≡ answers → Moved (s .end .control) c → P (quietAct s (withControl c (s .end))))
+    → (TakeAsked s u → sortOf (headerReceived u) ≡ paces → s .end .sending .window .pending ≡ true → P (creditAct s))
     → P (taken naming s u)
 unfolding ruGood
 take-cases P naming s u refuses joins bids responds raises =
-    kind-cases P naming s u refuses (λ a k. by (headerTaken u) refl a k)
+    kind-cases P naming s u refuses (λ a k. by (headerReceived u) refl a k)
   where
-    by : (h : Header) → headerTaken u ≡ h → TakeAsked s u → firstNo (kindQuestions (s .end) h (numberIn u) (ruTaken u)) ≡ 0
-        → P (tookKind s h (numberIn u) (ruTaken u))
+    by : (h : Header) → headerReceived u ≡ h → TakeAsked s u → firstNo (kindQuestions (s .end) h (numberIn u) (ruReceived u)) ≡ 0
+        → P (tookKind s h (numberIn u) (ruReceived u))
     by (Data d) e a k =
-        let t = yes (kindQuestions (s .end) (Data d) (numberIn u) (ruTaken u)) tt k in
+        let t = yes (kindQuestions (s .end) (Data d) (numberIn u) (ruReceived u)) tt k in
         joins d a (ap sortOf e)
         (record {
-          short = leb-true _ _ (left (leb (length (ruTaken u)) (s .end .receiving .max)) _ (t 0));
+          short = leb-true _ _ (left (leb (length (ruReceived u)) (s .end .receiving .max)) _ (t 0));
           request = request-asked (s .end .receiving .window) (d .pacing) (t 1);
           away = fits-not-send (s .end .control .state) _ (t 5);
-          walked = fits-at (d .ends) (s .end .receiving .taken) (walk (s .end .receiving .taken) (ruTaken u)) (t 6);
+          walked = fits-at (d .ends) (s .end .receiving .taken) (walk (s .end .receiving .taken) (ruReceived u)) (t 6);
         })
     by (Bid p) e a k =
-        let t = yes (kindQuestions (s .end) (Bid p) (numberIn u) (ruTaken u)) tt k in
+        let t = yes (kindQuestions (s .end) (Bid p) (numberIn u) (ruReceived u)) tt k in
         bids p a (ap sortOf e) (request-asked (s .end .receiving .window) p (t 1)) (bid-moves (s .end .control) (control-within (s .end) (a .good)))
     by PositiveBidResponse e a k =
-        let t = yes (kindQuestions (s .end) PositiveBidResponse (numberIn u) (ruTaken u)) tt k in
-        responds _ a (ap sortOf e) (grant-moves (s .end .control) (control-within (s .end) (a .good)) (left (grantFits (s .end .control)) _ (t 1)))
+        let t = yes (kindQuestions (s .end) PositiveBidResponse (numberIn u) (ruReceived u)) tt k in
+        responds _ a (ap sortOf e) (grant-moves (s .end .control) (control-within (s .end) (a .good)) (left (positiveResponseFits (s .end .control)) _ (t 1)))
     by NegativeBidResponse e a k =
-        let t = yes (kindQuestions (s .end) NegativeBidResponse (numberIn u) (ruTaken u)) tt k in
-        responds _ a (ap sortOf e) (refusal-moves (s .end .control) (control-within (s .end) (a .good)) (left (refusalFits (s .end .control)) _ (t 1)))
+        let t = yes (kindQuestions (s .end) NegativeBidResponse (numberIn u) (ruReceived u)) tt k in
+        responds _ a (ap sortOf e) (refusal-moves (s .end .control) (control-within (s .end) (a .good)) (left (negativeResponseFits (s .end .control)) _ (t 1)))
     by Confirmation e a k =
-        let t = yes (kindQuestions (s .end) Confirmation (numberIn u) (ruTaken u)) tt k in
+        let t = yes (kindQuestions (s .end) Confirmation (numberIn u) (ruReceived u)) tt k in
         responds _ a (ap sortOf e)
         (confirmation-moves (s .end .control) (control-within (s .end) (a .good)) (left (confirmationFits (s .end .control)) _ (t 1)))
-    by PacingResponse e a k = raises a (ap sortOf e) (yes (kindQuestions (s .end) PacingResponse (numberIn u) (ruTaken u)) tt k 1)
+    by PacingResponse e a k = raises a (ap sortOf e) (yes (kindQuestions (s .end) PacingResponse (numberIn u) (ruReceived u)) tt k 1)

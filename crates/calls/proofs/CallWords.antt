@@ -14,33 +14,38 @@ pub use Rattle.logical_record.specs.{Walk.walk, Walk.placeOr, declared.Position
 pub use Rattle.logical_record.specs.{declared.Walked.the-variants.BadLength}
 pub use Rattle.header.specs.{Header.confirms, Rules.headerGood, declared.ChainEnd.ChainEnd, declared.ChainEnd.the-variants.Continues}
 pub use Rattle.header.specs.{declared.ChainEnd.the-variants.Last, declared.DataHeader.DataHeader, declared.Follows.Follows, declared.Header.Header}
-pub use Rattle.unit.specs.{Ru.bidRu, Ru.fixedRu, Unit.RU-START, Unit.numberIn, Unit.headerIn}
+pub use Rattle.unit.specs.{Ru.bidRu, Ru.fixedRu, Unit.RU-START, Unit.numberIn, Unit.headerIn, Sequence.nextNumber}
 unfoldable pub use Rattle.unit.specs.{Ru.ruGood, Unit.unitOf}
-pub use Rattle.unit.proofs.{Units.unit-length}
+pub use Rattle.unit.proofs.{UnitLaws.unit-length}
 pub use Rattle.pacing.specs.{Pacing.paced, Pacing.hasCredit}
 unfoldable pub use Rattle.pacing.specs.{Pacing.advanced, Pacing.answered}
-pub use Rattle.control.specs.{Questions.mayAllocate, Questions.mayConfirm, Questions.grantFits, Questions.refusalFits, Questions.confirmationFits}
-pub use Rattle.control.specs.{Tests.isSend, Tests.isNothing, Tests.agree, Tests.isFirstSpeaker, declared.Control.Control}
+pub use Rattle.control.specs.{Questions.mayAllocate, Questions.mayConfirm, Questions.positiveResponseFits, Questions.negativeResponseFits}
+pub use Rattle.control.specs.{Questions.confirmationFits, StateTests.isSend, StateTests.isNothing, StateTests.agree, StateTests.isFirstSpeaker}
+pub use Rattle.control.specs.{declared.Control.Control}
 unfoldable pub use Rattle.control.specs.{Within.controlGood}
 pub use Rattle.control.proofs.{Within.within}
 pub use Rattle.transitions.specs.{Transitions.bidAnswer}
-unfoldable pub use Rattle.transitions.specs.{Transitions.allocated, Transitions.confirmationMade, Transitions.markAnswered, Transitions.bidTaken}
-unfoldable pub use Rattle.transitions.specs.{Transitions.grantTaken, Transitions.refusalTaken, Transitions.confirmationTaken}
-pub use Rattle.answers.specs.{Answers.accepted, Answers.refused, Answers.refusedNaming, Questions.firstNo}
+unfoldable pub use Rattle.transitions.specs.{Transitions.allocated, Transitions.confirmationMade, Transitions.markAnswered, Transitions.bidReceived}
+unfoldable pub use Rattle.transitions.specs.{Transitions.positiveResponseReceived, Transitions.negativeResponseReceived}
+unfoldable pub use Rattle.transitions.specs.{Transitions.confirmationReceived}
+pub use Rattle.answers.specs.{Answers.accepted, Answers.refused, Answers.refusedNaming, FirstNo.firstNo}
 pub use Rattle.answers.proofs.{Rows.yes}
-unfoldable pub use Rattle.sides.specs.{Receiving.requestTaken, Sending.requestMade}
-pub use Rattle.sides.specs.{Receiving.windowAnswered, Sending.keeps, Shared.nextNumber}
+unfoldable pub use Rattle.receiving.specs.{Receiving.requestReceived}
+pub use Rattle.receiving.specs.{Receiving.windowAnswered}
+unfoldable pub use Rattle.sending.specs.{Sending.requestMade}
+pub use Rattle.sending.specs.{Sending.keeps}
 unfoldable pub use Rattle.end.specs.{Allocate.bidMade, Allocate.allocateRefusal, Allocate.allocateDecision, Allocate.allocate, Close.lastMade}
 unfoldable pub use Rattle.end.specs.{Close.closeRefusal, Close.closeDecision, Close.close, Confirmed.confirmedRefusal, Confirmed.confirmedDecision}
-unfoldable pub use Rattle.end.specs.{Confirmed.confirmed, Pace.paceRefusal, Pace.paceDecision, Pace.pace, Receive.bytesRead, Receive.inboxMoved}
-unfoldable pub use Rattle.end.specs.{Receive.readRefusal, Receive.markRead, Receive.readDecision, Receive.receive, ReceiveUnit.dataJoined}
-unfoldable pub use Rattle.end.specs.{ReceiveUnit.bidAnswered, ReceiveUnit.creditRaised, ReceiveUnit.takeRefusal, ReceiveUnit.takeDecision}
+unfoldable pub use Rattle.end.specs.{Confirmed.confirmed, SendPacingResponse.sendPacingResponseRefusal, SendPacingResponse.sendPacingResponseDecision}
+unfoldable pub use Rattle.end.specs.{SendPacingResponse.sendPacingResponse, Receive.bytesRead, Receive.inboxMoved, Receive.receiveRefusal}
+unfoldable pub use Rattle.end.specs.{Receive.markRead, Receive.receiveDecision, Receive.receive, ReceiveUnit.dataJoined, ReceiveUnit.bidAnswered}
+unfoldable pub use Rattle.end.specs.{ReceiveUnit.creditRaised, ReceiveUnit.receiveUnitRefusal, ReceiveUnit.receiveUnitDecision}
 unfoldable pub use Rattle.end.specs.{ReceiveUnit.receiveUnit, Requests.dataHeader, SendData.bytesKept, SendData.bytesSpilled, SendData.sendRefusal}
 unfoldable pub use Rattle.end.specs.{SendData.sendDecision, SendData.sendData}
 pub use Rattle.end.specs.{Close.nothingGoes, Outcome.withControl, Outcome.withReceiving, Outcome.Decision, Outcome.decided, Receive.someHeld}
-pub use Rattle.end.specs.{ReceiveUnit.ruTaken, ReceiveUnit.headerTaken, Record.recordGood, SendData.heldBytes, SendData.gone, declared.End.End}
+pub use Rattle.end.specs.{ReceiveUnit.ruReceived, ReceiveUnit.headerReceived, Record.recordGood, SendData.heldBytes, SendData.gone, declared.End.End}
 pub use Rattle.end.specs.{declared.ReadDone.ReadDone}
-pub use Rattle.end.proofs.{Within.facts}
+pub use Rattle.end.proofs.{RecordGood.facts}
 pub use Rattle.calls.specs.{Calls.Called, Calls.Station, Calls.Verb, Calls.refusalIn, Laws.AllBytes, Laws.BytesOf, UnitCounts.count}
 pub use Rattle.calls.specs.{UnitCounts.isPacingResponse, UnitCounts.isRequest}
 unfoldable pub use Rattle.calls.specs.{Calls.called, Calls.taken, UnitCounts.requestsAmong}

@@ -2,7 +2,7 @@
 -- Assumes nothing.
 use Rattle.calls.proofs.CallWords.{ℕ, _<_, eqb, take, drop, Bool, true, false, cond, List, [], _∷_, arith, cases, confirms, Continues, Last, Follows}
 use Rattle.calls.proofs.CallWords.{Header, bidRu, fixedRu, RU-START, unitOf, numberIn, paced, bidAnswer, nextNumber, bidMade, lastMade, bytesRead}
-use Rattle.calls.proofs.CallWords.{inboxMoved, ruTaken, dataJoined, bidAnswered, creditRaised, dataHeader, heldBytes, gone, bytesKept, bytesSpilled}
+use Rattle.calls.proofs.CallWords.{inboxMoved, ruReceived, dataJoined, bidAnswered, creditRaised, dataHeader, heldBytes, gone, bytesKept, bytesSpilled}
 use Rattle.calls.proofs.CallWords.{Called, Station, Verb, called, taken, AllBytes, BytesOf}
 use Rattle.header.specs.declared.Header.the-variants.{Bid, Confirmation, PacingResponse}
 use Rattle.end.specs.Receive.{inboxBytes}
@@ -77,7 +77,7 @@ module _ (s : Station) (c : Cells s) where
   cells-acts Verb.confirmed b =
       confirmed-cases After s (λ q n. (c, tt))
       (λ g a. (c, one-unit (s .end .owed) Confirmation [] (c .owed) none-bytes))
-  cells-acts Verb.pace b =
+  cells-acts Verb.sendPacingResponse b =
       pace-cases After s (λ q n. (c, tt))
       (λ g a. (c, one-unit 0 PacingResponse [] (omega arith) none-bytes))
   cells-acts (Verb.sendData bytes) b = gives bytes b
@@ -97,7 +97,7 @@ module _ (s : Station) (c : Cells s) where
   cells-takes naming u f =
       let h = bidAnswer (s .end .control) in
       let n = number-small u f in
-      let joined = written-bytes-all (s .end .receiving .held) (ruTaken u) (s .inbox) (drop-bytes RU-START u f) (c .inbox) in
+      let joined = written-bytes-all (s .end .receiving .held) (ruReceived u) (s .inbox) (drop-bytes RU-START u f) (c .inbox) in
       take-cases After naming s u (λ q w x. (c, tt))
       (λ d a e k. (record { send = c .send; inbox = joined; owed = owed-small (confirms (d .ends)) (numberIn u) n }, tt))
       (λ p a e k m. (c, one-unit (numberIn u) h (fixedRu h) n (fixed-ru h .1))) (λ x a e m. (c, tt)) (λ a e k. (c, tt))

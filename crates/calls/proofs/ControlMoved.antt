@@ -2,10 +2,10 @@
 -- at every value of the finite part.
 -- Assumes nothing.
 use Rattle.calls.proofs.CallWords.{Bool, true, false, not, _&&_, _||_, _≡_, refl, sym, ap, join, left, right, or-right, mayAllocate, mayConfirm}
-use Rattle.calls.proofs.CallWords.{grantFits, refusalFits, confirmationFits, isSend, isNothing, agree, controlGood, Control, within, allocated}
-use Rattle.calls.proofs.CallWords.{confirmationMade, markAnswered, bidTaken, grantTaken, refusalTaken, confirmationTaken}
+use Rattle.calls.proofs.CallWords.{positiveResponseFits, negativeResponseFits, confirmationFits, isSend, isNothing, agree, controlGood, Control, within, allocated}
+use Rattle.calls.proofs.CallWords.{confirmationMade, markAnswered, bidReceived, positiveResponseReceived, negativeResponseReceived, confirmationReceived}
 use Rattle.bools.proofs.Tests.{off}
-use Rattle.control.proofs.Finite.{controls}
+use Rattle.control.proofs.FiniteControl.{controls}
 use Rattle.transitions.proofs.KeptWithin.{allocated-keeps, answered-keeps, bid-keeps, confirmation-keeps, confirmed-keeps, grant-keeps, refusal-keeps}
 
 pub record Moved (c d : Control) : Type 0 where
@@ -56,18 +56,18 @@ module _ (c : Control) (g : controlGood c ≡ true) where
   unfolding moves controlGood markAnswered
   mark-moves a = moved (λ x. not (isNothing (x .mark))) markAnswered refl a (λ x y. answered-keeps c x y a)
 
-  pub bid-moves : Moved c (bidTaken c)
-  unfolding moves controlGood bidTaken
-  bid-moves = moved (λ x. true) bidTaken refl refl (bid-keeps c)
+  pub bid-moves : Moved c (bidReceived c)
+  unfolding moves controlGood bidReceived
+  bid-moves = moved (λ x. true) bidReceived refl refl (bid-keeps c)
 
-  pub grant-moves : grantFits c ≡ true → Moved c (grantTaken c)
-  unfolding moves controlGood grantTaken
-  grant-moves a = moved grantFits grantTaken refl a (λ x y. grant-keeps c x y a)
+  pub grant-moves : positiveResponseFits c ≡ true → Moved c (positiveResponseReceived c)
+  unfolding moves controlGood positiveResponseReceived
+  grant-moves a = moved positiveResponseFits positiveResponseReceived refl a (λ x y. grant-keeps c x y a)
 
-  pub refusal-moves : refusalFits c ≡ true → Moved c (refusalTaken c)
-  unfolding moves controlGood refusalTaken
-  refusal-moves a = moved refusalFits refusalTaken refl a (λ x y. refusal-keeps c x y a)
+  pub refusal-moves : negativeResponseFits c ≡ true → Moved c (negativeResponseReceived c)
+  unfolding moves controlGood negativeResponseReceived
+  refusal-moves a = moved negativeResponseFits negativeResponseReceived refl a (λ x y. refusal-keeps c x y a)
 
-  pub confirmation-moves : confirmationFits c ≡ true → Moved c (confirmationTaken c)
-  unfolding moves controlGood confirmationTaken
-  confirmation-moves a = moved confirmationFits confirmationTaken refl a (λ x y. confirmation-keeps c x y a)
+  pub confirmation-moves : confirmationFits c ≡ true → Moved c (confirmationReceived c)
+  unfolding moves controlGood confirmationReceived
+  confirmation-moves a = moved confirmationFits confirmationReceived refl a (λ x y. confirmation-keeps c x y a)

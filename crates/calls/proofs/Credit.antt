@@ -1,7 +1,7 @@
 -- What each call costs or gives: a request made 1 credit, a pacing response taken W; a request taken 1 of open, pace W.
 -- Assumes nothing.
 use Rattle.calls.proofs.CallWords.{ℕ, _+_, _*_, eqb, Bool, true, false, _&&_, List, [], _∷_, _≡_, refl, ap, _∙_, arith, left, ChainEnd, Continues}
-use Rattle.calls.proofs.CallWords.{Last, Header, bidRu, unitOf, paced, hasCredit, advanced, answered, requestTaken, requestMade, nextNumber, bidMade}
+use Rattle.calls.proofs.CallWords.{Last, Header, bidRu, unitOf, paced, hasCredit, advanced, answered, requestReceived, requestMade, nextNumber, bidMade}
 use Rattle.calls.proofs.CallWords.{lastMade, bytesRead, markRead, dataJoined, bidAnswered, creditRaised, recordGood, dataHeader, heldBytes, bytesKept}
 use Rattle.calls.proofs.CallWords.{bytesSpilled, facts, Called, Station, Verb, called, taken, refusalIn, count, isPacingResponse, isRequest}
 use Rattle.calls.proofs.CallWords.{requestsAmong}
@@ -9,8 +9,8 @@ use Rattle.header.specs.declared.Header.the-variants.{Bid, Confirmation, Pacing
 use Rattle.pacing.specs.Pacing.{credit}
 use Rattle.end.specs.Record.{creditOf, openOf}
 use Rattle.calls.proofs.CallCases.{allocate-cases, bidNumber, close-cases, confirmed-cases, pace-cases, read-cases, send-cases, spilledRu, take-cases}
-use Rattle.calls.proofs.UnitsByHeader.{sortOf, isAsking, pacing-taken, request-taken, requests-unit}
-use Rattle.calls.specs.Laws.{CreditExact, isPace}
+use Rattle.calls.proofs.UnitsByHeader.{sortOf, isAsking, pacing-taken, request-received, requests-unit}
+use Rattle.calls.specs.Laws.{CreditExact, isSendPacingResponse}
 use Rattle.pacing.proofs.Windows.{request-costs, response-raises}
 
 -- ---- the units made and the credit left
@@ -61,7 +61,7 @@ module _ (s : Station) where
       (λ g a w k. request-made s (bidNumber (s .end)) (Bid (paced (s .end .sending .window))) bidRu refl g k)
   request-costs-one Verb.confirmed =
       confirmed-cases Costs s (λ q n. free) (λ g a. other-made (s .end .owed) (creditOf (s .end)) Confirmation [] refl)
-  request-costs-one Verb.pace = pace-cases Costs s (λ q n. free) (λ g a. other-made 0 (creditOf (s .end)) PacingResponse [] refl)
+  request-costs-one Verb.sendPacingResponse = pace-cases Costs s (λ q n. free) (λ g a. other-made 0 (creditOf (s .end)) PacingResponse [] refl)
   request-costs-one (Verb.sendData bytes) =
       send-cases Costs s bytes (λ q n. free) (λ a k. free)
       (λ a k h.
@@ -75,7 +75,7 @@ module _ (s : Station) where
 
   -- open, and the window that it rises by
   abbrev Opens : Verb → Called → Type 0
-  Opens v m = openOf (m .end .end) ≡ openOf (s .end) + s .end .receiving .window .size * count (eqb (refusalIn (m .answer)) 0 && isPace v)
+  Opens v m = openOf (m .end .end) ≡ openOf (s .end) + s .end .receiving .window .size * count (eqb (refusalIn (m .answer)) 0 && isSendPacingResponse v)
 
   same : openOf (s .end) ≡ openOf (s .end) + s .end .receiving .window .size * 0
   same = as-was (openOf (s .end)) (s .end .receiving .window .size)
@@ -84,9 +84,9 @@ module _ (s : Station) where
   unfolding called bidMade bytesKept bytesSpilled lastMade requestMade bytesRead markRead
   pace-opens Verb.allocate = allocate-cases (Opens Verb.allocate) s (λ q n. rw n same) (λ g a w. same) (λ g a w k. same)
   pace-opens Verb.confirmed = confirmed-cases (Opens Verb.confirmed) s (λ q n. rw n same) (λ g a. same)
-  pace-opens Verb.pace =
+  pace-opens Verb.sendPacingResponse =
       let w = s .end .receiving .window in
-      pace-cases (Opens Verb.pace) s (λ q n. rw n same) (λ g a. response-raises w (left (w .pending) _ a) ∙ once (credit w) (w .size))
+      pace-cases (Opens Verb.sendPacingResponse) s (λ q n. rw n same) (λ g a. response-raises w (left (w .pending) _ a) ∙ once (credit w) (w .size))
   pace-opens (Verb.sendData bytes) = send-cases (Opens (Verb.sendData bytes)) s bytes (λ q n. rw n same) (λ a k. same) (λ a k h. same)
   pace-opens (Verb.close f b) = close-cases (Opens (Verb.close f b)) s f b (λ q n. rw n same) (λ a n. same) (λ a n k. same)
   pace-opens (Verb.receive buffer) = read-cases (Opens (Verb.receive buffer)) s buffer (λ q w n. rw n same) (λ a h. same) (λ a h m. same)
@@ -111,14 +111,14 @@ module _ (naming : List ℕ → ℕ) (s : Station) (u : List ℕ) where
       (λ a e k. rw (pacing-taken u (a .header), e) (response-raises w k ∙ once (credit w) (w .size)))
 
   request-lowers-one : Lowers (isRequest u) (taken naming s u)
-  unfolding dataJoined bidAnswered creditRaised requestTaken
+  unfolding dataJoined bidAnswered creditRaised requestReceived
   request-lowers-one =
       let w = s .end .receiving .window in
       let same : openOf (s .end) + 0 ≡ openOf (s .end) = omega arith in
       take-cases (Lowers (isRequest u)) naming s u (λ q x n. rw n same)
-      (λ d a e k. rw (request-taken u (a .header), e) (request-costs w (facts (s .end) (a .good) .receiving .window) (k .request .credit)))
-      (λ p a e k m. rw (request-taken u (a .header), e) (request-costs w (facts (s .end) (a .good) .receiving .window) (k .credit)))
-      (λ c a e m. rw (request-taken u (a .header), e) same) (λ a e k. rw (request-taken u (a .header), e) same)
+      (λ d a e k. rw (request-received u (a .header), e) (request-costs w (facts (s .end) (a .good) .receiving .window) (k .request .credit)))
+      (λ p a e k m. rw (request-received u (a .header), e) (request-costs w (facts (s .end) (a .good) .receiving .window) (k .credit)))
+      (λ c a e m. rw (request-received u (a .header), e) same) (λ a e k. rw (request-received u (a .header), e) same)
 
 pub credit-exact : CreditExact
 credit-exact =

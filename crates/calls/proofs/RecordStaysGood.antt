@@ -2,8 +2,8 @@
 -- Assumes nothing.
 use Rattle.calls.proofs.CallWords.{ℕ, _<_, _+_, _*_, _≤_, eqb-true, leb-true, ne-eqb, eqb, leb, take, length, Bool, true, false, not, List, _≡_, refl}
 use Rattle.calls.proofs.CallWords.{sym, ap, arith, both, join, left, right, walk, placeOr, Position, Walked, At, BadLength, Follows, RU-START}
-use Rattle.calls.proofs.CallWords.{numberIn, controlGood, Control, within, allocated, confirmationMade, markAnswered, firstNo, yes, requestTaken}
-use Rattle.calls.proofs.CallWords.{windowAnswered, requestMade, bidMade, lastMade, withControl, withReceiving, bytesRead, ruTaken, dataJoined}
+use Rattle.calls.proofs.CallWords.{numberIn, controlGood, Control, within, allocated, confirmationMade, markAnswered, firstNo, yes, requestReceived}
+use Rattle.calls.proofs.CallWords.{windowAnswered, requestMade, bidMade, lastMade, withControl, withReceiving, bytesRead, ruReceived, dataJoined}
 use Rattle.calls.proofs.CallWords.{bidAnswered, creditRaised, recordGood, gone, bytesKept, bytesSpilled, End, facts, Called, Station, Verb, called}
 use Rattle.calls.proofs.CallWords.{taken, AllBytes, BytesOf}
 use Prim.Native.Nat.{_-_}
@@ -12,11 +12,12 @@ use borrow.Author.Tests.{eq-eqb, eqb-false, leb-false, le-leb}
 use Rattle.pacing.specs.Pacing.{sizeGood}
 use Rattle.transitions.specs.Transitions.{spilled}
 use Rattle.control.specs.declared.Role.{Role}
-use Rattle.sides.specs.Shared.{maxGood}
-use Rattle.sides.specs.Opening.{roleOf, openingQuestions, openingRefusal}
+use Rattle.unit.specs.Maximum.{maxGood}
+use Rattle.session.specs.OpeningQuestions.{openingQuestions, openingRefusal}
+use Rattle.control.specs.StateTests.{roleOf}
 use Rattle.session.specs.Opening.{freshEnd, opened}
 use Rattle.end.specs.SendData.{given}
-use Rattle.sides.specs.declared.Session.{Session}
+use Rattle.session.specs.declared.Session.{Session}
 use Rattle.bools.proofs.Cases.{split}
 use Rattle.calls.proofs.ByteLists.{drop-bytes, take-bytes}
 use Rattle.calls.proofs.CallCases.{allocate-cases, close-cases, confirmed-cases, pace-cases, read-cases, readCount, send-cases, take-cases}
@@ -24,13 +25,15 @@ use Rattle.calls.proofs.CallCases.{control-within}
 use Rattle.calls.proofs.ControlMoved.{Moved, allocate-moves, confirmed-moves, mark-moves}
 use Rattle.calls.specs.Laws.{StaysGood}
 use Rattle.calls.proofs.Refusals.{accepted-good, accepted-take-good}
-use Rattle.end.proofs.Within.{good}
+use Rattle.end.proofs.RecordGood.{good}
 use Rattle.pacing.proofs.Windows.{answered-good, fresh-open, fresh-window}
 use Rattle.logical_record.specs.Positions.{isPosition}
 use Rattle.logical_record.proofs.Walks.{walk-position}
 use Rattle.transitions.proofs.KeptWithin.{closed-leaves, data-keeps, fresh-within, given-leaves, spilled-leaves}
 use Rattle.control.proofs.Within.{control-facts, heldFits}
-use Rattle.sides.proofs.Within.{SendingWithin, ReceivingWithin, max-facts, request-made, request-taken, window-answered}
+use Rattle.sending.proofs.SendingGood.{SendingWithin, request-made}
+use Rattle.receiving.proofs.ReceivingGood.{ReceivingWithin, request-received, window-answered}
+use Rattle.unit.proofs.MaximumFacts.{max-facts}
 
 -- ---- the finite part by the bytes held, and the record put together again
 
@@ -137,7 +140,7 @@ module _ (s : Station) (g : recordGood (s .end) ≡ true) where
   calls Verb.confirmed b i =
       let c = s .end .control in
       confirmed-cases After s (λ q x. g) (λ x a. control-kept (confirmationMade c) (confirmed-moves c (control-within (s .end) g) a))
-  calls Verb.pace b i =
+  calls Verb.sendPacingResponse b i =
       let e = s .end in
       pace-cases After s (λ q x. g)
       (λ x a.
@@ -155,11 +158,11 @@ good-acts s v b i g = calls s g v b i
 -- every take leaves a good record
 pub good-takes :
     (naming : List ℕ → ℕ) (s : Station) (u : List ℕ) → AllBytes u → recordGood (s .end) ≡ true → recordGood (taken naming s u .end .end) ≡ true
-unfolding dataJoined bidAnswered creditRaised requestTaken
+unfolding dataJoined bidAnswered creditRaised requestReceived
 good-takes naming s u b g =
     let e = s .end in
     let r = e .receiving in
-    let ru = ruTaken u in
+    let ru = ruReceived u in
     let o = facts e g .sending in
     let i = facts e g .receiving in
     let fits = fits-of e g in
@@ -168,9 +171,9 @@ good-takes naming s u b g =
     let most = k .short in
     good-from (dataJoined e d (numberIn u) ru .end)
     (data-keeps (d .ends) (e .control) (leb 1 (e .sending .held)) (eqb (e .sending .held) 0) (ap not (k .away)) fits) o
-    (request-taken r (r .held + length ru) _ (k .request .credit) (omega arith) (place-good (r .taken) ru (i .taken) (drop-bytes RU-START u b)) i))
+    (request-received r (r .held + length ru) _ (k .request .credit) (omega arith) (place-good (r .taken) ru (i .taken) (drop-bytes RU-START u b)) i))
     (λ p a w k m.
-    good-from (bidAnswered e (numberIn u) .end) (m .keeps _ _ fits) o (request-taken r (r .held) (r .taken) (k .credit) (omega arith) (i .taken) i))
+    good-from (bidAnswered e (numberIn u) .end) (m .keeps _ _ fits) o (request-received r (r .held) (r .taken) (k .credit) (omega arith) (i .taken) i))
     (λ c a w m. control-kept s g c m)
     (λ a w k.
     good-from (creditRaised e .end) fits

@@ -4,8 +4,8 @@
 use Rattle.calls.proofs.CallWords.{ℕ, eqb-true, ne-eqb, eqb, length, Bool, true, false, cond, not, _&&_, _||_, List, [], _∷_, _≡_, refl, sym, ap, _∙_}
 use Rattle.calls.proofs.CallWords.{cases, join, left, right, numberIn, isFirstSpeaker, allocated, accepted, refused, refusedNaming, firstNo, keeps}
 use Rattle.calls.proofs.CallWords.{bidMade, allocateRefusal, allocateDecision, allocate, lastMade, nothingGoes, closeRefusal, closeDecision, close}
-use Rattle.calls.proofs.CallWords.{confirmedRefusal, confirmedDecision, confirmed, withControl, Decision, decided, paceRefusal, paceDecision, pace}
-use Rattle.calls.proofs.CallWords.{bytesRead, someHeld, readRefusal, markRead, readDecision, receive, ruTaken, headerTaken, takeRefusal, takeDecision}
+use Rattle.calls.proofs.CallWords.{confirmedRefusal, confirmedDecision, confirmed, withControl, Decision, decided, sendPacingResponseRefusal, sendPacingResponseDecision, sendPacingResponse}
+use Rattle.calls.proofs.CallWords.{bytesRead, someHeld, receiveRefusal, markRead, receiveDecision, receive, ruReceived, headerReceived, receiveUnitRefusal, receiveUnitDecision}
 use Rattle.calls.proofs.CallWords.{receiveUnit, recordGood, bytesKept, bytesSpilled, sendRefusal, sendDecision, sendData, End, ReadDone, Called}
 use Rattle.calls.proofs.CallWords.{Station, Verb, called, taken, refusalIn}
 use Rattle.answers.specs.declared.Answer.{Answer}
@@ -13,7 +13,7 @@ use Rattle.end.specs.Outcome.{nothing, lengthOut, accept, answerOf}
 use Rattle.bools.proofs.Tests.{never}
 use Rattle.calls.proofs.CallCases.{allocate-cases, close-cases, confirmed-cases, pace-cases, read-cases, send-cases, kind-cases, take-cases}
 use Rattle.calls.proofs.CallCases.{kind-accepted, passes}
-use Rattle.calls.specs.Laws.{Refusals, questions, takeQuestions}
+use Rattle.calls.specs.Laws.{Refusals, questions, receiveUnitQuestions}
 
 -- an accepted call was not refused, and a refused one not accepted
 yes : {X : Type 0} → true ≡ false → X
@@ -44,27 +44,27 @@ decided-number : (q : ℕ) (e : End) (d : Decision) → d .refusal ≡ 0 → ans
 decided-number q e d z = number-of refused (λ n. refl) q e d z
 
 pub number-is : (s : Station) (v : Verb) → refusalIn (called s v .answer) ≡ firstNo (questions s v)
-unfolding called allocate allocateDecision allocateRefusal bidMade sendData sendDecision sendRefusal bytesKept bytesSpilled close closeDecision closeRefusal lastMade confirmed confirmedDecision confirmedRefusal pace paceDecision paceRefusal receive readDecision readRefusal bytesRead markRead
+unfolding called allocate allocateDecision allocateRefusal bidMade sendData sendDecision sendRefusal bytesKept bytesSpilled close closeDecision closeRefusal lastMade confirmed confirmedDecision confirmedRefusal sendPacingResponse sendPacingResponseDecision sendPacingResponseRefusal receive receiveDecision receiveRefusal bytesRead markRead
 number-is s Verb.allocate =
     decided-number _ (s .end) _
     (both-accepted (isFirstSpeaker (s .end .control .role)) (accept (withControl (allocated (s .end .control)) (s .end)) nothing) (bidMade (s .end)) refl refl)
 number-is s Verb.confirmed = decided-number _ (s .end) _ refl
-number-is s Verb.pace = decided-number _ (s .end) _ refl
+number-is s Verb.sendPacingResponse = decided-number _ (s .end) _ refl
 number-is s (Verb.sendData bytes) =
     decided-number _ (s .end) _
     (both-accepted (keeps (s .end .sending) (length bytes)) (bytesKept (s .end) bytes) (bytesSpilled (s .end) bytes (s .send)) refl refl)
 number-is s (Verb.close f b) =
     decided-number _ (s .end) _ (both-accepted (nothingGoes (s .end) f b) (accept (s .end) nothing) (lastMade (s .end) f b (s .send)) refl refl)
 number-is s (Verb.receive buffer) =
-    let q : ℕ = readRefusal (s .end) (s .inbox) (length buffer) in
+    let q : ℕ = receiveRefusal (s .end) (s .inbox) (length buffer) in
     cases (λ (d : ReadDone). d .answer .answer .refusal ≡ q) (eqb q 0)
     (λ y. cases (λ (d : ReadDone). d .answer .answer .refusal ≡ q) (someHeld (s .end)) (λ h. sym (eqb-true q 0 y)) (λ h. sym (eqb-true q 0 y)))
     (λ n. refl)
 
-pub take-number-is : (naming : List ℕ → ℕ) (s : Station) (u : List ℕ) → refusalIn (taken naming s u .answer) ≡ firstNo (takeQuestions s u)
-unfolding taken receiveUnit takeDecision takeRefusal
+pub take-number-is : (naming : List ℕ → ℕ) (s : Station) (u : List ℕ) → refusalIn (taken naming s u .answer) ≡ firstNo (receiveUnitQuestions s u)
+unfolding taken receiveUnit receiveUnitDecision receiveUnitRefusal
 take-number-is naming s u =
-    number-of (refusedNaming (naming u)) (λ q. refl) _ (s .end) _ (kind-accepted (s .end) (headerTaken u) (numberIn u) (ruTaken u) .0)
+    number-of (refusedNaming (naming u)) (λ q. refl) _ (s .end) _ (kind-accepted (s .end) (headerReceived u) (numberIn u) (ruReceived u) .0)
 
 -- ---- 5 is no number of a call whose record is within the section
 
@@ -83,7 +83,7 @@ module _ (s : Station) (g : recordGood (s .end) ≡ true) where
   asked-5 : (v : Verb) → passes 5 (questions s v) ≡ true
   asked-5 Verb.allocate = ap (λ (b : Bool). b && true) g
   asked-5 Verb.confirmed = ap (λ (b : Bool). b && true) g
-  asked-5 Verb.pace = ap (λ (b : Bool). b && true) g
+  asked-5 Verb.sendPacingResponse = ap (λ (b : Bool). b && true) g
   asked-5 (Verb.sendData bytes) = ap (λ (b : Bool). b && true) g
   asked-5 (Verb.close f b) = ap (λ (b : Bool). b && true) g
   asked-5 (Verb.receive buffer) = ap (λ (b : Bool). b && true) g
@@ -94,7 +94,7 @@ module _ (s : Station) (g : recordGood (s .end) ≡ true) where
   pub take-never-5 : (naming : List ℕ → ℕ) (u : List ℕ) → eqb (refusalIn (taken naming s u .answer)) 5 ≡ false
   take-never-5 naming u =
       ap (λ (q : ℕ). eqb q 5) (take-number-is naming s u)
-      ∙ not-first (takeQuestions s u) 5 refl (join (recordGood (s .end)) _ g (kind-accepted (s .end) (headerTaken u) (numberIn u) (ruTaken u) .1))
+      ∙ not-first (receiveUnitQuestions s u) 5 refl (join (recordGood (s .end)) _ g (kind-accepted (s .end) (headerReceived u) (numberIn u) (ruReceived u) .1))
 
 -- ---- calls that the end answers by itself
 
@@ -107,7 +107,7 @@ module _ (s : Station) where
   unfolding called bytesRead markRead
   refused-nothing Verb.allocate = allocate-cases Nothing s (λ q n h. (refl, refl)) (λ g a w h. yes h) (λ g a w k h. yes h)
   refused-nothing Verb.confirmed = confirmed-cases Nothing s (λ q n h. (refl, refl)) (λ g a h. yes h)
-  refused-nothing Verb.pace = pace-cases Nothing s (λ q n h. (refl, refl)) (λ g a h. yes h)
+  refused-nothing Verb.sendPacingResponse = pace-cases Nothing s (λ q n h. (refl, refl)) (λ g a h. yes h)
   refused-nothing (Verb.sendData bytes) = send-cases Nothing s bytes (λ q n h. (refl, refl)) (λ a k h. yes h) (λ a k c h. yes h)
   refused-nothing (Verb.close f b) = close-cases Nothing s f b (λ q n h. (refl, refl)) (λ a n h. yes h) (λ a n k h. yes h)
   refused-nothing (Verb.receive buffer) = read-cases Nothing s buffer (λ q w n h. (refl, refl)) (λ a k h. yes h) (λ a k m h. yes h)
@@ -127,7 +127,7 @@ module _ (s : Station) where
   unfolding called bytesRead markRead
   accepted-good Verb.allocate = allocate-cases Asked s (λ q n h. no (eqb q 0) n h) (λ g a w h. g) (λ g a w k h. g)
   accepted-good Verb.confirmed = confirmed-cases Asked s (λ q n h. no (eqb q 0) n h) (λ g a h. g)
-  accepted-good Verb.pace = pace-cases Asked s (λ q n h. no (eqb q 0) n h) (λ g a h. g)
+  accepted-good Verb.sendPacingResponse = pace-cases Asked s (λ q n h. no (eqb q 0) n h) (λ g a h. g)
   accepted-good (Verb.sendData bytes) = send-cases Asked s bytes (λ q n h. no (eqb q 0) n h) (λ a k h. a .good) (λ a k c h. a .good)
   accepted-good (Verb.close f b) = close-cases Asked s f b (λ q n h. no (eqb q 0) n h) (λ a n h. a .good) (λ a n k h. a .good)
   accepted-good (Verb.receive buffer) = read-cases Asked s buffer (λ q w n h. no (eqb q 0) n h) (λ a k h. a .good) (λ a k m h. a .good)

@@ -36,7 +36,7 @@ module _ (s : Station) where
   acts-fit Verb.allocate =
       allocate-cases After s (λ q n. none (s .unit)) (λ g a w. none (s .unit)) (λ g a w k. unit-fits _ _ bidRu (s .unit) (omega arith))
   acts-fit Verb.confirmed = confirmed-cases After s (λ q n. none (s .unit)) (λ g a. unit-fits _ _ _ (s .unit) (omega arith))
-  acts-fit Verb.pace = pace-cases After s (λ q n. none (s .unit)) (λ g a. unit-fits _ _ _ (s .unit) (omega arith))
+  acts-fit Verb.sendPacingResponse = pace-cases After s (λ q n. none (s .unit)) (λ g a. unit-fits _ _ _ (s .unit) (omega arith))
   acts-fit (Verb.sendData bytes) =
       send-cases After s bytes (λ q n. none (s .unit)) (λ a k. none (s .unit))
       (λ a k h. unit-fits _ _ (spilledRu s bytes) (s .unit) (spilled-short s bytes (a .good)))

@@ -2,8 +2,8 @@
 -- a new kind of header is a line of each list here.
 -- Assumes nothing.
 use Rattle.calls.proofs.CallWords.{ℕ, _<_, _+_, _≤_, eqb, length, Bool, true, false, cond, not, List, [], _∷_, _≡_, refl, sym, ap, _∙_, arith, cases}
-use Rattle.calls.proofs.CallWords.{confirms, headerGood, DataHeader, Header, bidRu, fixedRu, ruGood, unitOf, headerIn, Control, bidAnswer, ruTaken}
-use Rattle.calls.proofs.CallWords.{headerTaken, AllBytes, count, isPacingResponse, isRequest, requestsAmong}
+use Rattle.calls.proofs.CallWords.{confirms, headerGood, DataHeader, Header, bidRu, fixedRu, ruGood, unitOf, headerIn, Control, bidAnswer, ruReceived}
+use Rattle.calls.proofs.CallWords.{headerReceived, AllBytes, count, isPacingResponse, isRequest, requestsAmong}
 use Prim.Native.Nat.{_/_, _%_}
 use Rattle.cells.specs.Equal.{sameBytes}
 use Rattle.header.specs.Weights.{on, bit, FIRST, LAST, DR1, DR2, EXCEPTION, PACING, BB, CD, CEB}
@@ -14,8 +14,8 @@ use Rattle.unit.specs.Unit.{unitBytes}
 use Rattle.header.specs.declared.HeaderBytes.{HeaderBytes}
 use Rattle.header.specs.declared.Header.the-variants.{Data, Bid, PositiveBidResponse, NegativeBidResponse, Confirmation, PacingResponse}
 use Rattle.header.proofs.RoundTrip.{built-fields, read-bytes}
-use Rattle.unit.proofs.Units.{unit-header, unit-ru}
-use Rattle.control.specs.Tests.{isReset}
+use Rattle.unit.proofs.UnitLaws.{unit-header, unit-ru}
+use Rattle.control.specs.StateTests.{isReset}
 use Rattle.calls.specs.UnitCounts.{dataRu}
 use Rattle.calls.proofs.ByteLists.{are-bytes, cons-bytes}
 
@@ -71,7 +71,7 @@ answer-sort c = cases (λ (h : Header). sortOf h ≡ answers) (isReset (c .state
 
 -- ---- a unit that a call makes is read as it was made
 
-pub taken-header : (n : ℕ) (h : Header) (ru : List ℕ) → headerTaken (unitOf n h ru) ≡ h
+pub taken-header : (n : ℕ) (h : Header) (ru : List ℕ) → headerReceived (unitOf n h ru) ≡ h
 taken-header n h ru = ap fieldsOf (unit-header n h ru) ∙ built-fields h
 
 -- ---- the bytes of data on a line
@@ -88,11 +88,11 @@ by-kind false false true false e h p ru = refl
 by-kind false false false d true h p ru = refl
 by-kind false false false d false h p ru = refl
 
-pub data-ru : (u : List ℕ) → dataRu u ≡ dataOf (sortOf (headerTaken u)) (ruTaken u)
+pub data-ru : (u : List ℕ) → dataRu u ≡ dataOf (sortOf (headerReceived u)) (ruReceived u)
 unfolding fieldsOf
 data-ru u =
     let h = headerIn u in
-    by-kind (isData h) (eqb (h .b0) 0x4B) (eqb (h .b0) 0x83) (on 0x01 (h .b1)) (eqb (h .b0) 0xCB) h (on 0x01 (h .b1)) (ruTaken u)
+    by-kind (isData h) (eqb (h .b0) 0x4B) (eqb (h .b0) 0x83) (on 0x01 (h .b1)) (eqb (h .b0) 0xCB) h (on 0x01 (h .b1)) (ruReceived u)
 
 pub data-unit : (n : ℕ) (h : Header) (ru : List ℕ) → dataRu (unitOf n h ru) ≡ dataOf (sortOf h) ru
 data-unit n h ru = data-ru (unitOf n h ru) ∙ rw (taken-header n h ru, unit-ru n h ru)
@@ -123,12 +123,12 @@ pub requests-unit : (n : ℕ) (h : Header) (ru : List ℕ) → requestsAmong (un
 unfolding requestsAmong
 requests-unit n h ru = ap (λ (x : HeaderBytes). count (not (on 0x80 (x .b0))) + 0) (unit-header n h ru) ∙ rw (header-says h .0)
 
-pub request-taken : (u : List ℕ) → headerGood (headerIn u) ≡ true → isRequest u ≡ isAsking (sortOf (headerTaken u))
-request-taken u g = ap (λ (x : HeaderBytes). not (on 0x80 (x .b0))) (sym (read-bytes (headerIn u) g)) ∙ header-says (headerTaken u) .0
+pub request-received : (u : List ℕ) → headerGood (headerIn u) ≡ true → isRequest u ≡ isAsking (sortOf (headerReceived u))
+request-received u g = ap (λ (x : HeaderBytes). not (on 0x80 (x .b0))) (sym (read-bytes (headerIn u) g)) ∙ header-says (headerReceived u) .0
 
-pub pacing-taken : (u : List ℕ) → headerGood (headerIn u) ≡ true → isPacingResponse u ≡ isPacing (sortOf (headerTaken u))
+pub pacing-taken : (u : List ℕ) → headerGood (headerIn u) ≡ true → isPacingResponse u ≡ isPacing (sortOf (headerReceived u))
 pacing-taken u g =
-    ap (λ (x : HeaderBytes). sameHeader x (bytes 0x83 0x01 0x00)) (sym (read-bytes (headerIn u) g)) ∙ header-says (headerTaken u) .1
+    ap (λ (x : HeaderBytes). sameHeader x (bytes 0x83 0x01 0x00)) (sym (read-bytes (headerIn u) g)) ∙ header-says (headerReceived u) .1
 
 -- ---- the bytes of a unit, and the RUs that are always the same
 

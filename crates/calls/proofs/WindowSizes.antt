@@ -15,7 +15,7 @@ module _ (s : Station) where
   unfolding called bytesKept bytesSpilled bytesRead bidMade lastMade requestMade advanced
   size-acts Verb.allocate = allocate-cases After s (λ q n. refl) (λ g a w. refl) (λ g a w k. refl)
   size-acts Verb.confirmed = confirmed-cases After s (λ q n. refl) (λ g a. refl)
-  size-acts Verb.pace = pace-cases After s (λ q n. refl) (λ g a. refl)
+  size-acts Verb.sendPacingResponse = pace-cases After s (λ q n. refl) (λ g a. refl)
   size-acts (Verb.sendData bytes) = send-cases After s bytes (λ q n. refl) (λ a k. refl) (λ a k h. refl)
   size-acts (Verb.close f c) = close-cases After s f c (λ q n. refl) (λ a n. refl) (λ a n k. refl)
   size-acts (Verb.receive buffer) = read-cases After s buffer (λ q w n. refl) (λ a h. refl) (λ a h m. refl)

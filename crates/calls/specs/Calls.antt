@@ -17,7 +17,7 @@ use Rattle.end.specs.Close as C
 use Rattle.end.specs.Confirmed as F
 use Rattle.end.specs.ReceiveUnit as T
 use Rattle.end.specs.Receive as R
-use Rattle.end.specs.Pace as P
+use Rattle.end.specs.SendPacingResponse as P
 use Rattle.end.specs.Outcome.{Made, Sent, Taken, Copied}
 use Rattle.end.specs.declared.End.{End}
 
@@ -31,7 +31,7 @@ pub record Station : Type 0 where
 -- A call with all that its caller chooses: the bytes given; of a closing call what follows, and whether confirmation is asked; the read's buffer
 -- with its former cells.
 pub data Verb : Type 0 where
-  allocate confirmed pace : Verb
+  allocate confirmed sendPacingResponse : Verb
   sendData : List ℕ → Verb
   close : Follows → Bool → Verb
   receive : List ℕ → Verb
@@ -102,7 +102,7 @@ called s (sendData bytes) = sends s (S.sendData (s .end) bytes (s .send) (s .uni
 called s (close f b) = makes s (C.close f b (s .end) (s .send) (s .unit))
 called s confirmed = makes s (F.confirmed (s .end) (s .unit))
 called s (receive buffer) = copies s (R.receive (s .end) (s .inbox) buffer)
-called s pace = makes s (P.pace (s .end) (s .unit))
+called s sendPacingResponse = makes s (P.sendPacingResponse (s .end) (s .unit))
 
 -- a take of the unit u; `naming` is the choice of a rule that 21 leaves free
 unfoldable pub taken : (List ℕ → ℕ) → Station → List ℕ → Called

@@ -8,18 +8,18 @@ use mathlib.Core.List.{List, [], _++_}
 use lib.Dec.{eqb}
 use lib.ListN.{length, getD}
 use Rattle.unit.specs.Unit.{numberIn}
-use Rattle.answers.specs.Questions.{firstNo}
+use Rattle.answers.specs.FirstNo.{firstNo}
 use Rattle.session.specs.Opening.{opened}
 use Rattle.end.specs.Record.{recordGood, creditOf, openOf}
 use Rattle.end.specs.Allocate.{allocateQuestions}
 use Rattle.end.specs.SendData.{sendQuestions}
 use Rattle.end.specs.Close.{closeQuestions}
 use Rattle.end.specs.Confirmed.{confirmedQuestions}
-use Rattle.end.specs.ReceiveUnit.{headQuestions, kindQuestions, headerTaken, ruTaken}
-use Rattle.end.specs.Receive.{readQuestions}
-use Rattle.end.specs.Pace.{paceQuestions}
-use Rattle.sides.specs.declared.Session.{Session}
-use Rattle.calls.specs.Calls.{Station, Verb, allocate, confirmed, pace, sendData, close, receive, refusalIn, called, taken}
+use Rattle.end.specs.ReceiveUnit.{headQuestions, kindQuestions, headerReceived, ruReceived}
+use Rattle.end.specs.Receive.{receiveQuestions}
+use Rattle.end.specs.SendPacingResponse.{sendPacingResponseQuestions}
+use Rattle.session.specs.declared.Session.{Session}
+use Rattle.calls.specs.Calls.{Station, Verb, allocate, confirmed, sendPacingResponse, sendData, close, receive, refusalIn, called, taken}
 use Rattle.calls.specs.UnitCounts.{count, isRequest, requestsAmong, isPacingResponse}
 
 -- ---- refusals
@@ -28,20 +28,20 @@ use Rattle.calls.specs.UnitCounts.{count, isRequest, requestsAmong, isPa
 abbrev pub questions : Station → Verb → List (Bool × ℕ)
 questions s allocate = allocateQuestions (s .end) (length (s .unit))
 questions s confirmed = confirmedQuestions (s .end) (length (s .unit))
-questions s pace = paceQuestions (s .end) (length (s .unit))
+questions s sendPacingResponse = sendPacingResponseQuestions (s .end) (length (s .unit))
 questions s (sendData bytes) = sendQuestions (s .end) bytes (length (s .send)) (length (s .unit))
 questions s (close f b) = closeQuestions (s .end) f b (length (s .send)) (length (s .unit))
-questions s (receive buffer) = readQuestions (s .end) (s .inbox) (length buffer)
+questions s (receive buffer) = receiveQuestions (s .end) (s .inbox) (length buffer)
 
-abbrev pub takeQuestions : Station → List ℕ → List (Bool × ℕ)
-takeQuestions s u =
-    headQuestions (s .end) u (length (s .inbox)) (length (s .unit)) ++ kindQuestions (s .end) (headerTaken u) (numberIn u) (ruTaken u)
+abbrev pub receiveUnitQuestions : Station → List ℕ → List (Bool × ℕ)
+receiveUnitQuestions s u =
+    headQuestions (s .end) u (length (s .inbox)) (length (s .unit)) ++ kindQuestions (s .end) (headerReceived u) (numberIn u) (ruReceived u)
 
 -- A refused call gives the first number that fits, and changes neither the record nor one lent cell; `naming` is the choice of a rule that 21 leaves free.
 pub record Refusals : Type 0 where
   -- the first "no" gives the number
   pub number : (s : Station) (v : Verb) → refusalIn (called s v .answer) ≡ firstNo (questions s v)
-  pub number-of-take : (naming : List ℕ → ℕ) (s : Station) (u : List ℕ) → refusalIn (taken naming s u .answer) ≡ firstNo (takeQuestions s u)
+  pub number-of-take : (naming : List ℕ → ℕ) (s : Station) (u : List ℕ) → refusalIn (taken naming s u .answer) ≡ firstNo (receiveUnitQuestions s u)
   -- the record and the cells lent at opening are as before, and no unit is made
   pub changes-nothing : (s : Station) (v : Verb) → (refusalIn (called s v .answer) ≡ 0 → ⊥) → (called s v .end ≡ s) × (called s v .sent ≡ [])
   -- the buffer lent to a read too
@@ -61,7 +61,7 @@ AllBytes bs = (k : ℕ) → getD bs k 0 < 256
 abbrev pub BytesOf : Verb → Type 0
 BytesOf allocate = Unit {0}
 BytesOf confirmed = Unit {0}
-BytesOf pace = Unit {0}
+BytesOf sendPacingResponse = Unit {0}
 BytesOf (sendData bytes) = AllBytes bytes
 BytesOf (close f b) = Unit {0}
 BytesOf (receive buffer) = Unit {0}
@@ -77,13 +77,13 @@ pub record StaysGood : Type 0 where
 
 -- ---- credit and open
 
-abbrev pub isPace : Verb → Bool
-isPace allocate = false
-isPace confirmed = false
-isPace pace = true
-isPace (sendData bytes) = false
-isPace (close f b) = false
-isPace (receive buffer) = false
+abbrev pub isSendPacingResponse : Verb → Bool
+isSendPacingResponse allocate = false
+isSendPacingResponse confirmed = false
+isSendPacingResponse sendPacingResponse = true
+isSendPacingResponse (sendData bytes) = false
+isSendPacingResponse (close f b) = false
+isSendPacingResponse (receive buffer) = false
 
 -- A request made costs exactly 1 credit and a pacing answer taken raises it by exactly W; a request taken lowers open by exactly 1 and pace raises it by
 -- exactly W; nothing else moves them.
@@ -95,7 +95,7 @@ pub record CreditExact : Type 0 where
   pub received : (naming : List ℕ → ℕ) (s : Station) (u : List ℕ)
       → openOf (taken naming s u .end .end) + count (eqb (refusalIn (taken naming s u .answer)) 0 && isRequest u) ≡ openOf (s .end)
   pub paced : (s : Station) (v : Verb)
-      → openOf (called s v .end .end) ≡ openOf (s .end) + s .end .receiving .window .size * count (eqb (refusalIn (called s v .answer)) 0 && isPace v)
+      → openOf (called s v .end .end) ≡ openOf (s .end) + s .end .receiving .window .size * count (eqb (refusalIn (called s v .answer)) 0 && isSendPacingResponse v)
 
 -- ---- units
 

@@ -11,8 +11,8 @@ use carrying::part_carried;
 use digits::Number;
 use digits::decimal_read::number;
 use end::End;
-use end::Session;
 use libc::STDOUT_FILENO;
+use session::Session;
 use session::open_session;
 
 // An end's send buffer and unit buffer, and its inbox: each the longest, but for the way back, which carries no data.

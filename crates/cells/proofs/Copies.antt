@@ -8,7 +8,7 @@ use lib.ListN.{length, take, drop, take-append-drop}
 use lib.Seq.{take-length, length-take-le, drop-append-le}
 use borrow.Rule.Slice.PartMut.{midOf, putMid}
 use Rattle.cells.specs.Cells.{front, written}
-use Rattle.cells.proofs.Parts.{part-is, part-back}
+use Rattle.cells.proofs.PartLent.{part-is, part-back}
 
 -- to the front
 pub copy-front : (bs cells after : List ℕ) → after ≡ take (length bs) bs ++ drop (length bs) cells → after ≡ front bs cells

@@ -1,5 +1,5 @@
 mod Moves
 pub mod Fronts
-pub mod Parts
+pub mod PartLent
 pub mod Copies
 pub mod Equal

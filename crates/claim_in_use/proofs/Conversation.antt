@@ -34,7 +34,7 @@ allBelow256 (second (J.take k) ∷ l) = allBelow256 l
 gives-bytes : (v : Verb) → below256 (bytesOf v) ≡ true → BytesOf v
 gives-bytes Verb.allocate e = tt
 gives-bytes Verb.confirmed e = tt
-gives-bytes Verb.pace e = tt
+gives-bytes Verb.sendPacingResponse e = tt
 gives-bytes (Verb.sendData bytes) e = are-bytes bytes e
 gives-bytes (Verb.close f b) e = tt
 gives-bytes (Verb.receive buffer) e = tt

@@ -8,7 +8,7 @@ use lib.Dec.{eqb, leb}
 use lib.ListN.{length}
 use Rattle.bools.proofs.Tests.{join}
 use Rattle.session.specs.Opening.{opened}
-use Rattle.sides.specs.Opening.{openingRefusal}
+use Rattle.session.specs.OpeningQuestions.{openingRefusal}
 use Rattle.end.specs.declared.Done.{Done}
 use Rattle.joined.specs.Ends.{Buffers, OpeningAccepted, JoinedOpenings}
 use Rattle.claim_in_use.specs.OtherWords.{Numbers, speaker, bidder, WindowIs, MaximumIs, Lent, InRange}

@@ -9,7 +9,7 @@ use Rattle.logical_record.specs.Positions.{start}
 use Rattle.logical_record.specs.Walk.{walk}
 use Rattle.logical_record.specs.Records.{wholeRecords}
 use Rattle.pacing.specs.Pacing.{credit}
-use Rattle.control.specs.Tests.{isSend}
+use Rattle.control.specs.StateTests.{isSend}
 use Rattle.control.specs.declared.State.{State}
 use Rattle.control.specs.declared.State.the-variants.{Send}
 use Rattle.control.proofs.States.{send-is}

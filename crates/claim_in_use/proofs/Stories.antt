@@ -45,7 +45,7 @@ gave-none false = refl
 gave-is : (v : Verb) (r : Reply) (us : Lines Lane (List ℕ)) → gave (acted v r us) ≡ H.given v (numberOf r)
 gave-is Verb.allocate r us = gave-none (eqb (numberOf r) 0)
 gave-is Verb.confirmed r us = gave-none (eqb (numberOf r) 0)
-gave-is Verb.pace r us = gave-none (eqb (numberOf r) 0)
+gave-is Verb.sendPacingResponse r us = gave-none (eqb (numberOf r) 0)
 gave-is (Verb.sendData bytes) r us = refl
 gave-is (Verb.close f b) r us = gave-none (eqb (numberOf r) 0)
 gave-is (Verb.receive buffer) r us = gave-none (eqb (numberOf r) 0)

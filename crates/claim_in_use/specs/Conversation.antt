@@ -9,10 +9,10 @@ use Rattle.logical_record.specs.Positions.{start}
 use Rattle.logical_record.specs.Walk.{walk}
 use Rattle.logical_record.specs.declared.Position.the-variants.{Between, Remaining}
 use Rattle.logical_record.specs.declared.Walked.the-variants.{At}
-use Rattle.control.specs.Tests.{isSend}
+use Rattle.control.specs.StateTests.{isSend}
 use Rattle.control.specs.declared.State.the-variants.{Send, Receive}
 use Rattle.end.specs.Record.{recordGood, creditOf}
-use Rattle.sides.specs.declared.Session.{Session}
+use Rattle.session.specs.declared.Session.{Session}
 use Rattle.joined.specs.Joined as J
 use Rattle.joined.specs.Joined.{first, second, act, AllFed, run}
 use Rattle.joined.specs.Ends.{Lane, normal, sameLane, Buffers, JoinedOpenings, openedBoth, acts, takes}
@@ -66,9 +66,9 @@ calls =
     ∷ first (act (Verb.sendData table1))
     ∷ first (act (Verb.sendData table2))
     ∷ first (J.take normal)
-    ∷ first (act Verb.pace)
+    ∷ first (act Verb.sendPacingResponse)
     ∷ second (J.take normal)
-    ∷ second (act Verb.pace)
+    ∷ second (act Verb.sendPacingResponse)
     ∷ second (act (Verb.receive (zeros 5)))
     ∷ first (act (Verb.sendData table3))
     ∷ first (J.take normal)
@@ -94,10 +94,10 @@ reordered =
     ∷ first (act (Verb.sendData table2))
     ∷ second (act Verb.allocate)
     ∷ second (J.take normal)
-    ∷ second (act Verb.pace)
+    ∷ second (act Verb.sendPacingResponse)
     ∷ first (J.take normal)
     ∷ second (act (Verb.receive (zeros 5)))
-    ∷ first (act Verb.pace)
+    ∷ first (act Verb.sendPacingResponse)
     ∷ first (act (Verb.sendData table3))
     ∷ second (J.take normal)
     ∷ first (J.take normal)

@@ -14,7 +14,7 @@ use Rattle.logical_record.specs.Records.{wholeRecords, ended}
 use Rattle.logical_record.specs.declared.Walked.the-variants as walked
 use Rattle.pacing.specs.declared.Window.{Window}
 use Rattle.control.specs.declared.State.the-variants.{Send}
-use Rattle.sides.specs.declared.Session.{Session}
+use Rattle.session.specs.declared.Session.{Session}
 use Rattle.joined.specs.Lanes.{Lines}
 use Rattle.joined.specs.Joined as J
 use Rattle.joined.specs.Joined.{Call, At, first, second, Event, acted, took, Side, Both, run}
@@ -85,7 +85,7 @@ numberOf r = r .answer .answer .refusal
 abbrev pub bytesOf : Verb → List ℕ
 bytesOf Verb.allocate = []
 bytesOf Verb.confirmed = []
-bytesOf Verb.pace = []
+bytesOf Verb.sendPacingResponse = []
 bytesOf (Verb.sendData bytes) = bytes
 bytesOf (Verb.close f b) = []
 bytesOf (Verb.receive buffer) = []

@@ -1,3 +1,3 @@
-pub mod Finite
+pub mod FiniteControl
 pub mod States
 pub mod Within

@@ -3,7 +3,7 @@
 use mathlib.Core.Path.{_≡_, refl, sym}
 use mathlib.Core.Bool.{Bool, true, false, _&&_, _||_}
 use Rattle.bools.proofs.Tests.{never}
-use Rattle.control.specs.Tests.{isReset, isSend, isReceive, isConfirmOwed, isConfirmAwaited}
+use Rattle.control.specs.StateTests.{isReset, isSend, isReceive, isConfirmOwed, isConfirmAwaited}
 use Rattle.control.specs.declared.State.{State}
 use Rattle.control.specs.declared.State.the-variants.{Reset, Send, Receive, ConfirmOwed, ConfirmAwaited}
 

@@ -3,7 +3,7 @@
 use mathlib.Core.Path.{_≡_}
 use mathlib.Core.Bool.{Bool, true, false, not, _&&_, _||_}
 use Rattle.bools.proofs.Tests.{both, join, off}
-use Rattle.control.specs.Tests.{isSend}
+use Rattle.control.specs.StateTests.{isSend}
 use Rattle.control.specs.Within.{markInReceive, dueInSend, bidAtBidder, chainInSend, controlGood}
 use Rattle.control.specs.declared.Control.{Control}
 

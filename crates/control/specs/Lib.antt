@@ -1,4 +1,4 @@
-pub mod Tests
+pub mod StateTests
 pub mod Within
 pub mod Questions
-pub mod Parts
+pub mod FieldChanged

@@ -1,7 +1,7 @@
 -- What the calls ask of the finite part.
 -- Assumes nothing.
 use mathlib.Core.Bool.{Bool, not, _&&_, _||_}
-use Rattle.control.specs.Tests.{isFirstSpeaker, isBidder, isReset, isSend, isReceive, isConfirmOwed, isConfirmAwaited, agree}
+use Rattle.control.specs.StateTests.{isFirstSpeaker, isBidder, isReset, isSend, isReceive, isConfirmOwed, isConfirmAwaited, agree}
 use Rattle.control.specs.declared.Control.{Control}
 
 -- ---- 7: does the state (and bid flag) allow it?
@@ -39,11 +39,11 @@ abbrev pub stateFits : Bool → Control → Bool
 stateFits bb c = isReceive (c .state) || (isReset (c .state) && bb)
 
 -- 28: does a grant, a bid refusal, a confirmation fit state or flag?
-abbrev pub grantFits : Control → Bool
-grantFits c = isReset (c .state) && c .bid
+abbrev pub positiveResponseFits : Control → Bool
+positiveResponseFits c = isReset (c .state) && c .bid
 
-abbrev pub refusalFits : Control → Bool
-refusalFits c = c .bid
+abbrev pub negativeResponseFits : Control → Bool
+negativeResponseFits c = c .bid
 
 abbrev pub confirmationFits : Control → Bool
 confirmationFits c = isConfirmAwaited (c .state)

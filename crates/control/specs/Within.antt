@@ -1,7 +1,7 @@
 -- What the section 'The end's record' says of the finite part, a sentence a definition.
 -- Assumes nothing.
 use mathlib.Core.Bool.{Bool, not, _&&_, _||_}
-use Rattle.control.specs.Tests.{isFirstSpeaker, isBidder, isSend, isReceive, isNothing}
+use Rattle.control.specs.StateTests.{isFirstSpeaker, isBidder, isSend, isReceive, isNothing}
 use Rattle.control.specs.declared.Control.{Control}
 
 -- a mark stands only in Receive

@@ -1,6 +1,7 @@
-// The finite part of an end's record: role, state, what follows a confirmation, the mark, the flags and the open chains. Numbers, windows and bytes are left to the end.
+// The finite part of an end's record: role, state, what follows a confirmation, the mark, the flags and the open chains. Numbers,
+// windows and bytes are left to the end.
 
-mod parts;
+mod field_changed;
 pub mod questions;
 pub mod tests;
 

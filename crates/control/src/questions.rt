@@ -10,9 +10,10 @@ use crate::tests::is_receive;
 use crate::tests::is_reset;
 use crate::tests::is_send;
 ghost use mathlib.Core.Path.{_≡_};
-ghost use Rattle.control.specs.Tests.{isFirstSpeaker, isNothing};
+ghost use Rattle.control.specs.StateTests.{isFirstSpeaker, isNothing};
 ghost use Rattle.control.specs.Within.{markInReceive, dueInSend, bidAtBidder, chainInSend, controlGood};
-ghost use Rattle.control.specs.Questions.{mayAllocate, maySend, mayConfirm, chainFits, bracketFits, bidFits, stateFits, grantFits, refusalFits, confirmationFits};
+ghost use Rattle.control.specs.Questions.{mayAllocate, maySend, mayConfirm, chainFits, bracketFits, bidFits, stateFits};
+ghost use Rattle.control.specs.Questions.{positiveResponseFits, negativeResponseFits, confirmationFits};
 
 impl Control {
     fn mark_in_receive(self) -> bool
@@ -117,15 +118,15 @@ impl Control {
         is_receive(state) | (is_reset(state) & bb)
     }
 
-    pub fn grant_fits(self) -> bool
-        ensures { λ r. ⌜ r ≡ grantFits self ⌝ }
+    pub fn positive_response_fits(self) -> bool
+        ensures { λ r. ⌜ r ≡ positiveResponseFits self ⌝ }
     {
         let state = self.state;
         is_reset(state) & self.bid
     }
 
-    pub fn refusal_fits(self) -> bool
-        ensures { λ r. ⌜ r ≡ refusalFits self ⌝ }
+    pub fn negative_response_fits(self) -> bool
+        ensures { λ r. ⌜ r ≡ negativeResponseFits self ⌝ }
     {
         self.bid
     }

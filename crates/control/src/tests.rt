@@ -1,9 +1,21 @@
-// Tests of roles, states and marks.
+// Tests of roles, states and marks, and the role of a number.
 use crate::Role;
 use crate::State;
 use crate::WhatReceived;
 ghost use mathlib.Core.Path.{_≡_};
-ghost use Rattle.control.specs.Tests.{isFirstSpeaker, isBidder, isReset, isSend, isReceive, isConfirmOwed, isConfirmAwaited, isNothing, agree};
+ghost use Rattle.control.specs.StateTests.{roleOf, isFirstSpeaker, isBidder, isReset, isSend, isReceive, isConfirmOwed};
+ghost use Rattle.control.specs.StateTests.{isConfirmAwaited, isNothing, agree};
+
+// First speaker 0, bidder 1.
+pub fn role_of(number: u8) -> Role
+    ensures { λ r. ⌜ r ≡ roleOf number ⌝ }
+{
+    if number == 0 {
+        Role::FirstSpeaker
+    } else {
+        Role::Bidder
+    }
+}
 
 pub fn is_first_speaker(r: Role) -> bool
     ensures { λ b. ⌜ b ≡ isFirstSpeaker r ⌝ }

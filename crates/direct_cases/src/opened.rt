@@ -1,7 +1,7 @@
 // The ends that the cases begin with, and a role that is none.
 use end::Done;
 use end::End;
-use end::Session;
+use session::Session;
 use session::open_session;
 
 // Window 3 and maximum RU 64 both ways.

@@ -1,10 +1,10 @@
-pub mod Within
-mod Rooms
-mod Makes
-mod Makings
-mod Spills
-mod Reading
-mod TakeRooms
-mod UnitReads
-mod Takes
-mod Joins
+pub mod RecordGood
+mod RoomToWrite
+mod DecisionCells
+mod UnitsMade
+mod SendDataCells
+mod ReceiveCells
+mod RoomToReceive
+mod UnitFacts
+mod ReceiveUnitRows
+mod ReceiveUnitCells

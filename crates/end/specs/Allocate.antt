@@ -7,13 +7,13 @@ use lib.ListN.{length}
 use Rattle.unit.specs.Ru.{bidRu}
 use Rattle.header.specs.declared.Header.the-variants.{Bid}
 use Rattle.pacing.specs.Pacing.{paced, hasCredit}
-use Rattle.control.specs.Tests.{isFirstSpeaker}
+use Rattle.control.specs.StateTests.{isFirstSpeaker}
 use Rattle.control.specs.Questions.{mayAllocate}
 use Rattle.transitions.specs.Transitions.{allocated}
-use Rattle.answers.specs.Questions.{firstNo}
+use Rattle.answers.specs.FirstNo.{firstNo}
 use Rattle.answers.specs.Answers.{BAD-BUFFER, BAD-RECORD, WRONG-STATE, NO-CREDIT}
-use Rattle.sides.specs.Shared.{nextNumber}
-use Rattle.sides.specs.Sending.{requestMade}
+use Rattle.unit.specs.Sequence.{nextNumber}
+use Rattle.sending.specs.Sending.{requestMade}
 use Rattle.end.specs.Record.{recordGood, unitLent}
 use Rattle.end.specs.Outcome.{nothing, aUnit, Decision, accept, decided, Made, made, withControl, withSending, withBidding}
 use Rattle.end.specs.declared.End.{End}

@@ -14,10 +14,10 @@ use Rattle.header.specs.declared.ChainEnd.the-variants.{Last}
 use Rattle.pacing.specs.Pacing.{hasCredit}
 use Rattle.control.specs.Questions.{maySend}
 use Rattle.transitions.specs.Transitions.{closed}
-use Rattle.answers.specs.Questions.{firstNo}
+use Rattle.answers.specs.FirstNo.{firstNo}
 use Rattle.answers.specs.Answers.{BAD-BUFFER, BAD-RECORD, WRONG-STATE, UNFINISHED-RECORD, NO-CREDIT}
-use Rattle.sides.specs.Shared.{nextNumber}
-use Rattle.sides.specs.Sending.{requestMade}
+use Rattle.unit.specs.Sequence.{nextNumber}
+use Rattle.sending.specs.Sending.{requestMade}
 use Rattle.end.specs.Record.{recordGood, sendLent, unitLent}
 use Rattle.end.specs.Requests.{dataHeader}
 use Rattle.end.specs.SendData.{heldBytes}

@@ -7,7 +7,7 @@ use lib.ListN.{length}
 use Rattle.header.specs.declared.Header.the-variants.{Confirmation}
 use Rattle.control.specs.Questions.{mayConfirm}
 use Rattle.transitions.specs.Transitions.{confirmationMade}
-use Rattle.answers.specs.Questions.{firstNo}
+use Rattle.answers.specs.FirstNo.{firstNo}
 use Rattle.answers.specs.Answers.{BAD-BUFFER, BAD-RECORD, WRONG-STATE}
 use Rattle.end.specs.Record.{recordGood, unitLent}
 use Rattle.end.specs.Outcome.{aUnit, Decision, accept, decided, Made, made, withControl}

@@ -3,9 +3,9 @@
 use Prim.Native.Nat.{ℕ}
 use mathlib.Core.List.{List}
 use Rattle.header.specs.declared.Header.{Header}
-use Rattle.answers.specs.Questions.{firstNo}
+use Rattle.answers.specs.FirstNo.{firstNo}
 use Rattle.end.specs.Outcome.{Decision, decided}
-use Rattle.end.specs.ReceiveUnit.{endQuestions, kindQuestions, kindTaken}
+use Rattle.end.specs.ReceiveUnit.{endQuestions, kindQuestions, kindReceived}
 use Rattle.end.specs.declared.End.{End}
 
 -- the first three of the row, before a byte of the unit is read
@@ -17,4 +17,4 @@ unfoldable pub kindRefusal : End → Header → ℕ → List ℕ → ℕ
 kindRefusal e h n ru = firstNo (kindQuestions e h n ru)
 
 unfoldable pub kindDecision : End → Header → ℕ → List ℕ → Decision
-kindDecision e h n ru = decided (kindRefusal e h n ru) e (kindTaken e h n ru)
+kindDecision e h n ru = decided (kindRefusal e h n ru) e (kindReceived e h n ru)

@@ -7,7 +7,7 @@ pub mod Close
 pub mod Confirmed
 pub mod ReceiveUnit
 pub mod Receive
-pub mod Pace
+pub mod SendPacingResponse
 pub mod Results
 pub mod RuleNamed
 pub mod Kinds

@@ -11,8 +11,8 @@ use Rattle.header.specs.declared.Header.{Header}
 use Rattle.control.specs.declared.Control.{Control}
 use Rattle.answers.specs.Answers.{accepted, refused}
 use Rattle.answers.specs.declared.Answer.{Answer}
-use Rattle.sides.specs.declared.Sending.{Sending}
-use Rattle.sides.specs.declared.Receiving.{Receiving}
+use Rattle.sending.specs.declared.Sending.{Sending}
+use Rattle.receiving.specs.declared.Receiving.{Receiving}
 use Rattle.end.specs.declared.End.{End}
 use Rattle.end.specs.declared.Done.{Done}
 use Rattle.end.specs.declared.ReadDone.{ReadDone}

@@ -8,15 +8,15 @@ use lib.ListN.{length, take, drop}
 use Rattle.cells.specs.Cells.{front}
 use Rattle.logical_record.specs.Positions.{isBetween}
 use Rattle.logical_record.specs.Walk.{walk, placeOr}
-use Rattle.logical_record.specs.Reading.{rest}
+use Rattle.logical_record.specs.RestOfRecord.{rest}
 use Rattle.logical_record.specs.declared.Position.{Position}
 use Rattle.logical_record.specs.declared.Rest.{Rest}
-use Rattle.control.specs.Tests.{isNothing}
+use Rattle.control.specs.StateTests.{isNothing}
 use Rattle.transitions.specs.Transitions.{markAnswered}
 use Rattle.control.specs.declared.WhatReceived.the-variants as mark
-use Rattle.answers.specs.Questions.{firstNo}
+use Rattle.answers.specs.FirstNo.{firstNo}
 use Rattle.answers.specs.Answers.{BAD-BUFFER, BAD-RECORD, BAD-LENGTH, BAD-LL, NOTHING-TO-READ, readRefused, readAccepted}
-use Rattle.reading.specs.Reading.{restBytes, restGood, bytesGone}
+use Rattle.receiving.specs.BytesRead.{restBytes, restGood, bytesGone}
 use Rattle.end.specs.Record.{recordGood, inboxLent}
 use Rattle.end.specs.Outcome.{Copied, withControl, withReceiving}
 use Rattle.end.specs.declared.End.{End}
@@ -33,8 +33,8 @@ recordRest e inbox = rest (e .receiving .read) (inboxBytes e inbox)
 abbrev pub someHeld : End → Bool
 someHeld e = leb 1 (e .receiving .held)
 
-abbrev pub readQuestions : End → List ℕ → ℕ → List (Bool × ℕ)
-readQuestions e inbox buffer =
+abbrev pub receiveQuestions : End → List ℕ → ℕ → List (Bool × ℕ)
+receiveQuestions e inbox buffer =
     (inboxLent e (length inbox), BAD-BUFFER)
     ∷ (recordGood e, BAD-RECORD)
     ∷ (leb 1 buffer, BAD-LENGTH)
@@ -42,8 +42,8 @@ readQuestions e inbox buffer =
     ∷ (someHeld e || not (isNothing (e .control .mark)), NOTHING-TO-READ)
     ∷ []
 
-unfoldable pub readRefusal : End → List ℕ → ℕ → ℕ
-readRefusal e inbox buffer = firstNo (readQuestions e inbox buffer)
+unfoldable pub receiveRefusal : End → List ℕ → ℕ → ℕ
+receiveRefusal e inbox buffer = firstNo (receiveQuestions e inbox buffer)
 
 -- the least of that buffer, the bytes held and the rest of the current record
 unfoldable pub copyCount : End → List ℕ → ℕ → ℕ
@@ -69,9 +69,9 @@ markRead e =
       end = withControl (markAnswered (e .control)) e;
     }
 
-unfoldable pub readDecision : End → List ℕ → ℕ → ReadDone
-readDecision e inbox buffer =
-    let q : ℕ = readRefusal e inbox buffer in
+unfoldable pub receiveDecision : End → List ℕ → ℕ → ReadDone
+receiveDecision e inbox buffer =
+    let q : ℕ = receiveRefusal e inbox buffer in
     cond (eqb q 0)
     (cond (someHeld e) (bytesRead e (copyCount e inbox buffer) inbox) (markRead e))
     (record { answer = readRefused q; end = e })
@@ -83,6 +83,6 @@ inboxMoved e k inbox = cond (eqb k 0) inbox (front (drop k (inboxBytes e inbox))
 -- the bytes copied stand at the front of the caller's buffer
 unfoldable pub receive : End → List ℕ → List ℕ → Copied
 receive e inbox buffer =
-    let d : ReadDone = readDecision e inbox (length buffer) in
+    let d : ReadDone = receiveDecision e inbox (length buffer) in
     let k : ℕ = d .answer .copied in
     record { done = d; inbox = inboxMoved e k inbox; buffer = front (take k inbox) buffer }

@@ -14,15 +14,15 @@ use Rattle.unit.specs.Unit.{RU-START, numberIn, headerIn}
 use Rattle.header.specs.declared.DataHeader.{DataHeader}
 use Rattle.header.specs.declared.Header.{Header}
 use Rattle.header.specs.declared.Header.the-variants.{Data, Bid, PositiveBidResponse, NegativeBidResponse, Confirmation, PacingResponse}
-use Rattle.control.specs.Tests.{isNothing}
-use Rattle.control.specs.Questions.{grantFits, refusalFits, confirmationFits}
-use Rattle.transitions.specs.Transitions.{dataTaken, bidTaken, bidAnswer, grantTaken, refusalTaken, confirmationTaken}
-use Rattle.answers.specs.Questions.{firstNo}
+use Rattle.control.specs.StateTests.{isNothing}
+use Rattle.control.specs.Questions.{positiveResponseFits, negativeResponseFits, confirmationFits}
+use Rattle.transitions.specs.Transitions.{dataReceived, bidReceived, bidAnswer, positiveResponseReceived, negativeResponseReceived, confirmationReceived}
+use Rattle.answers.specs.FirstNo.{firstNo}
 use Rattle.answers.specs.Answers.{BAD-BUFFER, BAD-RECORD, UNREAD-MARK, SHORT-UNIT, BAD-HEADER, accepted, refusedNaming}
 use Rattle.answers.specs.declared.Answer.{Answer}
-use Rattle.sides.specs.Sending.{creditAnswered}
-use Rattle.sides.specs.Receiving.{requestTaken}
-use Rattle.taking.specs.Taking.{dataQuestions, bidQuestions, responseQuestions, pacingQuestions}
+use Rattle.sending.specs.Sending.{creditAnswered}
+use Rattle.receiving.specs.Receiving.{requestReceived}
+use Rattle.receiving.specs.UnitQuestions.{dataQuestions, bidQuestions, responseQuestions, pacingQuestions}
 use Rattle.end.specs.Record.{recordGood, inboxLent, unitLent}
 use Rattle.end.specs.Outcome.{nothing, aUnit, lengthOut, cellsOut, Decision, accept, decided, Taken, withControl, withSending, withReceiving, withOwed}
 use Rattle.end.specs.declared.End.{End}
@@ -35,9 +35,9 @@ abbrev pub kindQuestions : End → Header → ℕ → List ℕ → List (Bool ×
 kindQuestions e (Data d) n ru = dataQuestions (e .control) (e .receiving) d n ru
 kindQuestions e (Bid p) n ru = bidQuestions (e .control) (e .receiving) p n ru
 kindQuestions e PositiveBidResponse n ru =
-    responseQuestions (e .receiving .max) PositiveBidResponse (grantFits (e .control) && eqb n (e .bidding)) ru
+    responseQuestions (e .receiving .max) PositiveBidResponse (positiveResponseFits (e .control) && eqb n (e .bidding)) ru
 kindQuestions e NegativeBidResponse n ru =
-    responseQuestions (e .receiving .max) NegativeBidResponse (refusalFits (e .control) && eqb n (e .bidding)) ru
+    responseQuestions (e .receiving .max) NegativeBidResponse (negativeResponseFits (e .control) && eqb n (e .bidding)) ru
 kindQuestions e Confirmation n ru =
     responseQuestions (e .receiving .max) Confirmation (confirmationFits (e .control) && eqb n (e .sending .number)) ru
 kindQuestions e PacingResponse n ru = pacingQuestions (e .receiving .max) (e .sending .window .pending) n ru
@@ -52,16 +52,16 @@ abbrev pub headQuestions : End → List ℕ → ℕ → ℕ → List (Bool × �
 headQuestions e taken inbox unit =
     endQuestions e inbox unit ++ ((leb RU-START (length taken), SHORT-UNIT) ∷ (headerGood (headerIn taken), BAD-HEADER) ∷ [])
 
-abbrev pub headerTaken : List ℕ → Header
-headerTaken taken = fieldsOf (headerIn taken)
+abbrev pub headerReceived : List ℕ → Header
+headerReceived taken = fieldsOf (headerIn taken)
 
 -- the RU is handed on from byte 5
-abbrev pub ruTaken : List ℕ → List ℕ
-ruTaken taken = drop RU-START taken
+abbrev pub ruReceived : List ℕ → List ℕ
+ruReceived taken = drop RU-START taken
 
-unfoldable pub takeRefusal : End → List ℕ → ℕ → ℕ → ℕ
-takeRefusal e taken inbox unit =
-    firstNo (headQuestions e taken inbox unit ++ kindQuestions e (headerTaken taken) (numberIn taken) (ruTaken taken))
+unfoldable pub receiveUnitRefusal : End → List ℕ → ℕ → ℕ → ℕ
+receiveUnitRefusal e taken inbox unit =
+    firstNo (headQuestions e taken inbox unit ++ kindQuestions e (headerReceived taken) (numberIn taken) (ruReceived taken))
 
 -- ---- effects
 
@@ -71,15 +71,15 @@ dataJoined e d n ru =
     accept
     (withOwed (cond (confirms (d .ends)) n (e .owed))
     (withReceiving
-    (requestTaken (e .receiving .held + length ru) (placeOr (e .receiving .taken) (walk (e .receiving .taken) ru)) (e .receiving))
-    (withControl (dataTaken (d .ends) (e .control)) e)))
+    (requestReceived (e .receiving .held + length ru) (placeOr (e .receiving .taken) (walk (e .receiving .taken) ru)) (e .receiving))
+    (withControl (dataReceived (d .ends) (e .control)) e)))
     nothing
 
 -- a bid is answered under its own number
 unfoldable pub bidAnswered : End → ℕ → Decision
 bidAnswered e n =
     accept
-    (withReceiving (requestTaken (e .receiving .held) (e .receiving .taken) (e .receiving)) (withControl (bidTaken (e .control)) e))
+    (withReceiving (requestReceived (e .receiving .held) (e .receiving .taken) (e .receiving)) (withControl (bidReceived (e .control)) e))
     (aUnit n (bidAnswer (e .control)) (fixedRu (bidAnswer (e .control))))
 
 -- credit rises by W, unanswered off
@@ -89,17 +89,17 @@ creditRaised e =
     (withSending (creditAnswered (e .sending)) e)
     nothing
 
-abbrev pub kindTaken : End → Header → ℕ → List ℕ → Decision
-kindTaken e (Data d) n ru = dataJoined e d n ru
-kindTaken e (Bid p) n ru = bidAnswered e n
-kindTaken e PositiveBidResponse n ru = accept (withControl (grantTaken (e .control)) e) nothing
-kindTaken e NegativeBidResponse n ru = accept (withControl (refusalTaken (e .control)) e) nothing
-kindTaken e Confirmation n ru = accept (withControl (confirmationTaken (e .control)) e) nothing
-kindTaken e PacingResponse n ru = creditRaised e
+abbrev pub kindReceived : End → Header → ℕ → List ℕ → Decision
+kindReceived e (Data d) n ru = dataJoined e d n ru
+kindReceived e (Bid p) n ru = bidAnswered e n
+kindReceived e PositiveBidResponse n ru = accept (withControl (positiveResponseReceived (e .control)) e) nothing
+kindReceived e NegativeBidResponse n ru = accept (withControl (negativeResponseReceived (e .control)) e) nothing
+kindReceived e Confirmation n ru = accept (withControl (confirmationReceived (e .control)) e) nothing
+kindReceived e PacingResponse n ru = creditRaised e
 
-unfoldable pub takeDecision : End → List ℕ → ℕ → ℕ → Decision
-takeDecision e taken inbox unit =
-    decided (takeRefusal e taken inbox unit) e (kindTaken e (headerTaken taken) (numberIn taken) (ruTaken taken))
+unfoldable pub receiveUnitDecision : End → List ℕ → ℕ → ℕ → Decision
+receiveUnitDecision e taken inbox unit =
+    decided (receiveUnitRefusal e taken inbox unit) e (kindReceived e (headerReceived taken) (numberIn taken) (ruReceived taken))
 
 -- the inbox: data's bytes behind those held
 abbrev pub kindJoined : End → Header → List ℕ → List ℕ → List ℕ
@@ -111,7 +111,7 @@ kindJoined e Confirmation ru inbox = inbox
 kindJoined e PacingResponse ru inbox = inbox
 
 unfoldable pub inboxCells : End → List ℕ → ℕ → List ℕ → List ℕ
-inboxCells e taken q inbox = cond (eqb q 0) (kindJoined e (headerTaken taken) (ruTaken taken) inbox) inbox
+inboxCells e taken q inbox = cond (eqb q 0) (kindJoined e (headerReceived taken) (ruReceived taken) inbox) inbox
 
 -- 21 names a rule that is broken; which one is free, and is the first argument here
 abbrev pub answerNaming : ℕ → Decision → Answer
@@ -123,7 +123,7 @@ doneNaming rule d = record { answer = answerNaming rule d; end = d .end }
 
 unfoldable pub receiveUnit : ℕ → End → List ℕ → List ℕ → List ℕ → Taken
 receiveUnit rule e taken inbox unit =
-    let d : Decision = takeDecision e taken (length inbox) (length unit) in
+    let d : Decision = receiveUnitDecision e taken (length inbox) (length unit) in
     record {
       done = record { answer = answerNaming rule d; end = d .end };
       inbox = inboxCells e taken (d .refusal) inbox;

@@ -5,8 +5,8 @@ use mathlib.Core.Bool.{Bool, _&&_, _||_}
 use lib.Dec.{eqb, leb}
 use Rattle.pacing.specs.Pacing.{credit}
 use Rattle.control.specs.Within.{controlGood}
-use Rattle.sides.specs.Receiving.{receivingGood}
-use Rattle.sides.specs.Sending.{sendingGood}
+use Rattle.receiving.specs.Receiving.{receivingGood}
+use Rattle.sending.specs.Sending.{sendingGood}
 use Rattle.end.specs.declared.End.{End}
 
 -- credit (sending) and open (receiving)

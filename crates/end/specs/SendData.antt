@@ -13,10 +13,10 @@ use Rattle.header.specs.declared.ChainEnd.the-variants.{Continues}
 use Rattle.pacing.specs.Pacing.{hasCredit}
 use Rattle.control.specs.Questions.{maySend}
 use Rattle.transitions.specs.Transitions.{spilled}
-use Rattle.answers.specs.Questions.{firstNo}
+use Rattle.answers.specs.FirstNo.{firstNo}
 use Rattle.answers.specs.Answers.{BAD-BUFFER, BAD-RECORD, BAD-LENGTH, WRONG-STATE, BAD-LL, NO-CREDIT}
-use Rattle.sides.specs.Shared.{nextNumber}
-use Rattle.sides.specs.Sending.{requestMade, keeps, bytesAdded}
+use Rattle.unit.specs.Sequence.{nextNumber}
+use Rattle.sending.specs.Sending.{requestMade, keeps, bytesAdded}
 use Rattle.end.specs.Record.{recordGood, sendLent, unitLent}
 use Rattle.end.specs.Requests.{dataHeader}
 use Rattle.end.specs.Outcome.{nothing, aUnit, cellsOut, doneOf, Decision, accept, decided, Sent, withControl, withSending}

@@ -2,23 +2,22 @@
 mod allocate;
 mod close;
 mod confirmed;
-mod pace;
-mod parts;
 mod receive;
 mod receive_unit;
 mod record;
+mod record_parts;
 mod requests;
 pub mod results;
 mod send_data;
+mod send_pacing_response;
 mod unit_effects;
 mod unit_questions;
 
 pub use answers::Answer;
 pub use answers::ReadAnswer;
 use control::Control;
-pub use sides::Receiving;
-pub use sides::Sending;
-pub use sides::Session;
+pub use receiving::Receiving;
+pub use sending::Sending;
 
 // The end's record. `bidding` is the bid's number, `owed` the number owed a confirmation.
 pub struct End {

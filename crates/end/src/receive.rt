@@ -3,32 +3,32 @@ use crate::End;
 use crate::ReadDone;
 use crate::results::read_refused;
 use answers::bytes_read;
+use answers::first_no::then_ask;
 use answers::mark_read;
 use answers::numbers::BAD_BUFFER;
 use answers::numbers::BAD_LENGTH;
 use answers::numbers::BAD_LL;
 use answers::numbers::BAD_RECORD;
 use answers::numbers::NOTHING_TO_READ;
-use answers::questions::then_ask;
 use logical_record::Rest;
 use logical_record::positions::is_between;
-use reading::after_read;
-use reading::copy_count;
-use reading::hand_over;
-use reading::record_rest;
-use reading::rest_good;
-use reading::some_held;
+use receiving::bytes_read::after_read;
+use receiving::bytes_read::copy_count;
+use receiving::bytes_read::hand_over;
+use receiving::bytes_read::record_rest;
+use receiving::bytes_read::rest_good;
+use receiving::bytes_read::some_held;
 use transitions::mark_answered;
 ghost use mathlib.Core.Path.{_≡_};
 ghost use Prim.Native.Nat.{_≤_};
 ghost use lib.ListN.{length};
-ghost use Rattle.end.specs.Receive.{recordRest, readRefusal, copyCount, bytesRead, markRead, readDecision, receive};
+ghost use Rattle.end.specs.Receive.{recordRest, receiveRefusal, copyCount, bytesRead, markRead, receiveDecision, receive};
 ghost use Rattle.end.specs.Results.{copiedBy};
 
 impl End {
-    fn read_refusal(self, rest: Rest, inbox: &[u8], buffer: usize) -> u8
+    fn receive_refusal(self, rest: Rest, inbox: &[u8], buffer: usize) -> u8
         requires { ⌜ rest ≡ recordRest self (now inbox) ⌝ }
-        ensures { λ r. ⌜ r ≡ readRefusal self (now (inbox .entry)) buffer ⌝ }
+        ensures { λ r. ⌜ r ≡ receiveRefusal self (now (inbox .entry)) buffer ⌝ }
     {
         let q = then_ask(0, self.inbox_lent(inbox.len()), BAD_BUFFER);
         let q = then_ask(q, self.record_good(), BAD_RECORD);
@@ -67,10 +67,10 @@ impl End {
 
     // What receive answers and leaves of the record, before a cell is written.
     pub fn receive_decision(self, inbox: &[u8], buffer: usize) -> ReadDone
-        ensures { λ r. ⌜ r ≡ readDecision self (now (inbox .entry)) buffer ⌝ }
+        ensures { λ r. ⌜ r ≡ receiveDecision self (now (inbox .entry)) buffer ⌝ }
     {
         let rest = record_rest(self.receiving, inbox);
-        let q = self.read_refusal(rest, inbox, buffer);
+        let q = self.receive_refusal(rest, inbox, buffer);
         if q != 0 {
             return read_refused(q, self);
         }

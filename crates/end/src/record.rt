@@ -1,8 +1,8 @@
 // Question 5, is the record within its rules, and question 4, are the buffers lent long enough. A record may be forged: every
 // test stands by itself, none relies on another, and no sum or product of its numbers overflows.
 use crate::End;
-use sides::incoming::receiving_good;
-use sides::outgoing::sending_good;
+use receiving::incoming::receiving_good;
+use sending::outgoing::sending_good;
 ghost use mathlib.Core.Path.{_≡_};
 ghost use Rattle.end.specs.Record.{recordGood, sendLent, unitLent, inboxLent};
 

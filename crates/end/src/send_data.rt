@@ -3,23 +3,23 @@ use crate::Done;
 use crate::End;
 use crate::results::accepted;
 use crate::results::refused;
+use answers::first_no::then_ask;
 use answers::numbers::BAD_BUFFER;
 use answers::numbers::BAD_LENGTH;
 use answers::numbers::BAD_LL;
 use answers::numbers::BAD_RECORD;
 use answers::numbers::NO_CREDIT;
 use answers::numbers::WRONG_STATE;
-use answers::questions::then_ask;
-use giving::keep;
-use giving::keeps;
-use giving::kept;
-use giving::length_fits;
-use giving::send_full;
-use giving::walk_given;
 use header::ChainEnd;
 use logical_record::Walked;
 use logical_record::walk::is_good;
-use sides::outgoing::bytes_sent;
+use sending::bytes_given::keep;
+use sending::bytes_given::keeps;
+use sending::bytes_given::kept;
+use sending::bytes_given::length_fits;
+use sending::bytes_given::send_full;
+use sending::bytes_given::walk_given;
+use sending::outgoing::bytes_sent;
 use transitions::spilled;
 use unit::RU_START;
 ghost use mathlib.Core.Path.{_≡_};
@@ -52,7 +52,8 @@ impl End {
 
     // One unit goes, of the bytes held and the first of the new ones; the rest is kept.
     fn spill_decision(self, walked: Walked, bytes: &[u8]) -> Done
-        requires { ⌜ (walked ≡ walk (self .sending .given) (now bytes)) × (self .sending .held ≤ self .sending .max) × (self .sending .max < self .sending .held + length (now bytes)) × (length (now bytes) ≤ self .sending .max) ⌝ }
+        requires { ⌜ (walked ≡ walk (self .sending .given) (now bytes)) × (self .sending .held ≤ self .sending .max)
+            × (self .sending .max < self .sending .held + length (now bytes)) × (length (now bytes) ≤ self .sending .max) ⌝ }
         ensures { λ r. ⌜ ((cells : List ℕ) → self .sending .max ≤ length cells → r ≡ doneOf (bytesSpilled self (now (bytes .entry)) cells)) ⌝ }
     {
         let gone = (self.sending.max - self.sending.held) as usize;

@@ -8,25 +8,25 @@ use header::DataHeader;
 use header::Header;
 use header::build::confirms;
 use logical_record::Walked;
-use sides::incoming::request_counted;
-use sides::outgoing::credit_answered;
-use taking::joined;
-use taking::owed_after;
+use receiving::incoming::request_counted;
+use receiving::units_received::joined;
+use receiving::units_received::owed_after;
+use sending::outgoing::credit_answered;
 use transitions::bid_answer;
-use transitions::bid_taken;
-use transitions::confirmation_taken;
-use transitions::data_taken;
-use transitions::grant_taken;
-use transitions::refusal_taken;
+use transitions::bid_received;
+use transitions::confirmation_received;
+use transitions::data_received;
+use transitions::negative_response_received;
+use transitions::positive_response_received;
 ghost use mathlib.Core.Path.{_≡_};
 ghost use mathlib.Core.Bool.{true};
 ghost use Prim.Native.Nat.{_+_, _≤_};
 ghost use lib.ListN.{length};
 ghost use Rattle.logical_record.specs.Walk.{walk};
-ghost use Rattle.taking.specs.Taking.{walkedFor};
+ghost use Rattle.receiving.specs.UnitQuestions.{walkedFor};
 ghost use Rattle.end.specs.Record.{recordGood};
 ghost use Rattle.end.specs.Outcome.{accept, nothing, doneOf, withControl};
-ghost use Rattle.end.specs.ReceiveUnit.{dataJoined, bidAnswered, creditRaised, kindTaken};
+ghost use Rattle.end.specs.ReceiveUnit.{dataJoined, bidAnswered, creditRaised, kindReceived};
 ghost use Rattle.end.specs.Kinds.{kindRefusal};
 
 impl End {
@@ -37,7 +37,7 @@ impl End {
     {
         let ends = d.ends;
         let next = joined(self.receiving, ru.len(), walked);
-        let marked = data_taken(self.control, ends);
+        let marked = data_received(self.control, ends);
         let mut end = self.with_control(marked).with_receiving(next);
         end.owed = owed_after(confirms(ends), number, self.owed);
         accepted(0, end)
@@ -48,7 +48,7 @@ impl End {
         ensures { λ r. ⌜ r ≡ doneOf (bidAnswered self number) ⌝ }
     {
         let answer = bid_answer(self.control);
-        let next = bid_taken(self.control);
+        let next = bid_received(self.control);
         let counted = request_counted(self.receiving);
         fixed_made(self.with_control(next).with_receiving(counted), answer)
     }
@@ -68,16 +68,17 @@ impl End {
     }
 
     // A unit that no question refused.
-    pub(crate) fn take_kind(self, header: Header, number: u16, walked: Walked, ru: &[u8]) -> Done
-        requires { ⌜ (recordGood self ≡ true) × (kindRefusal self header number (now ru) ≡ 0) × (walked ≡ walkedFor header (self .receiving .taken) (now ru)) ⌝ }
-        ensures { λ r. ⌜ r ≡ doneOf (kindTaken self header number (now (ru .entry))) ⌝ }
+    pub(crate) fn receive_kind(self, header: Header, number: u16, walked: Walked, ru: &[u8]) -> Done
+        requires { ⌜ (recordGood self ≡ true) × (kindRefusal self header number (now ru) ≡ 0)
+            × (walked ≡ walkedFor header (self .receiving .taken) (now ru)) ⌝ }
+        ensures { λ r. ⌜ r ≡ doneOf (kindReceived self header number (now (ru .entry))) ⌝ }
     {
         match header {
             Header::Data(d) => self.join_data(d, number, walked, ru),
             Header::Bid(_) => self.answer_bid(number),
-            Header::PositiveBidResponse => self.settle(grant_taken(self.control)),
-            Header::NegativeBidResponse => self.settle(refusal_taken(self.control)),
-            Header::Confirmation => self.settle(confirmation_taken(self.control)),
+            Header::PositiveBidResponse => self.settle(positive_response_received(self.control)),
+            Header::NegativeBidResponse => self.settle(negative_response_received(self.control)),
+            Header::Confirmation => self.settle(confirmation_received(self.control)),
             Header::PacingResponse => self.raise_credit(),
         }
     }

@@ -1,17 +1,17 @@
 // What is asked before a unit is taken: of the end, and then of the unit by its kind.
 use crate::End;
+use answers::first_no::then_ask;
 use answers::numbers::BAD_BUFFER;
 use answers::numbers::BAD_RECORD;
 use answers::numbers::UNREAD_MARK;
-use answers::questions::then_ask;
 use header::Header;
 use logical_record::Walked;
-use taking::bid_refusal;
-use taking::data_refusal;
-use taking::pacing_response_refusal;
-use taking::response_refusal;
+use receiving::units_received::bid_refusal;
+use receiving::units_received::data_refusal;
+use receiving::units_received::pacing_response_refusal;
+use receiving::units_received::response_refusal;
 ghost use mathlib.Core.Path.{_≡_};
-ghost use Rattle.taking.specs.Taking.{walkedFor};
+ghost use Rattle.receiving.specs.UnitQuestions.{walkedFor};
 ghost use Rattle.end.specs.Kinds.{endRefusal, kindRefusal};
 
 impl End {
@@ -34,11 +34,11 @@ impl End {
             Header::Data(d) => data_refusal(self.control, self.receiving, d, number, walked, ru),
             Header::Bid(bit) => bid_refusal(self.control, self.receiving, bit, number, ru),
             Header::PositiveBidResponse => {
-                let fits = self.control.grant_fits() & (number == self.bidding);
+                let fits = self.control.positive_response_fits() & (number == self.bidding);
                 response_refusal(max, Header::PositiveBidResponse, fits, ru)
             }
             Header::NegativeBidResponse => {
-                let fits = self.control.refusal_fits() & (number == self.bidding);
+                let fits = self.control.negative_response_fits() & (number == self.bidding);
                 response_refusal(max, Header::NegativeBidResponse, fits, ru)
             }
             Header::Confirmation => {

@@ -8,7 +8,7 @@ use Prim.Native.Nat.{ℕ}
 use lib.Dec.{T, leb}
 use Rattle.header.specs.Rules.{bytes, oneOf, oneOfHeaders, isFixed, isData, fixedHeaders, dataH3, dataH5, keepsH1, keepsH2, keepsH3, keepsH4, keepsH5, keepsH6, headerGood}
 use Rattle.header.specs.declared.HeaderBytes.{HeaderBytes}
-use Rattle.header.proofs.Finite.{ands, holds, follows-from, other, split, each, at-one, eachHeader, at-header}
+use Rattle.header.proofs.FiniteHeader.{ands, holds, follows-from, other, split, each, at-one, eachHeader, at-header}
 use Rattle.bools.proofs.Tests.{both}
 
 -- the lists of H1, H3 and H5

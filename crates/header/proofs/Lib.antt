@@ -1,6 +1,6 @@
-pub mod Finite
+pub mod FiniteHeader
 mod Candidates
-mod Reading
+mod HeaderSteps
 pub mod RoundTrip
 pub mod OnlyH1
 pub mod FortyEight

@@ -7,11 +7,11 @@ use native.Mathlib.Omega.{arith}
 use borrow.Author.Tests.{leb-true, not-true}
 use lib.Dec.{eqb}
 use Rattle.header.specs.Rules.{bytes, oneOfHeaders, isFixed, isData, fixedHeaders, dataH3, dataH4, dataH5, dataH6, keepsH1, keeps, breaks}
-use Rattle.header.specs.Claims.{OnlyH1}
+use Rattle.header.specs.HeaderClaims.{OnlyH1}
 use Rattle.header.specs.declared.HeaderBytes.{HeaderBytes}
 use Rattle.header.specs.declared.Rule.{Rule}
 use Rattle.header.specs.declared.Rule.the-variants.{H1, H2, H3, H4, H5, H6}
-use Rattle.header.proofs.Finite.{never}
+use Rattle.header.proofs.FiniteHeader.{never}
 
 -- data keeps H1
 data-head : (x y z : ℕ) → x ≤ 0x03 → keepsH1 (bytes x y z) ≡ true

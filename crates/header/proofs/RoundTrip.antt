@@ -8,7 +8,7 @@ use lib.Dec.{T, leb}
 use Rattle.header.specs.Weights.{FIRST, LAST, DR1, DR2, EXCEPTION, PACING, BB, CD, CEB, on, bit}
 use Rattle.header.specs.Rules.{sameHeader, requestsConfirmation, headerGood}
 use Rattle.header.specs.Header.{isFirst, beginsBracket, isLast, confirms, followsOf, turns, endsBracket, dataBytes, headerBytes, beginOf, followOf, endOf, dataFields, fieldsOf, readAs}
-use Rattle.header.specs.Claims.{BuiltIsRead, ReadIsBuilt}
+use Rattle.header.specs.HeaderClaims.{BuiltIsRead, ReadIsBuilt}
 use Rattle.header.specs.declared.Follows.{Follows}
 use Rattle.header.specs.declared.Follows.the-variants.{Stay, ChangeDirection, EndBracket}
 use Rattle.header.specs.declared.ChainBegin.{ChainBegin}
@@ -21,7 +21,7 @@ use Rattle.header.specs.declared.Header.the-variants.{Data, Bid, Positiv
 use Rattle.header.specs.declared.HeaderBytes.{HeaderBytes}
 use Rattle.header.specs.declared.HeaderRead.the-variants.{Good, Breaks}
 use Rattle.header.specs.declared.Rule.{Rule}
-use Rattle.header.proofs.Finite.{holds, follows-from, same-header, allData, at-data}
+use Rattle.header.proofs.FiniteHeader.{holds, follows-from, same-header, allData, at-data}
 use Rattle.header.proofs.Candidates.{allCandidates, good-at}
 
 -- ---- the rules hold of every header built

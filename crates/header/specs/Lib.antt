@@ -1,5 +1,5 @@
 pub mod Weights
 pub mod Rules
 pub mod Header
-pub mod Reading
-pub mod Claims
+pub mod HeaderSteps
+pub mod HeaderClaims

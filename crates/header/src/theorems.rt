@@ -1,6 +1,6 @@
 // What is proved of headers as a whole. The function does nothing; its contract is the claims, so that a check prints its name and
 // fails if a proof goes.
-ghost use Rattle.header.specs.Claims.{BuiltIsRead, ReadIsBuilt, OnlyH1, FortyEight};
+ghost use Rattle.header.specs.HeaderClaims.{BuiltIsRead, ReadIsBuilt, OnlyH1, FortyEight};
 
 pub fn headers()
     ensures built_is_read { λ _. ⌜ BuiltIsRead ⌝ }

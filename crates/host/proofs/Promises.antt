@@ -7,7 +7,7 @@ use Rattle.end.specs.declared.ReadDone.{ReadDone}
 use Rattle.end.specs.Allocate.{allocate}
 use Rattle.end.specs.Results.{madeBy, sentBy, takenBy, copiedBy}
 use Rattle.end.specs.Confirmed.{confirmed}
-use Rattle.end.specs.Pace.{pace}
+use Rattle.end.specs.SendPacingResponse.{sendPacingResponse}
 use Rattle.end.specs.Close.{flush, confirm, prepareToReceive, deallocate}
 use Rattle.end.specs.SendData.{sendData}
 use Rattle.unit.specs.Unit.{headerIn}
@@ -28,7 +28,7 @@ abbrev pub Confirmed : End → In unit.ks → Done → Out unit.ks → Type 0
 Confirmed h x r z = madeBy r (z .0) ≡ confirmed h (x .0)
 
 abbrev pub SendPacingResponse : End → In unit.ks → Done → Out unit.ks → Type 0
-SendPacingResponse h x r z = madeBy r (z .0) ≡ pace h (x .0)
+SendPacingResponse h x r z = madeBy r (z .0) ≡ sendPacingResponse h (x .0)
 
 abbrev pub Flush : End → In sendUnit.ks → Done → Out sendUnit.ks → Type 0
 Flush h x r z = madeBy r (z .0) ≡ flush h (x .0) (x .1 .0)

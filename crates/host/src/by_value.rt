@@ -39,7 +39,9 @@ pub fn deallocate(end: End, confirm: bool, send: &[u8], unit: &mut [u8]) -> Done
 }
 
 pub fn receive_unit(end: End, taken: &[u8], inbox: &mut [u8], unit: &mut [u8]) -> Done
-    ensures { λ r. ⌜ (takenBy r (now (inbox .exit)) (now (unit .exit)) ≡ receiveUnit (r .answer .rule) end (now (taken .entry)) (now (inbox .entry)) (now (unit .entry))) × (r .answer .refusal ≡ 21 → NamesBroken (r .answer .rule) (headerIn (now (taken .entry)))) ⌝ }
+    ensures { λ r. ⌜ (takenBy r (now (inbox .exit)) (now (unit .exit))
+        ≡ receiveUnit (r .answer .rule) end (now (taken .entry)) (now (inbox .entry)) (now (unit .entry)))
+        × (r .answer .refusal ≡ 21 → NamesBroken (r .answer .rule) (headerIn (now (taken .entry)))) ⌝ }
 {
     let mut kept = end;
     let answer = in_place::receive_unit(&mut kept, taken, inbox, unit);

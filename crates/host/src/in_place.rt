@@ -11,7 +11,7 @@ ghost use Rattle.end.specs.Confirmed.{confirmed};
 ghost use Rattle.end.specs.ReceiveUnit.{receiveUnit};
 ghost use Rattle.end.specs.RuleNamed.{NamesBroken};
 ghost use Rattle.end.specs.Receive.{receive};
-ghost use Rattle.end.specs.Pace.{pace};
+ghost use Rattle.end.specs.SendPacingResponse.{sendPacingResponse};
 ghost use Rattle.end.specs.Results.{madeBy, sentBy, takenBy, copiedBy};
 ghost use Rattle.host.specs.InPlace.{doneBy, readDoneBy};
 
@@ -24,7 +24,8 @@ pub fn allocate(end: &mut End, unit: &mut [u8]) -> Answer
 }
 
 pub fn send_data(end: &mut End, bytes: &[u8], send: &mut [u8], unit: &mut [u8]) -> Answer
-    ensures { λ r. ⌜ sentBy (doneBy r (now (end .exit))) (now (send .exit)) (now (unit .exit)) ≡ sendData (now (end .entry)) (now (bytes .entry)) (now (send .entry)) (now (unit .entry)) ⌝ }
+    ensures { λ r. ⌜ sentBy (doneBy r (now (end .exit))) (now (send .exit)) (now (unit .exit))
+        ≡ sendData (now (end .entry)) (now (bytes .entry)) (now (send .entry)) (now (unit .entry)) ⌝ }
 {
     let done = end.send_data(bytes, send, unit);
     *end = done.end;
@@ -48,7 +49,8 @@ pub fn confirm(end: &mut End, send: &[u8], unit: &mut [u8]) -> Answer
 }
 
 pub fn prepare_to_receive(end: &mut End, confirm: bool, send: &[u8], unit: &mut [u8]) -> Answer
-    ensures { λ r. ⌜ madeBy (doneBy r (now (end .exit))) (now (unit .exit)) ≡ prepareToReceive confirm (now (end .entry)) (now (send .entry)) (now (unit .entry)) ⌝ }
+    ensures { λ r. ⌜ madeBy (doneBy r (now (end .exit))) (now (unit .exit))
+        ≡ prepareToReceive confirm (now (end .entry)) (now (send .entry)) (now (unit .entry)) ⌝ }
 {
     let done = end.prepare_to_receive(confirm, send, unit);
     *end = done.end;
@@ -72,7 +74,9 @@ pub fn confirmed(end: &mut End, unit: &mut [u8]) -> Answer
 }
 
 pub fn receive_unit(end: &mut End, taken: &[u8], inbox: &mut [u8], unit: &mut [u8]) -> Answer
-    ensures { λ r. ⌜ (takenBy (doneBy r (now (end .exit))) (now (inbox .exit)) (now (unit .exit)) ≡ receiveUnit (r .rule) (now (end .entry)) (now (taken .entry)) (now (inbox .entry)) (now (unit .entry))) × (r .refusal ≡ 21 → NamesBroken (r .rule) (headerIn (now (taken .entry)))) ⌝ }
+    ensures { λ r. ⌜ (takenBy (doneBy r (now (end .exit))) (now (inbox .exit)) (now (unit .exit))
+        ≡ receiveUnit (r .rule) (now (end .entry)) (now (taken .entry)) (now (inbox .entry)) (now (unit .entry)))
+        × (r .refusal ≡ 21 → NamesBroken (r .rule) (headerIn (now (taken .entry)))) ⌝ }
 {
     let done = end.receive_unit(taken, inbox, unit);
     *end = done.end;
@@ -80,7 +84,8 @@ pub fn receive_unit(end: &mut End, taken: &[u8], inbox: &mut [u8], unit: &mut [u
 }
 
 pub fn receive(end: &mut End, inbox: &mut [u8], buffer: &mut [u8]) -> ReadAnswer
-    ensures { λ r. ⌜ copiedBy (readDoneBy r (now (end .exit))) (now (inbox .exit)) (now (buffer .exit)) ≡ receive (now (end .entry)) (now (inbox .entry)) (now (buffer .entry)) ⌝ }
+    ensures { λ r. ⌜ copiedBy (readDoneBy r (now (end .exit))) (now (inbox .exit)) (now (buffer .exit))
+        ≡ receive (now (end .entry)) (now (inbox .entry)) (now (buffer .entry)) ⌝ }
 {
     let done = end.receive(inbox, buffer);
     *end = done.end;
@@ -88,7 +93,7 @@ pub fn receive(end: &mut End, inbox: &mut [u8], buffer: &mut [u8]) -> ReadAnswer
 }
 
 pub fn send_pacing_response(end: &mut End, unit: &mut [u8]) -> Answer
-    ensures { λ r. ⌜ madeBy (doneBy r (now (end .exit))) (now (unit .exit)) ≡ pace (now (end .entry)) (now (unit .entry)) ⌝ }
+    ensures { λ r. ⌜ madeBy (doneBy r (now (end .exit))) (now (unit .exit)) ≡ sendPacingResponse (now (end .entry)) (now (unit .entry)) ⌝ }
 {
     let done = end.send_pacing_response(unit);
     *end = done.end;

@@ -1,8 +1,8 @@
 // The laboratory gives one record and ends; the blender takes the unit, reads the record and prints its data. Both make their calls
 // as the host does, on a record that is changed in place.
-use end::Session;
 use host::by_value;
 use libc::STDOUT_FILENO;
+use session::Session;
 use session::open;
 
 // Window 3 and maximum RU 64 both ways; the role is 0 for the first speaker, 1 for the bidder.

@@ -13,14 +13,14 @@ use Rattle.header.specs.declared.Follows.{Follows}
 use Rattle.header.specs.declared.Follows.the-variants.{Stay, ChangeDirection, EndBracket}
 use Rattle.logical_record.specs.declared.Position.{Position}
 use Rattle.logical_record.specs.declared.Position.the-variants.{Between, AfterFirst, Remaining}
-use Rattle.control.specs.Tests.{roleNumber, stateNumber, markNumber}
+use Rattle.control.specs.StateTests.{roleNumber, stateNumber, markNumber}
 use Rattle.control.specs.declared.Role.{Role}
 use Rattle.control.specs.declared.Role.the-variants.{FirstSpeaker, Bidder}
 use Rattle.control.specs.declared.State.{State}
 use Rattle.control.specs.declared.State.the-variants.{Reset, Send, Receive, ConfirmOwed, ConfirmAwaited}
 use Rattle.control.specs.declared.WhatReceived.{WhatReceived}
 use Rattle.control.specs.declared.WhatReceived.the-variants as mark
-use Rattle.sides.specs.Opening.{roleOf}
+use Rattle.control.specs.StateTests.{roleOf}
 use Rattle.image.specs.Codes.{stateOf, followsNumber, followsOf, markOf}
 use Rattle.image.specs.ImageParts.{flagByte, numberBytes, placeKind, placeValue, placeBytes, placeOf, placeFits, firstByte}
 use Rattle.bools.proofs.Tests.{both}

@@ -6,7 +6,7 @@ use mathlib.Core.List.{List, [], _∷_}
 use Prim.Native.Nat.{ℕ, zero, suc}
 use native.Mathlib.Omega.{arith}
 use lib.ListN.{length, getD}
-use Rattle.answers.specs.Questions.{allOf}
+use Rattle.answers.specs.FirstNo.{allOf}
 use Rattle.bools.proofs.Tests.{both}
 
 -- n elements from `at` on; at numbers that are written out it computes to a list that is written out

@@ -5,13 +5,13 @@ use mathlib.Core.Bool.{Bool, cond, _&&_}
 use mathlib.Core.List.{List, [], _∷_, _++_}
 use lib.Dec.{eqb, leb}
 use lib.ListN.{length}
-use Rattle.control.specs.Tests.{roleNumber, stateNumber, markNumber}
+use Rattle.control.specs.StateTests.{roleNumber, stateNumber, markNumber}
 use Rattle.control.specs.declared.Control.{Control}
 use Rattle.answers.specs.Answers.{BAD-BUFFER, BAD-RECORD}
-use Rattle.sides.specs.Opening.{roleOf}
+use Rattle.control.specs.StateTests.{roleOf}
 use Rattle.end.specs.declared.End.{End}
-use Rattle.sides.specs.declared.Sending.{Sending}
-use Rattle.sides.specs.declared.Receiving.{Receiving}
+use Rattle.sending.specs.declared.Sending.{Sending}
+use Rattle.receiving.specs.declared.Receiving.{Receiving}
 use Rattle.image.specs.Codes.{stateOf, followsNumber, followsOf, markOf}
 use Rattle.image.specs.ImageParts.{byteAt, flagByte, flagAt, flagGood, numberBytes, numberAt, windowBytes, windowAt, placeBytes, placeAt, placeGood}
 use Rattle.image.specs.declared.ImageRead.{ImageRead}

@@ -5,8 +5,7 @@ use control::State;
 use control::WhatReceived;
 use header::Follows;
 ghost use mathlib.Core.Path.{_≡_};
-ghost use Rattle.control.specs.Tests.{roleNumber, stateNumber, markNumber};
-ghost use Rattle.sides.specs.Opening.{roleOf};
+ghost use Rattle.control.specs.StateTests.{roleNumber, stateNumber, markNumber};
 ghost use Rattle.image.specs.Codes.{stateOf, followsNumber, followsOf, markOf};
 ghost use Rattle.image.specs.ImageParts.{flagByte};
 
@@ -23,16 +22,6 @@ pub fn role_code(role: Role) -> u8
     match role {
         Role::FirstSpeaker => 0,
         Role::Bidder => 1,
-    }
-}
-
-pub fn role_of(code: u8) -> Role
-    ensures { λ r. ⌜ r ≡ roleOf code ⌝ }
-{
-    if code == 0 {
-        Role::FirstSpeaker
-    } else {
-        Role::Bidder
     }
 }
 

@@ -1,7 +1,7 @@
 -- Bytes are conserved in order: those accepted are those read, then those in the inbox, on the line and in the send buffer.
 -- Assumes nothing.
 use Rattle.joined.proofs.JoinedWords.{ℕ, _+_, _-_, _≤_, length, take, drop, length-drop, take-take, length-take-le, List, [], _∷_, _++_, append-nil}
-use Rattle.joined.proofs.JoinedWords.{_≡_, sym, ap, _∙_, front, written, DataHeader, Header, unitOf, headerTaken, ruTaken, heldBytes, gone, Station}
+use Rattle.joined.proofs.JoinedWords.{_≡_, sym, ap, _∙_, front, written, DataHeader, Header, unitOf, headerReceived, ruReceived, heldBytes, gone, Station}
 use Rattle.joined.proofs.JoinedWords.{spilledRu, sortOf, dataOf, bytesOnLine}
 use mathlib.Core.List.{append-assoc}
 use lib.ListN.{take-append-drop}
@@ -43,7 +43,7 @@ carried-read {acc} {held} {read} {inbox} {line} first rest e c = record { bytes 
 
 -- the oldest unit is taken, and its data joins the inbox
 pub carried-taken : {acc held read inbox : List ℕ} {line : List (List ℕ)} {u : List ℕ}
-    → Carried acc held (u ∷ line) read inbox → Carried acc held line read (inbox ++ dataOf (sortOf (headerTaken u)) (ruTaken u))
+    → Carried acc held (u ∷ line) read inbox → Carried acc held line read (inbox ++ dataOf (sortOf (headerReceived u)) (ruReceived u))
 unfolding bytesOnLine
 carried-taken {acc} {held} {read} {inbox} {line} {u} c = record { bytes = c .bytes ∙ rw (data-ru u) (simp append-assoc) }
 

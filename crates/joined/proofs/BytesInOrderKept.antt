@@ -3,8 +3,8 @@
 use Rattle.bools.proofs.Cases.{split}
 use Rattle.joined.proofs.JoinedWords.{ℕ, _-_, _≤_, eqb, length, take, drop, length-drop, Bool, true, false, cond, List, [], _∷_, _++_, append-nil}
 use Rattle.joined.proofs.JoinedWords.{_≡_, refl, sym, ap, le-trans, arith, front, Continues, Last, DataHeader, Follows, Header, fixedRu}
-use Rattle.joined.proofs.JoinedWords.{bidRu, unitOf, numberIn, paced, bidAnswer, beginOf, readRefused, requestTaken, requestMade, nextNumber}
-use Rattle.joined.proofs.JoinedWords.{bidMade, lastMade, bytesRead, copyCount, headerTaken, ruTaken, dataJoined, bidAnswered}
+use Rattle.joined.proofs.JoinedWords.{bidRu, unitOf, numberIn, paced, bidAnswer, beginOf, readRefused, requestReceived, requestMade, nextNumber}
+use Rattle.joined.proofs.JoinedWords.{bidMade, lastMade, bytesRead, copyCount, headerReceived, ruReceived, dataJoined, bidAnswered}
 use Rattle.joined.proofs.JoinedWords.{creditRaised, recordGood, dataHeader, heldBytes, bytesKept, bytesSpilled, gone, facts, Station, Reply, Verb}
 use Rattle.joined.proofs.JoinedWords.{allocate-cases, bidNumber, close-cases, confirmed-cases, pace-cases, read-cases, send-cases, spilledRu}
 use Rattle.joined.proofs.JoinedWords.{take-cases, ReadAsked, SendAsked, readCount, spilledUnit, Sort, sortOf, answer-sort, dataOf, Lane, normal, acts}
@@ -14,7 +14,7 @@ use Rattle.header.specs.declared.Header.the-variants.{Bid, Confirmation, Pacing
 use Rattle.end.specs.Receive.{inboxMoved}
 use Rattle.end.specs.Receive as R
 use Rattle.joined.specs.Histories as H
-use Rattle.end.proofs.Within.{held-in-inbox}
+use Rattle.end.proofs.RecordGood.{held-in-inbox}
 use Rattle.joined.proofs.CallsOnLanes.{Laned, LanedTake}
 use Rattle.joined.proofs.OneEnd.{refused-accepts}
 use Rattle.joined.proofs.BytesInOrder.{Carried, carried-kept, carried-sent, carried-other, carried-read, carried-taken, held-more, held-rest}
@@ -66,7 +66,7 @@ module _ (s : Station) (xs : Log) (line : List (List ℕ)) (read inbox : List �
       (λ g a w k. other (bidNumber (s .end)) (Bid (paced (s .end .sending .window))) bidRu refl)
   bytes-acts Verb.confirmed =
       confirmed-cases (Laned (After Verb.confirmed)) s (λ q n. refuses Verb.confirmed q [] n) (λ g a. other (s .end .owed) Confirmation [] refl)
-  bytes-acts Verb.pace = pace-cases (Laned (After Verb.pace)) s (λ q n. refuses Verb.pace q [] n) (λ g a. other 0 PacingResponse [] refl)
+  bytes-acts Verb.sendPacingResponse = pace-cases (Laned (After Verb.sendPacingResponse)) s (λ q n. refuses Verb.sendPacingResponse q [] n) (λ g a. other 0 PacingResponse [] refl)
   bytes-acts (Verb.sendData bytes) =
       let o = s .end .sending in
       send-cases (Laned (After (Verb.sendData bytes))) s bytes (λ q n. refuses (Verb.sendData bytes) q [] n)
@@ -144,7 +144,7 @@ module _ (s : Station) (xs : Log) (acc held : List ℕ) (back : List (List ℕ))
     unfolding acts H.bytesRead bytesKept bytesSpilled bytesRead bidMade lastMade R.markRead
     bytes-in-acts Verb.allocate = allocate-cases (Laned (AfterIn Verb.allocate)) s (λ q n. quiet-in) (λ g a w. quiet-in) (λ g a w k. quiet-in)
     bytes-in-acts Verb.confirmed = confirmed-cases (Laned (AfterIn Verb.confirmed)) s (λ q n. quiet-in) (λ g a. quiet-in)
-    bytes-in-acts Verb.pace = pace-cases (Laned (AfterIn Verb.pace)) s (λ q n. quiet-in) (λ g a. quiet-in)
+    bytes-in-acts Verb.sendPacingResponse = pace-cases (Laned (AfterIn Verb.sendPacingResponse)) s (λ q n. quiet-in) (λ g a. quiet-in)
     bytes-in-acts (Verb.sendData bytes) = send-cases (Laned (AfterIn (Verb.sendData bytes))) s bytes (λ q n. quiet-in) (λ a k. quiet-in) (λ a k h. quiet-in)
     bytes-in-acts (Verb.close f b) = close-cases (Laned (AfterIn (Verb.close f b))) s f b (λ q n. quiet-in) (λ a n. quiet-in) (λ a n k. quiet-in)
     bytes-in-acts (Verb.receive buffer) =
@@ -155,15 +155,15 @@ module _ (s : Station) (xs : Log) (acc held : List ℕ) (back : List (List ℕ))
     LeftIn t = Carried acc held (cond (t .removed) back (u ∷ back)) (H.bytesRead (took normal u (t .answer) (t .sent) ∷ xs)) (bytesInInbox (t .end))
 
     -- what is in the inbox after a unit of the sort k
-    joined-in : (k : Sort) → sortOf (headerTaken u) ≡ k → Carried acc held back (H.bytesRead xs) (bytesInInbox s ++ dataOf k (ruTaken u))
+    joined-in : (k : Sort) → sortOf (headerReceived u) ≡ k → Carried acc held back (H.bytesRead xs) (bytesInInbox s ++ dataOf k (ruReceived u))
     joined-in k e = rw e at (carried-taken c)
 
-    no-data : (k : Sort) → sortOf (headerTaken u) ≡ k → dataOf k (ruTaken u) ≡ [] → Carried acc held back (H.bytesRead xs) (bytesInInbox s)
+    no-data : (k : Sort) → sortOf (headerReceived u) ≡ k → dataOf k (ruReceived u) ≡ [] → Carried acc held back (H.bytesRead xs) (bytesInInbox s)
     no-data k e z = rw (z, append-nil (bytesInInbox s)) at (joined-in k e)
 
     pub bytes-in-takes : (naming : List ℕ → ℕ) → LeftIn (takes naming normal s u)
-    unfolding takes H.bytesRead dataJoined bidAnswered creditRaised requestTaken
+    unfolding takes H.bytesRead dataJoined bidAnswered creditRaised requestReceived
     bytes-in-takes naming =
         take-cases (LanedTake LeftIn) naming s u (λ q w n. rw n c)
-        (λ d a e k. rw (held-more (s .end .receiving .held) (ruTaken u) (s .inbox) (inbox-room s (a .inbox) (a .good))) (joined-in _ e))
+        (λ d a e k. rw (held-more (s .end .receiving .held) (ruReceived u) (s .inbox) (inbox-room s (a .inbox) (a .good))) (joined-in _ e))
         (λ p a e k m. no-data _ e refl) (λ x a e m. no-data _ e refl) (λ a e k. no-data _ e refl)

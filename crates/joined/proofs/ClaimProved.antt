@@ -7,7 +7,7 @@ use Rattle.joined.proofs.JoinedWords.{Buffers, OpeningAccepted, openedW
 use Rattle.joined.proofs.JoinedWords.{bytesInInbox, requestsMade, pacingResponsesTaken, breaches, badReads, CompleteIsRight, NoneCrosses, At, Lines}
 use Rattle.logical_record.specs.Records.{wholeRecords}
 use Rattle.logical_record.proofs.Splits.{whole-records-append}
-use Rattle.sides.specs.Opening.{roleOf}
+use Rattle.control.specs.StateTests.{roleOf}
 use Rattle.joined.specs.Ends.{JoinedOpenings}
 use Rattle.joined.specs.Histories.{bytesRead}
 use Rattle.joined.specs.Claim.{JoinedEnd, after, BytesConserved, Joint, Claim, RecordsArrive, ReadsRight, TheRecords}

@@ -6,12 +6,12 @@ use Rattle.joined.proofs.JoinedWords.{EndBracket, Header, agree, isFirs
 use Rattle.joined.proofs.JoinedWords.{FirstSpeaker, Bidder, State, WhatReceived, afterLast, afterOwed, markOf, End}
 use Rattle.header.specs.Header.{confirms}
 use Rattle.header.specs.declared.Header.the-variants.{Data, Bid, PositiveBidResponse, NegativeBidResponse, Confirmation, PacingResponse}
-use Rattle.control.specs.Tests.{isConfirmOwed}
+use Rattle.control.specs.StateTests.{isConfirmOwed}
 use Rattle.control.specs.declared.State.the-variants.{Reset, Send, Receive, ConfirmOwed, ConfirmAwaited}
 use Rattle.control.specs.declared.WhatReceived.the-variants as mark
 use Rattle.joined.proofs.LineAutomaton.{Ran, ok, stuck, ok-is, went}
 use Rattle.bools.proofs.Finite.{pairs, bools}
-use Rattle.control.proofs.Finite.{roles, states}
+use Rattle.control.proofs.FiniteControl.{roles, states}
 use Rattle.joined.proofs.TwoLines.{other, other-other, Automaton, Led}
 
 -- ---- floors

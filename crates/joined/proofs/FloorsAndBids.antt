@@ -2,10 +2,10 @@
 -- Assumes nothing.
 use Rattle.joined.proofs.JoinedWords.{ℕ, eqb, Bool, true, false, not, cond, _&&_, _||_, List, [], _∷_, _≡_, refl, sym, ap, _∙_, subst, never, on, left}
 use Rattle.joined.proofs.JoinedWords.{beginsBracket, DataHeader, Header, numberIn, confirmationFits, isFirstSpeaker, isBidder, isReset, isReceive}
-use Rattle.joined.proofs.JoinedWords.{isConfirmAwaited, isNothing, isSend, Role, FirstSpeaker, Bidder, State, markOf, headerTaken, recordGood, End}
+use Rattle.joined.proofs.JoinedWords.{isConfirmAwaited, isNothing, isSend, Role, FirstSpeaker, Bidder, State, markOf, headerReceived, recordGood, End}
 use Rattle.joined.proofs.JoinedWords.{facts, freshEnd}
 use Rattle.header.specs.declared.Header.the-variants.{Data, Bid, PositiveBidResponse, NegativeBidResponse, Confirmation}
-use Rattle.control.specs.Questions.{bracketFits, bidFits, stateFits, grantFits, refusalFits}
+use Rattle.control.specs.Questions.{bracketFits, bidFits, stateFits, positiveResponseFits, negativeResponseFits}
 use Rattle.control.specs.declared.State.the-variants.{Send}
 use Rattle.joined.proofs.LineAutomaton.{ok, stuck}
 use Rattle.bools.proofs.Tests.{or-left}
@@ -69,24 +69,24 @@ floor-in e s p = ap (λ (k : State). floorAt k (e .control .due) (e .control .fo
 
 module _ {r : Role} {e f : End} {u : List ℕ} {line back : List (List ℕ)} (i : Order r e f line (u ∷ back)) where
   pub data-moves :
-      (d : DataHeader) → headerTaken u ≡ Data d
+      (d : DataHeader) → headerReceived u ≡ Data d
       → (dataMoves r (floorOf e) (beginsBracket (d .begins)) ≡ true)
       × Floors r (afterMarkFloor (markOf (d .ends)) (numberIn u)) (floorOf f) line back
   data-moves d h = led-goes (dataMoves r (floorOf e) (beginsBracket (d .begins))) (afterMarkFloor (markOf (d .ends)) (numberIn u)) h refl (i .floors)
 
-  pub bid-moves : (b : Bool) → headerTaken u ≡ Bid b → (bidMoves r (bidOf e) ≡ true) × Bids r (some (numberIn u)) (bidOf f) line back
+  pub bid-moves : (b : Bool) → headerReceived u ≡ Bid b → (bidMoves r (bidOf e) ≡ true) × Bids r (some (numberIn u)) (bidOf f) line back
   bid-moves b h = led-goes (bidMoves r (bidOf e)) (some (numberIn u)) h refl (i .bids)
 
-  pub grant-moves : headerTaken u ≡ PositiveBidResponse → (grantMoves r (floorOf e) ≡ true) × Floors r send (floorOf f) line back
+  pub grant-moves : headerReceived u ≡ PositiveBidResponse → (grantMoves r (floorOf e) ≡ true) × Floors r send (floorOf f) line back
   grant-moves h = led-goes (grantMoves r (floorOf e)) send h refl (i .floors)
 
   -- a grant and a bid refusal answer the bid alike
-  pub bid-answered : (h : Header) → ((p : Pending) (n : ℕ) → bidOn r p h n ≡ cond (answerMoves r p n) (ok none) stuck) → headerTaken u ≡ h
+  pub bid-answered : (h : Header) → ((p : Pending) (n : ℕ) → bidOn r p h n ≡ cond (answerMoves r p n) (ok none) stuck) → headerReceived u ≡ h
       → (answerMoves r (bidOf e) (numberIn u) ≡ true) × Bids r none (bidOf f) line back
   bid-answered h on e′ = led-goes (answerMoves r (bidOf e) (numberIn u)) none e′ (on (bidOf e) (numberIn u)) (i .bids)
 
   pub confirmation-moves :
-      headerTaken u ≡ Confirmation
+      headerReceived u ≡ Confirmation
       → (waitsFor (floorOf e) (numberIn u) ≡ true) × Floors r (confirmedFloor (floorOf e)) (floorOf f) line back
   confirmation-moves h = led-goes (waitsFor (floorOf e) (numberIn u)) (confirmedFloor (floorOf e)) h refl (i .floors)
 
@@ -108,7 +108,7 @@ module _ {r : Role} {e f : End} {u : List ℕ} {line back : List (List ℕ)} (i 
 
   -- 25 and 26, of data
   pub order-fits-data :
-      (d : DataHeader) → isNothing (e .control .mark) ≡ true → headerTaken u ≡ Data d
+      (d : DataHeader) → isNothing (e .control .mark) ≡ true → headerReceived u ≡ Data d
       → (bracketFits (beginsBracket (d .begins)) (e .control) ≡ true) × (stateFits (beginsBracket (d .begins)) (e .control) ≡ true)
   order-fits-data d m h =
       let c = e .control in
@@ -116,20 +116,20 @@ module _ {r : Role} {e f : End} {u : List ℕ} {line back : List (List ℕ)} (i 
       data-fits (c .role) (c .state) (beginsBracket (d .begins)) (rw (i .role, ← x .0, ← x .1) (data-moves d h .0))
 
   -- 25, of a bid
-  pub order-fits-bid : (b : Bool) → headerTaken u ≡ Bid b → bidFits (e .control) ≡ true
+  pub order-fits-bid : (b : Bool) → headerReceived u ≡ Bid b → bidFits (e .control) ≡ true
   order-fits-bid b h = rw (i .role) (bid-speaker r (bidOf e) (bid-moves b h .0))
 
   -- 28
   pub order-fits-grant :
-      isNothing (e .control .mark) ≡ true → headerTaken u ≡ PositiveBidResponse → grantFits (e .control) && eqb (numberIn u) (e .bidding) ≡ true
+      isNothing (e .control .mark) ≡ true → headerReceived u ≡ PositiveBidResponse → positiveResponseFits (e .control) && eqb (numberIn u) (e .bidding) ≡ true
   order-fits-grant m h =
       rw (← unmarked m .0, left (isResetFloor (floorOf e)) (isBidder r) (grant-moves h .0)) (flagged (bid-answered PositiveBidResponse (λ p n. refl) h .0))
 
-  pub order-fits-refusal : headerTaken u ≡ NegativeBidResponse → refusalFits (e .control) && eqb (numberIn u) (e .bidding) ≡ true
+  pub order-fits-refusal : headerReceived u ≡ NegativeBidResponse → negativeResponseFits (e .control) && eqb (numberIn u) (e .bidding) ≡ true
   order-fits-refusal h = flagged (bid-answered NegativeBidResponse (λ p n. refl) h .0)
 
   pub order-fits-confirmation :
-      isNothing (e .control .mark) ≡ true → headerTaken u ≡ Confirmation → confirmationFits (e .control) && eqb (numberIn u) (e .sending .number) ≡ true
+      isNothing (e .control .mark) ≡ true → headerReceived u ≡ Confirmation → confirmationFits (e .control) && eqb (numberIn u) (e .sending .number) ≡ true
   order-fits-confirmation m h = sym (unmarked m .2) ∙ confirmation-moves h .0
 
 -- ---- never both in Send

@@ -4,19 +4,19 @@ use Rattle.joined.proofs.JoinedWords.{ℕ, eq-eqb, eqb, Bool, true, fal
 use Rattle.joined.proofs.JoinedWords.{on, left, or-right, beginsBracket, ChainEnd, Continues, Last, Follows, Header, fixedRu, bidRu, unitOf, numberIn}
 use Rattle.joined.proofs.JoinedWords.{paced, confirmationFits, isFirstSpeaker, isBidder, isReset, isReceive, isNothing, isSend, Control, Role}
 use Rattle.joined.proofs.JoinedWords.{FirstSpeaker, Bidder, WhatReceived, send-is, afterLast, afterOwed, markOf, beginOf, closed, spilled}
-use Rattle.joined.proofs.JoinedWords.{confirmationMade, dataTaken, requestTaken, requestMade, nextNumber, bidMade, lastMade, bytesRead, headerTaken}
-use Rattle.joined.proofs.JoinedWords.{ruTaken, dataJoined, bidAnswered, creditRaised, recordGood, dataHeader, heldBytes, bytesKept, bytesSpilled, End}
+use Rattle.joined.proofs.JoinedWords.{confirmationMade, dataReceived, requestReceived, requestMade, nextNumber, bidMade, lastMade, bytesRead, headerReceived}
+use Rattle.joined.proofs.JoinedWords.{ruReceived, dataJoined, bidAnswered, creditRaised, recordGood, dataHeader, heldBytes, bytesKept, bytesSpilled, End}
 use Rattle.joined.proofs.JoinedWords.{facts, Station, Reply, Verb, allocate-cases, bidNumber, close-cases, confirmed-cases, pace-cases, read-cases}
 use Rattle.joined.proofs.JoinedWords.{send-cases, spilledRu, TakeAsked, Lane, normal, acts, takes, Acted, Took}
 use Rattle.unit.specs.Ru.{positiveRu, negativeRu}
 use Rattle.header.specs.declared.Header.the-variants.{Data, Bid, PositiveBidResponse, NegativeBidResponse, Confirmation, PacingResponse}
 use Rattle.control.specs.Questions.{mayAllocate, maySend}
-use Rattle.control.specs.Parts.{setState, setBid, setMark}
-use Rattle.transitions.specs.Transitions.{allocated, afterMark, markAnswered, bidTaken, grantTaken, refusalTaken, confirmationTaken}
+use Rattle.control.specs.FieldChanged.{setState, setBid, setMark}
+use Rattle.transitions.specs.Transitions.{allocated, afterMark, markAnswered, bidReceived, positiveResponseReceived, negativeResponseReceived, confirmationReceived}
 use Rattle.control.specs.declared.State.the-variants.{Reset, Send, Receive, ConfirmOwed, ConfirmAwaited}
 use Rattle.control.specs.declared.WhatReceived.the-variants as mark
 use Rattle.end.specs.Outcome.{withControl, withSending, withReceiving, withBidding}
-use Rattle.sides.specs.declared.Receiving.{Receiving}
+use Rattle.receiving.specs.declared.Receiving.{Receiving}
 use Rattle.joined.proofs.LineAutomaton.{ok, goes}
 use Rattle.bools.proofs.Tests.{right, not-true}
 use Rattle.joined.proofs.TwoLines.{other, led-as, led-past, led-took, led-moved, led-still}
@@ -156,7 +156,7 @@ module _ (r : Role) (s : Station) (f : End) (line back : List (List ℕ)) (i : O
       (led-moved (e .owed) Confirmation [] (afterOwe (c .follows)) refl (confirmed-moves r (c .follows) (e .owed))
       (led-as (floor-in e ConfirmOwed p) (i .floors))))
       (led-past (e .owed) Confirmation [] (λ v. refl) (i .bids)) i)
-  order-acts Verb.pace =
+  order-acts Verb.sendPacingResponse =
       pace-cases (Laned After) s (λ q n. rw append-nil i)
       (λ g a. order-with refl (led-past 0 PacingResponse [] (λ v. refl) (i .floors)) (led-past 0 PacingResponse [] (λ v. refl) (i .bids)) i)
   order-acts (Verb.sendData bytes) =
@@ -208,7 +208,7 @@ module _ (r : Role) (s : Station) (f : End) (u : List ℕ) (line back : List (Li
 
   -- a bid, by whether the end is in Reset
   took-bid :
-      (idle b : Bool) (v : Receiving) → isReset (s .end .control .state) ≡ idle → isNothing (s .end .control .mark) ≡ true → headerTaken u ≡ Bid b
+      (idle b : Bool) (v : Receiving) → isReset (s .end .control .state) ≡ idle → isNothing (s .end .control .mark) ≡ true → headerReceived u ≡ Bid b
       → let h = cond idle PositiveBidResponse NegativeBidResponse in
       Order r (withReceiving v (withControl (cond idle (setState Receive (s .end .control)) (s .end .control)) (s .end))) f
       (line ++ (unitOf (numberIn u) h (fixedRu h) ∷ [])) back
@@ -226,15 +226,15 @@ module _ (r : Role) (s : Station) (f : End) (u : List ℕ) (line back : List (Li
       order-with refl (led-past n NegativeBidResponse negativeRu (λ w. refl) (led-took (floorOf e) h refl (i .floors)))
       (answered-bids r (bidOf e) n NegativeBidResponse negativeRu (goes (eqb n n) none (eq-eqb n n refl)) (bid-moves i b h)) i
 
-  took-kind : (h : Header) → headerTaken u ≡ h → TakeAsked s u → LanedTake Left (tookKind s h (numberIn u) (ruTaken u))
-  unfolding dataJoined dataTaken bidAnswered bidTaken creditRaised grantTaken refusalTaken confirmationTaken
+  took-kind : (h : Header) → headerReceived u ≡ h → TakeAsked s u → LanedTake Left (tookKind s h (numberIn u) (ruReceived u))
+  unfolding dataJoined dataReceived bidAnswered bidReceived creditRaised positiveResponseReceived negativeResponseReceived confirmationReceived
   took-kind (Data d) h a =
       let e = s .end in
       rw append-nil
       (order-with refl (led-as (sym (mark-floor (d .ends) (numberIn u) (e .owed))) (data-moves i d h .1)) (led-took (bidOf e) h refl (i .bids)) i)
   took-kind (Bid b) h a =
       let e = s .end in
-      took-bid (isReset (e .control .state)) b (requestTaken (e .receiving .held) (e .receiving .taken) (e .receiving)) refl (a .unmarked) h
+      took-bid (isReset (e .control .state)) b (requestReceived (e .receiving .held) (e .receiving .taken) (e .receiving)) refl (a .unmarked) h
   took-kind PositiveBidResponse h a =
       let e = s .end in
       let p = grant-moves i h in
@@ -262,4 +262,4 @@ module _ (r : Role) (s : Station) (f : End) (u : List ℕ) (line back : List (Li
 
   pub order-takes : (naming : List ℕ → ℕ) → Left (takes naming normal s u)
   unfolding takes
-  order-takes naming = kind-cases (LanedTake Left) naming s u (λ q w n. rw (n, append-nil) i) (λ a k. took-kind (headerTaken u) refl a)
+  order-takes naming = kind-cases (LanedTake Left) naming s u (λ q w n. rw (n, append-nil) i) (λ a k. took-kind (headerReceived u) refl a)

@@ -21,41 +21,42 @@ pub use Rattle.header.specs.{declared.ChainBegin.the-variants.First, declared.C
 pub use Rattle.header.specs.{declared.ChainEnd.the-variants.Continues, declared.ChainEnd.the-variants.Last, declared.DataHeader.DataHeader}
 pub use Rattle.header.specs.{declared.Follows.Follows, declared.Follows.the-variants.Stay, declared.Follows.the-variants.ChangeDirection}
 pub use Rattle.header.specs.{declared.Follows.the-variants.EndBracket, declared.Header.Header}
-pub use Rattle.unit.specs.{Ru.marks, Ru.fixedRu, Ru.bidRu, Unit.RU-START, Unit.unitOf, Unit.numberIn, Unit.headerIn}
+pub use Rattle.unit.specs.{Ru.marks, Ru.fixedRu, Ru.bidRu, Unit.RU-START, Unit.unitOf, Unit.numberIn, Unit.headerIn, Sequence.nextNumber}
 unfoldable pub use Rattle.unit.specs.{Ru.ruGood}
-pub use Rattle.unit.proofs.{Units.unit-number}
+pub use Rattle.unit.proofs.{UnitLaws.unit-number}
 pub use Rattle.pacing.specs.{Pacing.hasCredit, Pacing.paced}
 unfoldable pub use Rattle.pacing.specs.{Pacing.advanced, Pacing.answered, Pacing.credit}
-pub use Rattle.control.specs.{Questions.confirmationFits, Tests.agree, Tests.isFirstSpeaker, Tests.isBidder, Tests.isReset, Tests.isReceive}
-pub use Rattle.control.specs.{Tests.isConfirmAwaited, Tests.isNothing, Tests.isSend, declared.Control.Control, declared.Role.Role}
-pub use Rattle.control.specs.{declared.Role.the-variants.FirstSpeaker, declared.Role.the-variants.Bidder, declared.State.State}
+pub use Rattle.control.specs.{Questions.confirmationFits, StateTests.agree, StateTests.isFirstSpeaker, StateTests.isBidder, StateTests.isReset}
+pub use Rattle.control.specs.{StateTests.isReceive, StateTests.isConfirmAwaited, StateTests.isNothing, StateTests.isSend, declared.Control.Control}
+pub use Rattle.control.specs.{declared.Role.Role, declared.Role.the-variants.FirstSpeaker, declared.Role.the-variants.Bidder, declared.State.State}
 pub use Rattle.control.specs.{declared.WhatReceived.WhatReceived}
 pub use Rattle.control.proofs.{States.send-is}
 pub use Rattle.transitions.specs.{Transitions.bidAnswer, Transitions.afterLast, Transitions.afterOwed, Transitions.markOf, Transitions.beginOf}
-unfoldable pub use Rattle.transitions.specs.{Transitions.closed, Transitions.spilled, Transitions.confirmationMade, Transitions.dataTaken}
+unfoldable pub use Rattle.transitions.specs.{Transitions.closed, Transitions.spilled, Transitions.confirmationMade, Transitions.dataReceived}
 pub use Rattle.answers.specs.{Answers.readRefused, Answers.accepted}
-unfoldable pub use Rattle.sides.specs.{Receiving.requestTaken, Sending.requestMade}
-pub use Rattle.sides.specs.{Shared.nextNumber, declared.Session.Session}
-pub use Rattle.reading.specs.{Reading.restBytes}
+unfoldable pub use Rattle.receiving.specs.{Receiving.requestReceived}
+pub use Rattle.receiving.specs.{BytesRead.restBytes}
+unfoldable pub use Rattle.sending.specs.{Sending.requestMade}
+pub use Rattle.session.specs.{declared.Session.Session, Opening.freshEnd}
 unfoldable pub use Rattle.end.specs.{Allocate.bidMade, Close.lastMade, Receive.bytesRead, Receive.copyCount, ReceiveUnit.dataJoined}
-unfoldable pub use Rattle.end.specs.{ReceiveUnit.bidAnswered, ReceiveUnit.creditRaised, ReceiveUnit.takeRefusal, Requests.dataHeader, SendData.bytesKept}
-unfoldable pub use Rattle.end.specs.{SendData.bytesSpilled}
-pub use Rattle.end.specs.{Receive.recordRest, ReceiveUnit.headerTaken, ReceiveUnit.ruTaken, Record.recordGood, SendData.heldBytes, SendData.gone}
-pub use Rattle.end.specs.{declared.End.End}
-pub use Rattle.end.proofs.{Within.facts}
-pub use Rattle.session.specs.{Opening.freshEnd}
+unfoldable pub use Rattle.end.specs.{ReceiveUnit.bidAnswered, ReceiveUnit.creditRaised, ReceiveUnit.receiveUnitRefusal, Requests.dataHeader}
+unfoldable pub use Rattle.end.specs.{SendData.bytesKept, SendData.bytesSpilled}
+pub use Rattle.end.specs.{Receive.recordRest, ReceiveUnit.headerReceived, ReceiveUnit.ruReceived, Record.recordGood, SendData.heldBytes}
+pub use Rattle.end.specs.{SendData.gone, declared.End.End}
+pub use Rattle.end.proofs.{RecordGood.facts}
 pub use Rattle.calls.specs.{Calls.Station, Calls.Reply, Calls.Verb, UnitCounts.count, UnitCounts.isPacingResponse}
 unfoldable pub use Rattle.calls.specs.{UnitCounts.requestsAmong}
 pub use Rattle.calls.proofs.{CallCases.allocate-cases, CallCases.bidNumber, CallCases.close-cases, CallCases.confirmed-cases, CallCases.pace-cases}
 pub use Rattle.calls.proofs.{CallCases.read-cases, CallCases.send-cases, CallCases.spilledRu, CallCases.take-cases, CallCases.ReadAsked}
 pub use Rattle.calls.proofs.{CallCases.SendAsked, CallCases.readCount, CallCases.spilledUnit, CallCases.control-within, CallCases.TakeAsked}
-pub use Rattle.calls.proofs.{ControlMoved.allocate-moves, ControlMoved.mark-moves, RecordStaysGood.opened-is, UnitsByHeader.Sort, UnitsByHeader.sortOf}
-pub use Rattle.calls.proofs.{UnitsByHeader.isAsking, UnitsByHeader.taken-header, UnitsByHeader.isPacing, UnitsByHeader.bitOf, UnitsByHeader.answer-sort}
-pub use Rattle.calls.proofs.{UnitsByHeader.dataOf}
-pub use Rattle.joined.specs.{Claim.Pair, Ends.Lane, Ends.normal, Ends.sameLane, Ends.Buffers, Ends.OpeningAccepted, Ends.openedWith, Ends.openedBoth}
-pub use Rattle.joined.specs.{Ends.onNormal, Histories.bytesInSendBuffer, Histories.Log, Histories.bytesInInbox, Histories.isBreach, Joined.Acted}
-pub use Rattle.joined.specs.{Joined.Took, Joined.At, Joined.Call, Joined.act, Joined.first, Joined.second, Joined.Both, Joined.Local, Joined.Event}
-pub use Rattle.joined.specs.{Joined.took, Joined.takeOldest, Joined.apply, Joined.run, Joined.acted, Lanes.Lines, Lanes.join, Lanes.put}
+pub use Rattle.calls.proofs.{ControlMoved.allocate-moves, ControlMoved.mark-moves, RecordStaysGood.opened-is, UnitsByHeader.Sort}
+pub use Rattle.calls.proofs.{UnitsByHeader.sortOf, UnitsByHeader.isAsking, UnitsByHeader.taken-header, UnitsByHeader.isPacing, UnitsByHeader.bitOf}
+pub use Rattle.calls.proofs.{UnitsByHeader.answer-sort, UnitsByHeader.dataOf}
+pub use Rattle.joined.specs.{Claim.Pair, Ends.Lane, Ends.normal, Ends.sameLane, Ends.Buffers, Ends.OpeningAccepted, Ends.openedWith}
+pub use Rattle.joined.specs.{Ends.openedBoth, Ends.onNormal, Histories.bytesInSendBuffer, Histories.Log, Histories.bytesInInbox}
+pub use Rattle.joined.specs.{Histories.isBreach, Joined.Acted, Joined.Took, Joined.At, Joined.Call, Joined.act, Joined.first, Joined.second}
+pub use Rattle.joined.specs.{Joined.Both, Joined.Local, Joined.Event, Joined.took, Joined.takeOldest, Joined.apply, Joined.run, Joined.acted}
+pub use Rattle.joined.specs.{Lanes.Lines, Lanes.join, Lanes.put}
 unfoldable pub use Rattle.joined.specs.{Ends.acts, Ends.takes, Histories.bytesAccepted, Histories.bytesOnLine, Histories.requestsMade}
 unfoldable pub use Rattle.joined.specs.{Histories.pacingResponsesTaken, Histories.breaches, Histories.badReads, Histories.CompleteIsRight}
 unfoldable pub use Rattle.joined.specs.{Histories.NoneCrosses, Joined.step}

@@ -2,11 +2,11 @@
 -- Assumes nothing.
 use Rattle.joined.proofs.JoinedWords.{ℕ, eqb, leb, length, Bool, true, false, not, _&&_, List, _∷_, _≡_, refl, ap, _∙_, left, both, isFirst}
 use Rattle.joined.proofs.JoinedWords.{headerGood, Header, ruGood, RU-START, numberIn, headerIn, hasCredit, paced, agree, isNothing, Role, nextNumber}
-use Rattle.joined.proofs.JoinedWords.{headerTaken, ruTaken, takeRefusal, recordGood, facts, Station, sortOf, isPacing, bitOf, isBreach}
+use Rattle.joined.proofs.JoinedWords.{headerReceived, ruReceived, receiveUnitRefusal, recordGood, facts, Station, sortOf, isPacing, bitOf, isBreach}
 use Rattle.header.specs.declared.Header.the-variants.{Data, Bid, PositiveBidResponse, NegativeBidResponse, Confirmation, PacingResponse}
-use Rattle.answers.specs.Questions.{firstNo}
+use Rattle.answers.specs.FirstNo.{firstNo}
 use Rattle.end.specs.Record.{inboxLent, unitLent}
-use Rattle.sides.specs.Receiving.{pacingFits}
+use Rattle.receiving.specs.Receiving.{pacingFits}
 use Rattle.end.specs.ReceiveUnit.{kindQuestions}
 use Rattle.bools.proofs.Tests.{join}
 use Rattle.pacing.proofs.Windows.{credit-there}
@@ -24,19 +24,19 @@ module _ (r : Role) (s f : Station) (o : Outside) (u : List ℕ) (line back : Li
   heads = stream-take stream
 
   -- 27: there is credit, and the bit is right
-  pacing-yes : (b : Bool) → bitOf (sortOf (headerTaken u)) ≡ b → recordGood (s .end) ≡ true → agree b (paced (s .end .receiving .window)) ≡ true
+  pacing-yes : (b : Bool) → bitOf (sortOf (headerReceived u)) ≡ b → recordGood (s .end) ≡ true → agree b (paced (s .end .receiving .window)) ≡ true
       → pacingFits (s .end .receiving) b ≡ true
   pacing-yes b e g a =
       let w = s .end .receiving .window in
       join (hasCredit w) (agree b (paced w)) (credit-there w (facts (s .end) g .receiving .window) (λ p. paces-owed flags (e ∙ agrees b (paced w) a ∙ p))) a
 
-  kind-yes : (h : Header) → headerTaken u ≡ h → recordGood (s .end) ≡ true → isNothing (s .end .control .mark) ≡ true
-      → fits (s .end .receiving .max) (insideOf s .books) h (numberIn u) (ruTaken u) ≡ true
-      → firstNo (kindQuestions (s .end) h (numberIn u) (ruTaken u)) ≡ 0
+  kind-yes : (h : Header) → headerReceived u ≡ h → recordGood (s .end) ≡ true → isNothing (s .end .control .mark) ≡ true
+      → fits (s .end .receiving .max) (insideOf s .books) h (numberIn u) (ruReceived u) ≡ true
+      → firstNo (kindQuestions (s .end) h (numberIn u) (ruReceived u)) ≡ 0
   kind-yes (Data d) e g m t =
       let r = s .end .receiving in
       let n = numberIn u in
-      let t0 = both (ruGood (r .max) (Data d) (ruTaken u)) _ t in
+      let t0 = both (ruGood (r .max) (Data d) (ruReceived u)) _ t in
       let t1 = both (agree (d .pacing) (eqb (r .window .position) 0)) _ (t0 .1) in
       let t2 = both (eqb n (nextNumber (r .number))) _ (t1 .1) in
       let t3 = both (agree (isFirst (d .begins)) (not (s .end .control .inchain))) _ (t2 .1) in
@@ -45,15 +45,15 @@ module _ (r : Role) (s f : Station) (o : Outside) (u : List ℕ) (line back : Li
   kind-yes (Bid p) e g m t =
       let r = s .end .receiving in
       let n = numberIn u in
-      let t0 = both (ruGood (r .max) (Bid p) (ruTaken u)) _ t in
+      let t0 = both (ruGood (r .max) (Bid p) (ruReceived u)) _ t in
       let t1 = both (agree p (eqb (r .window .position) 0)) _ (t0 .1) in
       let t2 = both (eqb n (nextNumber (r .number))) (agree true (not (s .end .control .inchain))) (t1 .1) in
       rw (t0 .0, pacing-yes p (ap (λ (h : Header). bitOf (sortOf h)) e) g (t1 .0), t2 .0, t2 .1, order-fits-bid order p e)
-  kind-yes PositiveBidResponse e g m t = rw (left (ruGood (s .end .receiving .max) PositiveBidResponse (ruTaken u)) true t, order-fits-grant order m e)
-  kind-yes NegativeBidResponse e g m t = rw (left (ruGood (s .end .receiving .max) NegativeBidResponse (ruTaken u)) true t, order-fits-refusal order e)
-  kind-yes Confirmation e g m t = rw (left (ruGood (s .end .receiving .max) Confirmation (ruTaken u)) true t, order-fits-confirmation order m e)
+  kind-yes PositiveBidResponse e g m t = rw (left (ruGood (s .end .receiving .max) PositiveBidResponse (ruReceived u)) true t, order-fits-grant order m e)
+  kind-yes NegativeBidResponse e g m t = rw (left (ruGood (s .end .receiving .max) NegativeBidResponse (ruReceived u)) true t, order-fits-refusal order e)
+  kind-yes Confirmation e g m t = rw (left (ruGood (s .end .receiving .max) Confirmation (ruReceived u)) true t, order-fits-confirmation order m e)
   kind-yes PacingResponse e g m t =
-      let t0 = both (ruGood (s .end .receiving .max) PacingResponse (ruTaken u)) (eqb (numberIn u) 0) t in
+      let t0 = both (ruGood (s .end .receiving .max) PacingResponse (ruReceived u)) (eqb (numberIn u) 0) t in
       rw (t0 .0, paces-unanswered flags (ap (λ (h : Header). isPacing (sortOf h)) e), t0 .1)
 
   head-row : (a b c d e : Bool) (rest : List (Bool × ℕ))
@@ -66,11 +66,11 @@ module _ (r : Role) (s f : Station) (o : Outside) (u : List ℕ) (line back : Li
       let q = h refl refl in
       rw (q .0, q .1, q .2)
 
-  pub no-breach : (q : ℕ) → q ≡ takeRefusal (s .end) u (length (s .inbox)) (length (s .unit)) → isBreach q ≡ false
-  unfolding takeRefusal
+  pub no-breach : (q : ℕ) → q ≡ receiveUnitRefusal (s .end) u (length (s .inbox)) (length (s .unit)) → isBreach q ≡ false
+  unfolding receiveUnitRefusal
   no-breach q e =
       let en = s .end in
       ap isBreach e
       ∙ head-row (inboxLent en (length (s .inbox)) && unitLent en (length (s .unit))) (recordGood en) (isNothing (en .control .mark))
-      (leb RU-START (length u)) (headerGood (headerIn u)) (kindQuestions en (headerTaken u) (numberIn u) (ruTaken u))
-      (λ g m. (heads .long, heads .header, kind-yes (headerTaken u) refl g m (heads .fitting)))
+      (leb RU-START (length u)) (headerGood (headerIn u)) (kindQuestions en (headerReceived u) (numberIn u) (ruReceived u))
+      (λ g m. (heads .long, heads .header, kind-yes (headerReceived u) refl g m (heads .fitting)))

@@ -88,7 +88,7 @@ local-act {v} {xs} verb a m buffer us w l g h r c b =
 refused-gives : (verb : Verb) (q : ℕ) → eqb q 0 ≡ false → given verb q ≡ []
 refused-gives Verb.allocate q e = refl
 refused-gives Verb.confirmed q e = refl
-refused-gives Verb.pace q e = refl
+refused-gives Verb.sendPacingResponse q e = refl
 refused-gives (Verb.sendData bytes) q e = rw e
 refused-gives (Verb.close f b) q e = refl
 refused-gives (Verb.receive buffer) q e = refl

@@ -4,23 +4,23 @@ use Rattle.joined.proofs.JoinedWords.{ℕ, _+_, _*_, _≤_, _<_, eqb, l
 use Rattle.joined.proofs.JoinedWords.{List, [], _∷_, _≡_, refl, sym, ap, _∙_, arith, front, isWhole, ended, thenWalk}
 use Rattle.joined.proofs.JoinedWords.{walk, placeOr, Position, Walked, walk-append, walk-prefix, Through, Continues, Last, Follows, Stay}
 use Rattle.joined.proofs.JoinedWords.{ChangeDirection, EndBracket, marks, fixedRu, bidRu, RU-START, unitOf, numberIn, paced, advanced, answered}
-use Rattle.joined.proofs.JoinedWords.{credit, isSend, bidAnswer, closed, spilled, dataTaken, readRefused, accepted, requestTaken, requestMade}
-use Rattle.joined.proofs.JoinedWords.{nextNumber, restBytes, bidMade, lastMade, bytesRead, recordRest, copyCount, headerTaken, ruTaken, dataJoined}
-use Rattle.joined.proofs.JoinedWords.{bidAnswered, creditRaised, takeRefusal, dataHeader, heldBytes, bytesKept, bytesSpilled, facts, Station, Reply}
+use Rattle.joined.proofs.JoinedWords.{credit, isSend, bidAnswer, closed, spilled, dataReceived, readRefused, accepted, requestReceived, requestMade}
+use Rattle.joined.proofs.JoinedWords.{nextNumber, restBytes, bidMade, lastMade, bytesRead, recordRest, copyCount, headerReceived, ruReceived, dataJoined}
+use Rattle.joined.proofs.JoinedWords.{bidAnswered, creditRaised, receiveUnitRefusal, dataHeader, heldBytes, bytesKept, bytesSpilled, facts, Station, Reply}
 use Rattle.joined.proofs.JoinedWords.{Verb, count, isPacingResponse, requestsAmong, allocate-cases, bidNumber, close-cases, confirmed-cases}
 use Rattle.joined.proofs.JoinedWords.{pace-cases, read-cases, send-cases, spilledRu, take-cases, ReadAsked, readCount, control-within, TakeAsked}
 use Rattle.joined.proofs.JoinedWords.{allocate-moves, mark-moves, Sort, sortOf, isAsking, isPacing, answer-sort, Lane, normal, acts, takes, onNormal}
 use Rattle.joined.proofs.JoinedWords.{Log, bytesInInbox, isBreach, Acted, Took, took, acted}
 use borrow.Author.Tests.{leb-true}
-use Rattle.logical_record.proofs.Ends.{Inside}
+use Rattle.logical_record.proofs.RecordEnds.{Inside}
 use Rattle.logical_record.proofs.Rests.{rest-some, rest-walks, rest-inside, RestIs}
 use Rattle.logical_record.specs.declared.Walked.the-variants.{At, BadLength}
 use Rattle.logical_record.specs.declared.Rest.{Rest}
 use Rattle.logical_record.specs.declared.Rest.the-variants as restIs
 use Rattle.header.specs.declared.Header.the-variants.{Bid, Confirmation, PacingResponse}
 use Rattle.control.specs.declared.WhatReceived.the-variants as mark
-use Rattle.end.specs.Receive.{someHeld, readQuestions, readRefusal, markRead}
-use Rattle.reading.specs.Reading.{restGood}
+use Rattle.end.specs.Receive.{someHeld, receiveQuestions, receiveRefusal, markRead}
+use Rattle.receiving.specs.BytesRead.{restGood}
 use Rattle.joined.specs.Histories as H
 use Rattle.bools.proofs.Tests.{never}
 use Rattle.calls.proofs.Credit.{data-asks, none-made, once, other-made, request-made}
@@ -83,9 +83,9 @@ module _ (s : Station) (xs : Log) (l : Local (valuesOf s) xs) where
       ap restGood (i .is)
 
   -- 8 is never the number
-  never-refused : (buffer : List ℕ) (q : ℕ) → q ≡ readRefusal (s .end) (s .inbox) (length buffer) → eqb q 8 ≡ false
-  unfolding readRefusal
-  never-refused buffer q e = rw e (not-first (readQuestions (s .end) (s .inbox) (length buffer)) 8 refl (rw rest-is))
+  never-refused : (buffer : List ℕ) (q : ℕ) → q ≡ receiveRefusal (s .end) (s .inbox) (length buffer) → eqb q 8 ≡ false
+  unfolding receiveRefusal
+  never-refused buffer q e = rw e (not-first (receiveQuestions (s .end) (s .inbox) (length buffer)) 8 refl (rw rest-is))
 
   bytes-of : (r : Rest) → restGood r ≡ true → r ≡ restIs.Bytes (restBytes r)
   bytes-of (restIs.Bytes n) e = refl
@@ -162,10 +162,10 @@ module _ (s : Station) (xs : Log) (l : Local (valuesOf s) xs) where
       local-act Verb.confirmed (accepted 5) mark.Nothing [] (onNormal (unitOf (s .end .owed) Confirmation [] ∷ [])) _ l here
       (λ n. l .whole (confirmed-moves (s .end .control) (control-within (s .end) g) a .send n)) refl
       (other-made (s .end .owed) (credit (s .end .sending .window)) Confirmation [] refl) refl)
-  local-acts Verb.pace =
-      pace-cases (Laned (After Verb.pace)) s (refuses Verb.pace (λ q. refl))
+  local-acts Verb.sendPacingResponse =
+      pace-cases (Laned (After Verb.sendPacingResponse)) s (refuses Verb.sendPacingResponse (λ q. refl))
       (λ g a.
-      local-act Verb.pace (accepted 5) mark.Nothing [] (onNormal (unitOf 0 PacingResponse [] ∷ [])) _ l here (l .whole) refl
+      local-act Verb.sendPacingResponse (accepted 5) mark.Nothing [] (onNormal (unitOf 0 PacingResponse [] ∷ [])) _ l here (l .whole) refl
       (other-made 0 (credit (s .end .sending .window)) PacingResponse [] refl) refl)
   local-acts (Verb.sendData bytes) =
       let g = s .end .sending .given in
@@ -188,19 +188,19 @@ module _ (s : Station) (xs : Log) (u : List ℕ) (l : Local (valuesOf s) xs) whe
   abbrev Left : Took Lane Station Reply (List ℕ) → Type 0
   Left t = Local (valuesOf (t .end)) (took normal u (t .answer) (t .sent) ∷ xs)
 
-  counts-pacing : (k : Sort) → sortOf (headerTaken u) ≡ k → TakeAsked s u → isPacingResponse u ≡ isPacing k
+  counts-pacing : (k : Sort) → sortOf (headerReceived u) ≡ k → TakeAsked s u → isPacingResponse u ≡ isPacing k
   counts-pacing k e a = pacing-taken u (a .header) ∙ ap isPacing e
 
   no-rise : (c z : ℕ) → requestsAmong [] + c ≡ c + z * count false
   no-rise c z = none-made c ∙ (let y : c ≡ c + z * 0 = omega arith in y)
 
   pub local-takes : (naming : List ℕ → ℕ)
-      → ((q : ℕ) → q ≡ takeRefusal (s .end) u (length (s .inbox)) (length (s .unit)) → isBreach q ≡ false)
+      → ((q : ℕ) → q ≡ receiveUnitRefusal (s .end) u (length (s .inbox)) (length (s .unit)) → isBreach q ≡ false)
       → Left (takes naming normal s u)
-  unfolding takes dataJoined bidAnswered creditRaised requestTaken dataTaken answered
+  unfolding takes dataJoined bidAnswered creditRaised requestReceived dataReceived answered
   local-takes naming nb =
       let h = bidAnswer (s .end .control) in
-      let ru = ruTaken u in
+      let ru = ruReceived u in
       let r = s .end .receiving in
       let w = s .end .sending .window in
       let same = no-rise (credit w) (w .size) in

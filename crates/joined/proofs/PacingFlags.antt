@@ -2,7 +2,7 @@
 -- an automaton over the units that wait for an end.
 -- Assumes nothing.
 use Rattle.joined.proofs.JoinedWords.{ℕ, Bool, true, false, not, cond, _||_, List, [], _∷_, _++_, _≡_, refl, sym, subst, never, cases, Header, unitOf}
-use Rattle.joined.proofs.JoinedWords.{agree, headerTaken, Sort, sortOf, isPacing, bitOf}
+use Rattle.joined.proofs.JoinedWords.{agree, headerReceived, Sort, sortOf, isPacing, bitOf}
 use Rattle.joined.proofs.LineAutomaton.{Ran, ok, stuck, stuck≢ok, ok-is}
 use Rattle.joined.proofs.TwoLines.{Automaton, Led, led-nowhere, led-flip, led-past, led-took, led-goes, led-moved}
 
@@ -69,12 +69,12 @@ module _ {w : Way} {x y : Bool} {line back : List (List ℕ)} where
       (λ e. led-moved n h ru (not x) (f e) (λ v p. (not x, (rw (← p, e, f e), refl))) i) (λ e. led-past n h ru (λ v. rw e) i)
 
   -- the oldest unit is taken: one that moves the flag finds it as it must be
-  flag-fits : {u : List ℕ} → Led flags w x y line (u ∷ back) → moves w (sortOf (headerTaken u)) ≡ true → agree x (before w) ≡ true
+  flag-fits : {u : List ℕ} → Led flags w x y line (u ∷ back) → moves w (sortOf (headerReceived u)) ≡ true → agree x (before w) ≡ true
   flag-fits i e = led-goes (agree x (before w)) (not x) refl (rw e) i .0
 
-  flag-took : {u : List ℕ} → Led flags w x y line (u ∷ back) → Led flags w (cond (moves w (sortOf (headerTaken u))) (not x) x) y line back
+  flag-took : {u : List ℕ} → Led flags w x y line (u ∷ back) → Led flags w (cond (moves w (sortOf (headerReceived u))) (not x) x) y line back
   flag-took {u} i =
-      cases (λ (z : Bool). Led flags w z y line back) (moves w (sortOf (headerTaken u)))
+      cases (λ (z : Bool). Led flags w z y line back) (moves w (sortOf (headerReceived u)))
       (λ e. led-goes (agree x (before w)) (not x) refl (rw e) i .1) (λ e. led-took x refl (rw e) i)
 
 -- ---- both ways
@@ -128,15 +128,15 @@ module _ {x o x′ o′ : Bool} {line back : List (List ℕ)} where
 
   module _ {u : List ℕ} (p : Paces x o x′ o′ line (u ∷ back)) where
     -- a request with the pacing bit finds no answer owed, and a pacing response a request unanswered
-    pub paces-owed : bitOf (sortOf (headerTaken u)) ≡ true → o ≡ false
+    pub paces-owed : bitOf (sortOf (headerReceived u)) ≡ true → o ≡ false
     paces-owed e = is-off o (flag-fits (p .receiving) e)
 
-    pub paces-unanswered : isPacing (sortOf (headerTaken u)) ≡ true → x ≡ true
+    pub paces-unanswered : isPacing (sortOf (headerReceived u)) ≡ true → x ≡ true
     paces-unanswered e = is-on x (flag-fits (p .sending) e)
 
-    pub paces-took : Paces (cond (isPacing (sortOf (headerTaken u))) (not x) x) (o || bitOf (sortOf (headerTaken u))) x′ o′ line back
+    pub paces-took : Paces (cond (isPacing (sortOf (headerReceived u))) (not x) x) (o || bitOf (sortOf (headerReceived u))) x′ o′ line back
     paces-took =
         record {
           sending = flag-took (p .sending);
-          receiving = subst (λ (z : Bool). Led flags into z x′ line back) (raised (bitOf (sortOf (headerTaken u))) o paces-owed) (flag-took (p .receiving));
+          receiving = subst (λ (z : Bool). Led flags into z x′ line back) (raised (bitOf (sortOf (headerReceived u))) o paces-owed) (flag-took (p .receiving));
         }

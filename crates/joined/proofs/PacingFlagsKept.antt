@@ -1,8 +1,8 @@
 -- Every call keeps the pacing flags of two joined ends in step.
 -- Assumes nothing.
 use Rattle.joined.proofs.JoinedWords.{ℕ, Bool, true, false, not, cond, _||_, List, [], _∷_, _++_, append-nil, _≡_, refl, ap, left, ChainEnd, Continues}
-use Rattle.joined.proofs.JoinedWords.{Last, Header, fixedRu, bidRu, unitOf, numberIn, hasCredit, paced, advanced, answered, bidAnswer, requestTaken}
-use Rattle.joined.proofs.JoinedWords.{requestMade, nextNumber, bidMade, lastMade, bytesRead, headerTaken, dataJoined, bidAnswered, creditRaised}
+use Rattle.joined.proofs.JoinedWords.{Last, Header, fixedRu, bidRu, unitOf, numberIn, hasCredit, paced, advanced, answered, bidAnswer, requestReceived}
+use Rattle.joined.proofs.JoinedWords.{requestMade, nextNumber, bidMade, lastMade, bytesRead, headerReceived, dataJoined, bidAnswered, creditRaised}
 use Rattle.joined.proofs.JoinedWords.{dataHeader, heldBytes, bytesKept, bytesSpilled, Station, Reply, Verb, allocate-cases, bidNumber, close-cases}
 use Rattle.joined.proofs.JoinedWords.{confirmed-cases, pace-cases, read-cases, send-cases, spilledRu, take-cases, Sort, sortOf, isPacing, bitOf}
 use Rattle.joined.proofs.JoinedWords.{answer-sort, Lane, normal, acts, takes, Acted, Took}
@@ -50,7 +50,7 @@ module _ (s f : Station) (line back : List (List ℕ)) (p : PacesOf s f line bac
       (λ g a x k. paces-out (bidNumber (s .end)) (Bid (paced w)) bidRu refl (no-flag-at-start w k) p)
   paces-acts Verb.confirmed =
       confirmed-cases (Laned After) s (λ q n. rw append-nil p) (λ g a. paces-past (s .end .owed) Confirmation [] refl refl p)
-  paces-acts Verb.pace =
+  paces-acts Verb.sendPacingResponse =
       pace-cases (Laned After) s (λ q n. rw append-nil p) (λ g a. paces-answer 0 PacingResponse [] refl refl (left (owedOf s) _ a) p)
   paces-acts (Verb.sendData bytes) =
       send-cases (Laned After) s bytes (λ q n. rw append-nil p) (λ a k. rw append-nil p)
@@ -66,12 +66,12 @@ module _ (s f : Station) (line back : List (List ℕ)) (u : List ℕ) (p : Paces
   Left t = PacesOf (t .end) f (line ++ t .sent normal) (cond (t .removed) back (u ∷ back))
 
   -- the flags after a unit of the sort k, with the pacing bit b
-  took : (k : Sort) (b : Bool) → sortOf (headerTaken u) ≡ k → bitOf k ≡ b
+  took : (k : Sort) (b : Bool) → sortOf (headerReceived u) ≡ k → bitOf k ≡ b
       → Paces (cond (isPacing k) (not (unansweredOf s)) (unansweredOf s)) (owedOf s || b) (unansweredOf f) (owedOf f) line back
   took k b e q = rw (e, q) at (paces-took p)
 
   pub paces-takes : (naming : List ℕ → ℕ) → Left (takes naming normal s u)
-  unfolding takes dataJoined bidAnswered creditRaised requestTaken advanced answered
+  unfolding takes dataJoined bidAnswered creditRaised requestReceived advanced answered
   paces-takes naming =
       let h = bidAnswer (s .end .control) in
       let k = answer-sort (s .end .control) in

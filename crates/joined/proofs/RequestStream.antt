@@ -4,16 +4,16 @@
 use Rattle.joined.proofs.JoinedWords.{ℕ, le-leb, eq-eqb, eqb, leb, length, Bool, true, false, not, cond, _&&_, _||_, List, [], _∷_, _++_, _≡_, refl}
 use Rattle.joined.proofs.JoinedWords.{sym, ap, _∙_, subst, arith, never, isWhole, thenWalk, walk, placeOr, Position, Walked, walk-append, walk-prefix}
 use Rattle.joined.proofs.JoinedWords.{Through, isFirst, headerGood, ChainEnd, DataHeader, Header, marks, fixedRu, ruGood, RU-START, unitOf, numberIn}
-use Rattle.joined.proofs.JoinedWords.{headerIn, unit-number, agree, nextNumber, headerTaken, ruTaken, Station, Sort, sortOf, isAsking, taken-header}
+use Rattle.joined.proofs.JoinedWords.{headerIn, unit-number, agree, nextNumber, headerReceived, ruReceived, Station, Sort, sortOf, isAsking, taken-header}
 use Rattle.joined.proofs.JoinedWords.{bytesInSendBuffer}
 use Rattle.logical_record.specs.declared.Walked.the-variants.{At}
 use Rattle.header.specs.Header.{isLast}
 use Rattle.cells.specs.Equal.{sameBytes}
 use Rattle.header.specs.declared.Header.the-variants.{Data, Bid}
 use Rattle.header.proofs.RoundTrip.{built-good}
-use Rattle.unit.proofs.Units.{unit-length, unit-header, unit-ru}
+use Rattle.unit.proofs.UnitLaws.{unit-length, unit-header, unit-ru}
 use Rattle.pacing.specs.Pacing.{nextPosition}
-use Rattle.sides.specs.Receiving.{recordsFit}
+use Rattle.receiving.specs.Receiving.{recordsFit}
 use Rattle.calls.proofs.UnitsByHeader.{brings, asks, answers, paces, fixed-ru}
 use Rattle.joined.proofs.LineAutomaton.{Ran, ok, stuck, stuck≢ok, ok-is, Leads, leads-nowhere, leads-more, Parted, parted}
 
@@ -53,8 +53,8 @@ next w b paces ru = b
 
 unfoldable pub streamStep : ℕ → ℕ → Books → List ℕ → Ran Books
 streamStep w m b u =
-    cond (leb RU-START (length u) && (headerGood (headerIn u) && fits m b (headerTaken u) (numberIn u) (ruTaken u)))
-    (ok (next w b (sortOf (headerTaken u)) (ruTaken u)))
+    cond (leb RU-START (length u) && (headerGood (headerIn u) && fits m b (headerReceived u) (numberIn u) (ruReceived u)))
+    (ok (next w b (sortOf (headerReceived u)) (ruReceived u)))
     stuck
 
 -- a unit made leads the books on
@@ -257,8 +257,8 @@ taken i k ru = record { window = i .window; max = i .max; books = next (i .windo
 pub record Heads (o : Outside) (i : Inside) (u : List ℕ) (line : List (List ℕ)) : Type 0 where
   pub long : leb RU-START (length u) ≡ true
   pub header : headerGood (headerIn u) ≡ true
-  pub fitting : fits (i .max) (i .books) (headerTaken u) (numberIn u) (ruTaken u) ≡ true
-  pub rest : Stream o (taken i (sortOf (headerTaken u)) (ruTaken u)) line
+  pub fitting : fits (i .max) (i .books) (headerReceived u) (numberIn u) (ruReceived u) ≡ true
+  pub rest : Stream o (taken i (sortOf (headerReceived u)) (ruReceived u)) line
 
 -- the oldest unit fits, and what is left of the line follows it
 pub stream-take : {o : Outside} {i : Inside} {u : List ℕ} {line : List (List ℕ)} → Stream o i (u ∷ line) → Heads o i u line

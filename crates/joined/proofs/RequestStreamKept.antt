@@ -4,7 +4,7 @@ use Rattle.joined.proofs.JoinedWords.{ℕ, _+_, _-_, _≤_, _<_, le-leb
 use Rattle.joined.proofs.JoinedWords.{cond, _&&_, _||_, List, [], _∷_, _++_, append-nil, _≡_, refl, sym, ap, _∙_, subst, arith, left, front, written}
 use Rattle.joined.proofs.JoinedWords.{isWhole, thenWalk, walk, placeOr, Position, same-position, Continues, Last, DataHeader, Follows, marks, ruGood}
 use Rattle.joined.proofs.JoinedWords.{unitOf, numberIn, paced, advanced, answered, isReset, bidAnswer, beginOf, closed, spilled, confirmationMade}
-use Rattle.joined.proofs.JoinedWords.{dataTaken, requestTaken, requestMade, nextNumber, bidMade, lastMade, bytesRead, headerTaken, ruTaken, dataJoined}
+use Rattle.joined.proofs.JoinedWords.{dataReceived, requestReceived, requestMade, nextNumber, bidMade, lastMade, bytesRead, headerReceived, ruReceived, dataJoined}
 use Rattle.joined.proofs.JoinedWords.{bidAnswered, creditRaised, dataHeader, heldBytes, bytesKept, bytesSpilled, gone, facts, Station, Reply, Verb}
 use Rattle.joined.proofs.JoinedWords.{allocate-cases, close-cases, confirmed-cases, pace-cases, read-cases, send-cases, spilledRu, take-cases}
 use Rattle.joined.proofs.JoinedWords.{SendAsked, spilledUnit, control-within, allocate-moves, mark-moves, Sort, sortOf, answer-sort, Lane, normal}
@@ -12,7 +12,7 @@ use Rattle.joined.proofs.JoinedWords.{acts, takes, Acted, Took, cases, 
 use borrow.Author.Tests.{leb-false, eqb-false}
 use lib.ListN.{length-append}
 use Rattle.header.specs.declared.Header.the-variants.{Data, Confirmation, PacingResponse}
-use Rattle.sides.specs.Sending.{keeps}
+use Rattle.sending.specs.Sending.{keeps}
 use Rattle.end.specs.Close.{nothingGoes}
 use Rattle.calls.proofs.CallCases.{CloseAsked}
 use Rattle.control.proofs.States.{reset-not-send}
@@ -137,7 +137,7 @@ module _ (s : Station) (i : Inside) (line : List (List ℕ)) (st : Stream (outsi
       let shut = closed-outside-send c (facts (s .end) g .control) (reset-not-send (c .state) (left (isReset (c .state)) _ a)) in
       same-chain _ (allocate-moves c (control-within (s .end) g) a .out) (stream-bid (paced (s .end .sending .window)) st refl shut))
   stream-acts Verb.confirmed = confirmed-cases (Laned After) s (λ q n. rw append-nil st) (λ g a. stream-response (s .end .owed) Confirmation st refl)
-  stream-acts Verb.pace = pace-cases (Laned After) s (λ q n. rw append-nil st) (λ g a. stream-response 0 PacingResponse st refl)
+  stream-acts Verb.sendPacingResponse = pace-cases (Laned After) s (λ q n. rw append-nil st) (λ g a. stream-response 0 PacingResponse st refl)
   stream-acts (Verb.sendData bytes) =
       let o = s .end .sending in
       send-cases (Laned After) s bytes (λ q n. rw append-nil st)
@@ -158,7 +158,7 @@ module _ (s : Station) (i : Inside) (line : List (List ℕ)) (st : Stream (outsi
   Left t = Stream (outsideOf (t .end)) i (line ++ t .sent normal)
 
   pub stream-takes : (naming : List ℕ → ℕ) (u : List ℕ) → Left (takes naming normal s u)
-  unfolding takes dataJoined bidAnswered creditRaised dataTaken answered
+  unfolding takes dataJoined bidAnswered creditRaised dataReceived answered
   stream-takes naming u =
       take-cases (LanedTake Left) naming s u (λ q w n. rw append-nil st) (λ d a e k. rw append-nil st)
       (λ p a e k m. same-chain _ (m .out) (stream-response (numberIn u) (bidAnswer (s .end .control)) st (rw (answer-sort (s .end .control)))))
@@ -177,7 +177,7 @@ module _ (s : Station) (o : Outside) (back : List (List ℕ)) where
       allocate-cases (Laned AfterIn) s (λ q n. st) (λ g a w. same-link _ (allocate-moves c (control-within (s .end) g) a .into) st)
       (λ g a w k. same-link _ (allocate-moves c (control-within (s .end) g) a .into) st)
   stream-in-acts st Verb.confirmed = confirmed-cases (Laned AfterIn) s (λ q n. st) (λ g a. st)
-  stream-in-acts st Verb.pace = pace-cases (Laned AfterIn) s (λ q n. st) (λ g a. st)
+  stream-in-acts st Verb.sendPacingResponse = pace-cases (Laned AfterIn) s (λ q n. st) (λ g a. st)
   stream-in-acts st (Verb.sendData bytes) = send-cases (Laned AfterIn) s bytes (λ q n. st) (λ a k. st) (λ a k h. st)
   stream-in-acts st (Verb.close f c) =
       close-cases (Laned AfterIn) s f c (λ q n. st) (λ a n. st) (λ a n k. same-link _ (closed-in f c (s .end .control)) st)
@@ -190,11 +190,11 @@ module _ (s : Station) (o : Outside) (back : List (List ℕ)) where
     LeftIn t = Stream o (insideOf (t .end)) (cond (t .removed) back (u ∷ back))
 
     -- the end is where the unit leads
-    led : (k : Sort) → sortOf (headerTaken u) ≡ k → Stream o (taken (insideOf s) k (ruTaken u)) back
+    led : (k : Sort) → sortOf (headerReceived u) ≡ k → Stream o (taken (insideOf s) k (ruReceived u)) back
     led k e = rw e at (stream-take st .rest)
 
     pub stream-in-takes : (naming : List ℕ → ℕ) → LeftIn (takes naming normal s u)
-    unfolding takes dataJoined bidAnswered creditRaised requestTaken advanced dataTaken
+    unfolding takes dataJoined bidAnswered creditRaised requestReceived advanced dataReceived
     stream-in-takes naming =
         take-cases (LanedTake LeftIn) naming s u (λ q w n. rw n st) (λ d a e k. led _ e) (λ p a e k m. same-link _ (m .into) (led _ e))
         (λ c a e m. same-link _ (m .into) (led _ e)) (λ a e k. led _ e)

@@ -1,7 +1,7 @@
 -- What two joined ends hold of each other: a state at each end, led on by the units that wait for it, until the two states fit.
 -- Assumes nothing.
 use Rattle.joined.proofs.JoinedWords.{ℕ, Bool, true, cond, List, [], _∷_, _++_, _≡_, refl, sym, ap, _∙_, subst, Header, unitOf, numberIn, unit-number}
-use Rattle.joined.proofs.JoinedWords.{Role, FirstSpeaker, Bidder, headerTaken, taken-header}
+use Rattle.joined.proofs.JoinedWords.{Role, FirstSpeaker, Bidder, headerReceived, taken-header}
 use Rattle.joined.proofs.LineAutomaton.{Ran, ok, stuck, went, goes, Leads, leads-nowhere, leads-more, parted, leads-less, inert}
 
 -- the partner's role
@@ -28,7 +28,7 @@ pub record Automaton (R S : Type 0) : Type 1 where
   pub turned : (r : R) (x y : S) → Fit r x y → Fit (partner r) y x
 
 unfoldable pub step : {R S : Type 0} → Automaton R S → R → S → List ℕ → Ran S
-step A r s u = A .on r s (headerTaken u) (numberIn u)
+step A r s u = A .on r s (headerReceived u) (numberIn u)
 
 -- The states x and y of two joined ends, the first of which is r: `line` waits for y's end, `back` for x's.
 -- Once all of it is taken, the states fit.
@@ -47,14 +47,14 @@ module _ {R S : Type 0} (A : Automaton R S) (r : R) (s : S) where
   made n h ru =
       ap (λ (k : Header). A .on r s k (numberIn (unitOf n h ru))) (taken-header n h ru) ∙ ap (A .on r s h) (unit-number n h ru)
 
-  taken : (u : List ℕ) (h : Header) → headerTaken u ≡ h → step A r s u ≡ A .on r s h (numberIn u)
+  taken : (u : List ℕ) (h : Header) → headerReceived u ≡ h → step A r s u ≡ A .on r s h (numberIn u)
   unfolding step
   taken u h e = ap (λ (k : Header). A .on r s k (numberIn u)) e
 
   -- a settled state is the state after the line, and no other is changed by what waits there
   settled-stays : {us : List (List ℕ)} {t : S} (s′ : S) → A .settled r s ≡ true → Leads (step A r) s us t → (t ≡ s) × Leads (step A r) s′ us s′
   unfolding step
-  settled-stays s′ q l = inert s s′ (λ u t e. A .stays r s s′ q (headerTaken u) (numberIn u) t e) l
+  settled-stays s′ q l = inert s s′ (λ u t e. A .stays r s s′ q (headerReceived u) (numberIn u) t e) l
 
 -- ---- what keeps the states led to a fit
 
@@ -93,7 +93,7 @@ module _ {R S : Type 0} {A : Automaton R S} {r : R} {x y : S} {line back : List 
 
   -- the first unit is taken
   pub led-took :
-      {u : List ℕ} {h : Header} (v : S) → headerTaken u ≡ h → A .on r x h (numberIn u) ≡ ok v
+      {u : List ℕ} {h : Header} (v : S) → headerReceived u ≡ h → A .on r x h (numberIn u) ≡ ok v
       → Led A r x y line (u ∷ back) → Led A r v y line back
   led-took {u} {h} v e g i =
       record {
@@ -106,7 +106,7 @@ module _ {R S : Type 0} {A : Automaton R S} {r : R} {x y : S} {line back : List 
 
   -- where it is taken only if a test holds, the test holds
   pub led-goes :
-      {u : List ℕ} {h : Header} (b : Bool) (v : S) → headerTaken u ≡ h → A .on r x h (numberIn u) ≡ cond b (ok v) stuck
+      {u : List ℕ} {h : Header} (b : Bool) (v : S) → headerReceived u ≡ h → A .on r x h (numberIn u) ≡ cond b (ok v) stuck
       → Led A r x y line (u ∷ back) → (b ≡ true) × Led A r v y line back
   led-goes {u} {h} b v e g i =
       let q = parted (i .mine) in

@@ -11,7 +11,7 @@ use Rattle.logical_record.specs.declared.Walked.the-variants as walked
 use Rattle.control.specs.Questions.{holdsSend}
 use Rattle.answers.specs.Answers.{BAD-RECORD}
 use Rattle.end.specs.Record.{recordGood, creditOf}
-use Rattle.sides.specs.declared.Session.{Session}
+use Rattle.session.specs.declared.Session.{Session}
 use Rattle.joined.specs.Joined.{Call, act, take, At, first, second, Side, Both, firsts, seconds, run, AllFed}
 use Rattle.joined.specs.Ends.{Lane, normal, sameLane, Buffers, OpeningAccepted, JoinedOpenings, openedBoth, acts, takes}
 use Rattle.joined.specs.Histories.{bytesAccepted, bytesRead, bytesOnLine, bytesInInbox, bytesInSendBuffer, requestsMade, pacingResponsesTaken, breaches, refusedWith, badReads, CompleteIsRight, NoneCrosses}

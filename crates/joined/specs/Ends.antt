@@ -8,7 +8,7 @@ use mathlib.Core.HLevel.{Discrete}
 use lib.Dec.{eqb}
 use lib.ListN.{length}
 use Rattle.session.specs.Opening as O
-use Rattle.sides.specs.declared.Session.{Session}
+use Rattle.session.specs.declared.Session.{Session}
 use Rattle.calls.specs.Calls.{Station, Verb, Reply, refusalIn, Called, called, taken}
 use Rattle.joined.specs.Lanes.{Lines, none, only}
 use Rattle.joined.specs.Joined.{Acted, Took, Side, Both}

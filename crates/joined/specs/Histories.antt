@@ -14,7 +14,7 @@ use Rattle.answers.specs.Answers.{BAD-LL}
 use Rattle.calls.specs.UnitCounts.{count, dataRu, requestsAmong, isPacingResponse}
 use Rattle.joined.specs.Joined.{Event, acted, took}
 use Rattle.joined.specs.Ends.{Lane, normal}
-use Rattle.calls.specs.Calls.{Reply, Station, Verb, allocate, close, confirmed, pace, receive, refusalIn, sendData}
+use Rattle.calls.specs.Calls.{Reply, Station, Verb, allocate, close, confirmed, sendPacingResponse, receive, refusalIn, sendData}
 
 abbrev pub Log : Type 0
 Log = List (Event Lane Verb Reply (List ℕ))
@@ -25,7 +25,7 @@ Log = List (Event Lane Verb Reply (List ℕ))
 abbrev pub given : Verb → ℕ → List ℕ
 given allocate q = []
 given confirmed q = []
-given pace q = []
+given sendPacingResponse q = []
 given (sendData bytes) q = cond (eqb q 0) bytes []
 given (close f b) q = []
 given (receive buffer) q = []
@@ -92,7 +92,7 @@ refusedWith n (took l u r us ∷ es) = count (eqb (refusalIn r) n) + refusedWith
 abbrev pub isBadRead : Verb → ℕ → Bool
 isBadRead allocate q = false
 isBadRead confirmed q = false
-isBadRead pace q = false
+isBadRead sendPacingResponse q = false
 isBadRead (sendData bytes) q = false
 isBadRead (close f b) q = false
 isBadRead (receive buffer) q = eqb q BAD-LL

@@ -1,6 +1,6 @@
 mod Facts
 mod Turns
 pub mod Walks
-pub mod Ends
+pub mod RecordEnds
 pub mod Rests
 pub mod Splits

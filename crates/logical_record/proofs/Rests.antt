@@ -12,7 +12,7 @@ use borrow.Author.Tests.{eq-eqb, ne-eqb, leb-true}
 use Rattle.logical_record.specs.Length.{lengthOf, lengthGood}
 use Rattle.logical_record.specs.Positions.{start, remaining, mostRemaining, isPosition, isBetween}
 use Rattle.logical_record.specs.Walk.{thenWalk, walk}
-use Rattle.logical_record.specs.Reading.{rest, restGood, lengthMet}
+use Rattle.logical_record.specs.RestOfRecord.{rest, restGood, lengthMet}
 use Rattle.logical_record.specs.declared.Position.{Position}
 use Rattle.logical_record.specs.declared.Position.the-variants.{Between, AfterFirst, Remaining}
 use Rattle.logical_record.specs.declared.Walked.the-variants.{At}
@@ -21,7 +21,7 @@ use Rattle.logical_record.specs.declared.Rest.{Rest}
 use Rattle.logical_record.specs.declared.Rest.the-variants.{Bytes, BadLength}
 use Rattle.logical_record.proofs.Facts.{length-bounds, remaining-some, between-remaining, eqb-none}
 use Rattle.logical_record.proofs.Walks.{walk-bad, at-not-bad}
-use Rattle.logical_record.proofs.Ends.{Reached, Inside, between-is-start, walk-data, walk-after-first, walk-front}
+use Rattle.logical_record.proofs.RecordEnds.{Reached, Inside, between-is-start, walk-data, walk-after-first, walk-front}
 use Rattle.bools.proofs.Tests.{both}
 
 -- what a rest that is a number of bytes says

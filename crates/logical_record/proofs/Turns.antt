@@ -10,7 +10,7 @@ use lib.Seq.{drop-cons, drop-drop}
 use Rattle.logical_record.specs.Length.{lengthOf}
 use Rattle.logical_record.specs.Positions.{remaining}
 use Rattle.logical_record.specs.Walk.{step, thenWalk, walk}
-use Rattle.logical_record.specs.Reading.{rest, restGood}
+use Rattle.logical_record.specs.RestOfRecord.{rest, restGood}
 use Rattle.logical_record.specs.declared.Position.{Position}
 use Rattle.logical_record.specs.declared.Position.the-variants.{Between, AfterFirst, Remaining}
 use Rattle.logical_record.specs.declared.Walked.{Walked}

@@ -1,6 +1,7 @@
 pub mod Length
 pub mod Positions
 pub mod Walk
-pub mod Reading
+pub mod RestOfRecord
 pub mod Records
-pub mod Examples
+pub mod RecordClaims
+pub mod WalkExamples

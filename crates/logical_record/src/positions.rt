@@ -1,7 +1,7 @@
 // Record places: where a stream starts, where it stands with so many bytes left, and tests.
 use crate::Position;
 use crate::length::GREATEST_LENGTH;
-use crate::numbers::less;
+use crate::total::less;
 ghost use mathlib.Core.Path.{_≡_};
 ghost use Rattle.logical_record.specs.Positions.{start, remaining, afterLength, isPosition, isBetween, isWhole};
 

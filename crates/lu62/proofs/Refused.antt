@@ -11,7 +11,7 @@ use Rattle.end.specs.Allocate.{allocate}
 use Rattle.end.specs.SendData.{sendData}
 use Rattle.end.specs.Close.{close}
 use Rattle.end.specs.Confirmed.{confirmed}
-use Rattle.end.specs.Pace.{pace}
+use Rattle.end.specs.SendPacingResponse.{sendPacingResponse}
 use Rattle.end.specs.ReceiveUnit.{receiveUnit}
 use Rattle.end.specs.Receive.{receive}
 use Rattle.end.specs.declared.End.{End}
@@ -78,7 +78,7 @@ refused-changes-nothing =
       prepareToReceive = close-refused ChangeDirection;
       deallocate = close-refused EndBracket;
       confirmed = λ image unit b. on-image image unit _ b (λ e. made-refused e [] unit Verb.confirmed (confirmed e unit) refl);
-      pace = λ image unit b. on-image image unit _ b (λ e. made-refused e [] unit Verb.pace (pace e unit) refl);
+      sendPacingResponse = λ image unit b. on-image image unit _ b (λ e. made-refused e [] unit Verb.sendPacingResponse (sendPacingResponse e unit) refl);
       receiveUnit = λ rule taken image inbox unit b. on-image image (inbox, unit) _ b (λ e. take-refused e rule taken inbox unit);
       receive = λ image inbox buffer b. on-image image (inbox, buffer) _ b (λ e. read-refused e inbox buffer);
     }

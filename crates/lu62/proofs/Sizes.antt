@@ -8,17 +8,17 @@ use native.Mathlib.Omega.{arith}
 use lib.Dec.{eqb}
 use lib.ListN.{length}
 use Rattle.header.specs.declared.Follows.{Follows}
-use Rattle.sides.specs.Opening.{openingRefusal}
-use Rattle.sides.specs.declared.Session.{Session}
+use Rattle.session.specs.OpeningQuestions.{openingRefusal}
+use Rattle.session.specs.declared.Session.{Session}
 use Rattle.session.specs.Opening.{opened}
 use Rattle.end.specs.Allocate.{allocate}
 use Rattle.end.specs.SendData.{sendData}
 use Rattle.end.specs.Close.{close}
 use Rattle.end.specs.Confirmed.{confirmed}
-use Rattle.end.specs.Pace.{pace}
+use Rattle.end.specs.SendPacingResponse.{sendPacingResponse}
 use Rattle.end.specs.ReceiveUnit.{receiveUnit}
 use Rattle.end.specs.Receive.{recordRest, copyCount, bytesRead, markRead, receive}
-use Rattle.reading.specs.Reading.{restBytes}
+use Rattle.receiving.specs.BytesRead.{restBytes}
 use Rattle.end.specs.declared.End.{End}
 use Rattle.end.specs.declared.Done.{Done}
 use Rattle.calls.specs.Calls.{Station, Verb, Called, called, taken}
@@ -52,9 +52,9 @@ pub confirmed-small : (e : End) (unit : List ℕ) → confirmed e unit .done .an
 unfolding called
 confirmed-small e unit = word _ _ (acts-fit (at e [] unit []) Verb.confirmed)
 
-pub pace-small : (e : End) (unit : List ℕ) → pace e unit .done .answer .unit < WORD
+pub pace-small : (e : End) (unit : List ℕ) → sendPacingResponse e unit .done .answer .unit < WORD
 unfolding called
-pace-small e unit = word _ _ (acts-fit (at e [] unit []) Verb.pace)
+pace-small e unit = word _ _ (acts-fit (at e [] unit []) Verb.sendPacingResponse)
 
 pub close-small : (f : Follows) (asked : Bool) (e : End) (send unit : List ℕ) → close f asked e send unit .done .answer .unit < WORD
 unfolding called

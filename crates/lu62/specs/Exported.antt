@@ -14,10 +14,10 @@ use Rattle.end.specs.Allocate.{allocate}
 use Rattle.end.specs.SendData.{sendData}
 use Rattle.end.specs.Close.{close}
 use Rattle.end.specs.Confirmed.{confirmed}
-use Rattle.end.specs.Pace.{pace}
+use Rattle.end.specs.SendPacingResponse.{sendPacingResponse}
 use Rattle.end.specs.ReceiveUnit.{receiveUnit}
 use Rattle.end.specs.Receive.{receive}
-use Rattle.sides.specs.declared.Session.{Session}
+use Rattle.session.specs.declared.Session.{Session}
 use Rattle.end.specs.declared.Done.{Done}
 use Rattle.image.specs.Image.{IMAGE}
 use Rattle.lu62.specs.Handing.{answerNumbers, readNumbers, Handed, handedOut, handedBack, Left, left, onImage}
@@ -77,8 +77,8 @@ deallocateOn confirms send image unit = closeOn EndBracket confirms send image u
 abbrev pub confirmedOn : List ℕ → List ℕ → Left (List ℕ)
 confirmedOn image unit = onImage image unit (λ e. madeOut (confirmed e unit))
 
-abbrev pub paceOn : List ℕ → List ℕ → Left (List ℕ)
-paceOn image unit = onImage image unit (λ e. madeOut (pace e unit))
+abbrev pub sendPacingResponseOn : List ℕ → List ℕ → Left (List ℕ)
+sendPacingResponseOn image unit = onImage image unit (λ e. madeOut (sendPacingResponse e unit))
 
 -- the rule that 21 names is free: it is the first argument here, and the answer's third number
 abbrev pub receiveUnitOn : ℕ → List ℕ → List ℕ → List ℕ → List ℕ → Left (List ℕ × List ℕ)

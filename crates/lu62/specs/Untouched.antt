@@ -7,7 +7,7 @@ use Prim.Native.Nat.{ℕ, _<_}
 use lib.Dec.{eqb}
 use Rattle.image.specs.ImageParts.{byteAt}
 use Rattle.lu62.specs.Handing.{Left}
-use Rattle.lu62.specs.Exported.{allocateOn, sendDataOn, flushOn, confirmOn, prepareToReceiveOn, deallocateOn, confirmedOn, paceOn, receiveUnitOn, receiveOn}
+use Rattle.lu62.specs.Exported.{allocateOn, sendDataOn, flushOn, confirmOn, prepareToReceiveOn, deallocateOn, confirmedOn, sendPacingResponseOn, receiveUnitOn, receiveOn}
 
 -- an image's values are bytes, which is always so of the code's u8
 abbrev pub Bytes : List ℕ → Type 0
@@ -26,7 +26,7 @@ pub record RefusedChangesNothing : Type 0 where
   pub prepareToReceive : (b : Bool) (send image unit : List ℕ) → Bytes image → Untouched image unit (prepareToReceiveOn b send image unit)
   pub deallocate : (b : Bool) (send image unit : List ℕ) → Bytes image → Untouched image unit (deallocateOn b send image unit)
   pub confirmed : (image unit : List ℕ) → Bytes image → Untouched image unit (confirmedOn image unit)
-  pub pace : (image unit : List ℕ) → Bytes image → Untouched image unit (paceOn image unit)
+  pub sendPacingResponse : (image unit : List ℕ) → Bytes image → Untouched image unit (sendPacingResponseOn image unit)
   pub receiveUnit : (rule : ℕ) (taken image inbox unit : List ℕ) → Bytes image
       → Untouched image (inbox, unit) (receiveUnitOn rule taken image inbox unit)
   pub receive : (image inbox buffer : List ℕ) → Bytes image → Untouched image (inbox, buffer) (receiveOn image inbox buffer)

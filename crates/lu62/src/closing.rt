@@ -19,7 +19,8 @@ fn close_on(
     unit: &mut [u8],
     answer: &mut [u32; 7],
 ) -> u32
-    ensures { λ r. ⌜ left (handed r (now (answer .exit)) (now (image .exit))) (now (unit .exit)) ≡ closeOn follows confirm (now (send .entry)) (now (image .entry)) (now (unit .entry)) ⌝ }
+    ensures { λ r. ⌜ left (handed r (now (answer .exit)) (now (image .exit))) (now (unit .exit))
+        ≡ closeOn follows confirm (now (send .entry)) (now (image .entry)) (now (unit .entry)) ⌝ }
 {
     let read = read_image(image);
     match read {
@@ -36,7 +37,8 @@ pub extern "C" fn lu62_flush(
     unit: &mut [u8],
     answer: &mut [u32; 7],
 ) -> u32
-    ensures { λ r. ⌜ left (handed r (now (answer .exit)) (now (image .exit))) (now (unit .exit)) ≡ flushOn (now (send .entry)) (now (image .entry)) (now (unit .entry)) ⌝ }
+    ensures { λ r. ⌜ left (handed r (now (answer .exit)) (now (image .exit))) (now (unit .exit))
+        ≡ flushOn (now (send .entry)) (now (image .entry)) (now (unit .entry)) ⌝ }
 {
     close_on(image, Follows::Stay, false, send, unit, answer)
 }
@@ -49,7 +51,8 @@ pub extern "C" fn lu62_confirm(
     unit: &mut [u8],
     answer: &mut [u32; 7],
 ) -> u32
-    ensures { λ r. ⌜ left (handed r (now (answer .exit)) (now (image .exit))) (now (unit .exit)) ≡ confirmOn (now (send .entry)) (now (image .entry)) (now (unit .entry)) ⌝ }
+    ensures { λ r. ⌜ left (handed r (now (answer .exit)) (now (image .exit))) (now (unit .exit))
+        ≡ confirmOn (now (send .entry)) (now (image .entry)) (now (unit .entry)) ⌝ }
 {
     close_on(image, Follows::Stay, true, send, unit, answer)
 }
@@ -64,7 +67,8 @@ pub extern "C" fn lu62_prepare_to_receive(
     unit: &mut [u8],
     answer: &mut [u32; 7],
 ) -> u32
-    ensures { λ r. ⌜ left (handed r (now (answer .exit)) (now (image .exit))) (now (unit .exit)) ≡ prepareToReceiveOn (not (eqb confirm 0)) (now (send .entry)) (now (image .entry)) (now (unit .entry)) ⌝ }
+    ensures { λ r. ⌜ left (handed r (now (answer .exit)) (now (image .exit))) (now (unit .exit))
+        ≡ prepareToReceiveOn (not (eqb confirm 0)) (now (send .entry)) (now (image .entry)) (now (unit .entry)) ⌝ }
 {
     close_on(
         image,
@@ -86,7 +90,8 @@ pub extern "C" fn lu62_deallocate(
     unit: &mut [u8],
     answer: &mut [u32; 7],
 ) -> u32
-    ensures { λ r. ⌜ left (handed r (now (answer .exit)) (now (image .exit))) (now (unit .exit)) ≡ deallocateOn (not (eqb confirm 0)) (now (send .entry)) (now (image .entry)) (now (unit .entry)) ⌝ }
+    ensures { λ r. ⌜ left (handed r (now (answer .exit)) (now (image .exit))) (now (unit .exit))
+        ≡ deallocateOn (not (eqb confirm 0)) (now (send .entry)) (now (image .entry)) (now (unit .entry)) ⌝ }
 {
     close_on(image, Follows::EndBracket, confirm != 0, send, unit, answer)
 }

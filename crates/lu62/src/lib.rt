@@ -6,6 +6,6 @@
 pub mod closing;
 mod handing;
 pub mod opening;
-pub mod receiving;
-pub mod sending;
+pub mod receive_calls;
+pub mod send_calls;
 pub mod theorems;

@@ -2,10 +2,10 @@
 use crate::handing::hand_out;
 use crate::handing::refuse_image;
 use answers::numbers::BAD_BUFFER;
-use end::Session;
 use image::IMAGE;
 use image::ImageRead;
 use image::decoding::read_image;
+use session::Session;
 use session::open_session;
 ghost use mathlib.Core.Path.{_≡_};
 ghost use Rattle.lu62.specs.Handing.{handed, left};
@@ -25,7 +25,8 @@ pub extern "C" fn lu62_open(
     image: &mut [u8],
     answer: &mut [u32; 7],
 ) -> u32
-    ensures { λ r. ⌜ handed r (now (answer .exit)) (now (image .exit)) ≡ openedOn (session role «out_window» «in_window» «out_max» «in_max») «send_length» «unit_length» «inbox_length» (now (image .entry)) ⌝ }
+    ensures { λ r. ⌜ handed r (now (answer .exit)) (now (image .exit))
+        ≡ openedOn (session role «out_window» «in_window» «out_max» «in_max») «send_length» «unit_length» «inbox_length» (now (image .entry)) ⌝ }
 {
     if image.len() != IMAGE {
         return refuse_image(BAD_BUFFER, answer);

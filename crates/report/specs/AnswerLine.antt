@@ -7,7 +7,7 @@ use lib.Dec.{eqb, leb}
 use lib.ListN.{length}
 use Rattle.script.specs.declared.Request.{Request}
 use Rattle.control.specs.declared.WhatReceived.{WhatReceived}
-use Rattle.control.specs.Tests.{isNothing}
+use Rattle.control.specs.StateTests.{isNothing}
 use Rattle.answers.specs.Answers.{SHORT-UNIT, BAD-HEADER}
 use Rattle.report.specs.Ascii.{ascii}
 use Rattle.report.specs.AnswerWords.{endWord, requestWords, markWord}

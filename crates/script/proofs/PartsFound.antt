@@ -9,7 +9,7 @@ use lib.ListN.{length, take, drop, drop-of-length-le}
 use lib.Seq.{take-length, drop-length}
 use borrow.Rule.Slice.PartMut.{midOf}
 use Rattle.bytes.specs.Bytes.{indexOf, slice}
-use Rattle.cells.proofs.Parts.{part-is}
+use Rattle.cells.proofs.PartLent.{part-is}
 
 -- a place that was found in the whole of a text
 pub found-in-all : (b : ℕ) (text : List ℕ) → 0 + indexOf b (slice 0 (length text) text) ≡ indexOf b text

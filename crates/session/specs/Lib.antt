@@ -1,1 +1,2 @@
+pub mod OpeningQuestions
 pub mod Opening

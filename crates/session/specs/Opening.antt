@@ -7,10 +7,11 @@ use Rattle.transitions.specs.Transitions.{fresh}
 use Rattle.control.specs.declared.Role.{Role}
 use Rattle.control.specs.declared.Role.the-variants.{FirstSpeaker}
 use Rattle.answers.specs.Answers.{accepted, refused}
-use Rattle.sides.specs.Opening.{openingRefusal, roleOf}
-use Rattle.sides.specs.Sending.{freshSending}
-use Rattle.sides.specs.Receiving.{freshReceiving}
-use Rattle.sides.specs.declared.Session.{Session}
+use Rattle.session.specs.OpeningQuestions.{openingRefusal}
+use Rattle.control.specs.StateTests.{roleOf}
+use Rattle.sending.specs.Sending.{freshSending}
+use Rattle.receiving.specs.Receiving.{freshReceiving}
+use Rattle.session.specs.declared.Session.{Session}
 use Rattle.end.specs.declared.End.{End}
 use Rattle.end.specs.declared.Done.{Done}
 

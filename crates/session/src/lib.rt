@@ -1,18 +1,28 @@
 // Opening a session: the questions asked of its sizes and of the buffers, and the end as it starts.
+pub mod opening_questions;
+
 use control::Role;
+use control::tests::role_of;
 use end::Done;
 use end::End;
 use end::results::accepted;
 use end::results::refused;
-use sides::Session;
-use sides::incoming::fresh_receiving;
-use sides::opening::opening_refusal;
-use sides::opening::role_of;
-use sides::outgoing::fresh_sending;
+use opening_questions::opening_refusal;
+use receiving::incoming::fresh_receiving;
+use sending::outgoing::fresh_sending;
 use transitions::fresh;
 ghost use mathlib.Core.Path.{_≡_};
 ghost use lib.ListN.{length};
 ghost use Rattle.session.specs.Opening.{freshEnd, zeroEnd, opened};
+
+// What a session is opened with: the role, and for each direction the window and the maximum RU.
+pub struct Session {
+    pub role: u8,
+    pub outwindow: u8,
+    pub inwindow: u8,
+    pub outmax: u32,
+    pub inmax: u32,
+}
 
 fn fresh_end(role: Role, outwindow: u8, outmax: u16, inwindow: u8, inmax: u16, inbox: u16) -> End
     ensures { λ r. ⌜ r ≡ freshEnd role outwindow outmax inwindow inmax inbox ⌝ }

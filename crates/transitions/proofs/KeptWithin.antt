@@ -8,15 +8,15 @@ use Rattle.header.specs.declared.Follows.{Follows}
 use Rattle.header.specs.declared.Follows.the-variants.{Stay, ChangeDirection, EndBracket}
 use Rattle.header.specs.declared.ChainEnd.{ChainEnd}
 use Rattle.header.specs.declared.ChainEnd.the-variants.{Continues, Last}
-use Rattle.control.specs.Tests.{isSend, isNothing}
-use Rattle.control.specs.Questions.{mayAllocate, maySend, mayConfirm, grantFits, refusalFits, confirmationFits}
+use Rattle.control.specs.StateTests.{isSend, isNothing}
+use Rattle.control.specs.Questions.{mayAllocate, maySend, mayConfirm, positiveResponseFits, negativeResponseFits, confirmationFits}
 use Rattle.control.specs.Within.{controlGood}
 use Rattle.control.specs.declared.Role.{Role}
 use Rattle.control.specs.declared.Role.the-variants.{FirstSpeaker, Bidder}
 use Rattle.control.specs.declared.Control.{Control}
-use Rattle.control.proofs.Finite.{controls}
+use Rattle.control.proofs.FiniteControl.{controls}
 use Rattle.control.proofs.Within.{heldFits, within}
-use Rattle.transitions.specs.Transitions.{fresh, allocated, spilled, closed, confirmationMade, markAnswered, dataTaken, bidTaken, grantTaken, refusalTaken, confirmationTaken}
+use Rattle.transitions.specs.Transitions.{fresh, allocated, spilled, closed, confirmationMade, markAnswered, dataReceived, bidReceived, positiveResponseReceived, negativeResponseReceived, confirmationReceived}
 
 abbrev implies : Bool → Bool → Bool
 implies a b = cond a b true
@@ -85,41 +85,41 @@ answered-keeps = kept marked markAnswered answered-checked
 abbrev any : Control → Bool
 any c = true
 
-bid-checked : keeps any bidTaken ≡ true
-unfolding keeps controlGood bidTaken
+bid-checked : keeps any bidReceived ≡ true
+unfolding keeps controlGood bidReceived
 bid-checked = refl
 
-pub bid-keeps : (c : Control) (some none : Bool) → within c some none ≡ true → within (bidTaken c) some none ≡ true
-bid-keeps c some none w = kept any bidTaken bid-checked c some none refl w
+pub bid-keeps : (c : Control) (some none : Bool) → within c some none ≡ true → within (bidReceived c) some none ≡ true
+bid-keeps c some none w = kept any bidReceived bid-checked c some none refl w
 
-grant-checked : keeps grantFits grantTaken ≡ true
-unfolding keeps controlGood grantTaken
+grant-checked : keeps positiveResponseFits positiveResponseReceived ≡ true
+unfolding keeps controlGood positiveResponseReceived
 grant-checked = refl
 
-pub grant-keeps : (c : Control) (some none : Bool) → grantFits c ≡ true → within c some none ≡ true → within (grantTaken c) some none ≡ true
-grant-keeps = kept grantFits grantTaken grant-checked
+pub grant-keeps : (c : Control) (some none : Bool) → positiveResponseFits c ≡ true → within c some none ≡ true → within (positiveResponseReceived c) some none ≡ true
+grant-keeps = kept positiveResponseFits positiveResponseReceived grant-checked
 
-refusal-checked : keeps refusalFits refusalTaken ≡ true
-unfolding keeps controlGood refusalTaken
+refusal-checked : keeps negativeResponseFits negativeResponseReceived ≡ true
+unfolding keeps controlGood negativeResponseReceived
 refusal-checked = refl
 
-pub refusal-keeps : (c : Control) (some none : Bool) → refusalFits c ≡ true → within c some none ≡ true → within (refusalTaken c) some none ≡ true
-refusal-keeps = kept refusalFits refusalTaken refusal-checked
+pub refusal-keeps : (c : Control) (some none : Bool) → negativeResponseFits c ≡ true → within c some none ≡ true → within (negativeResponseReceived c) some none ≡ true
+refusal-keeps = kept negativeResponseFits negativeResponseReceived refusal-checked
 
-confirmation-checked : keeps confirmationFits confirmationTaken ≡ true
-unfolding keeps controlGood confirmationTaken
+confirmation-checked : keeps confirmationFits confirmationReceived ≡ true
+unfolding keeps controlGood confirmationReceived
 confirmation-checked = refl
 
 pub confirmation-keeps :
-    (c : Control) (some none : Bool) → confirmationFits c ≡ true → within c some none ≡ true → within (confirmationTaken c) some none ≡ true
-confirmation-keeps = kept confirmationFits confirmationTaken confirmation-checked
+    (c : Control) (some none : Bool) → confirmationFits c ≡ true → within c some none ≡ true → within (confirmationReceived c) some none ≡ true
+confirmation-keeps = kept confirmationFits confirmationReceived confirmation-checked
 
 -- data comes only outside Send
 abbrev pub notSending : Control → Bool
 notSending c = not (isSend (c .state))
 
-data-checked : (ends : ChainEnd) → keeps notSending (dataTaken ends) ≡ true
-unfolding keeps controlGood dataTaken
+data-checked : (ends : ChainEnd) → keeps notSending (dataReceived ends) ≡ true
+unfolding keeps controlGood dataReceived
 data-checked Continues = refl
 data-checked (Last Stay true) = refl
 data-checked (Last Stay false) = refl
@@ -129,8 +129,8 @@ data-checked (Last EndBracket true) = refl
 data-checked (Last EndBracket false) = refl
 
 pub data-keeps :
-    (ends : ChainEnd) (c : Control) (some none : Bool) → notSending c ≡ true → within c some none ≡ true → within (dataTaken ends c) some none ≡ true
-data-keeps ends = kept notSending (dataTaken ends) (data-checked ends)
+    (ends : ChainEnd) (c : Control) (some none : Bool) → notSending c ≡ true → within c some none ≡ true → within (dataReceived ends c) some none ≡ true
+data-keeps ends = kept notSending (dataReceived ends) (data-checked ends)
 
 -- bytes given: some are held then
 abbrev same : Control → Control

@@ -10,8 +10,8 @@ use Rattle.header.specs.declared.ChainEnd.{ChainEnd}
 use Rattle.header.specs.declared.ChainEnd.the-variants.{Continues, Last}
 use Rattle.header.specs.declared.Header.{Header}
 use Rattle.header.specs.declared.Header.the-variants.{PositiveBidResponse, NegativeBidResponse}
-use Rattle.control.specs.Parts.{setState, setFollows, setMark, setDue, setBid, setOutchain, setInchain}
-use Rattle.control.specs.Tests.{isFirstSpeaker, isReset}
+use Rattle.control.specs.FieldChanged.{setState, setFollows, setMark, setDue, setBid, setOutchain, setInchain}
+use Rattle.control.specs.StateTests.{isFirstSpeaker, isReset}
 use Rattle.control.specs.declared.Role.{Role}
 use Rattle.control.specs.declared.State.{State}
 use Rattle.control.specs.declared.State.the-variants.{Reset, Send, Receive, ConfirmOwed, ConfirmAwaited}
@@ -85,24 +85,24 @@ markOf Continues = mark.Nothing
 markOf (Last f confirm) = markOfLast f confirm
 
 -- data: a bidder in Reset becomes Receive, as all others are; the mark is left, and the chain is open unless this was its last
-unfoldable pub dataTaken : ChainEnd → Control → Control
-dataTaken ends c = setInchain (not (isLast ends)) (setMark (markOf ends) (setState Receive c))
+unfoldable pub dataReceived : ChainEnd → Control → Control
+dataReceived ends c = setInchain (not (isLast ends)) (setMark (markOf ends) (setState Receive c))
 
 -- a bid: in Reset it makes a grant and becomes Receive, in any other state it makes a bid refusal
-unfoldable pub bidTaken : Control → Control
-bidTaken c = cond (isReset (c .state)) (setState Receive c) c
+unfoldable pub bidReceived : Control → Control
+bidReceived c = cond (isReset (c .state)) (setState Receive c) c
 
 abbrev pub bidAnswer : Control → Header
 bidAnswer c = cond (isReset (c .state)) PositiveBidResponse NegativeBidResponse
 
 -- a grant: Send, flag off
-unfoldable pub grantTaken : Control → Control
-grantTaken c = setBid false (setState Send c)
+unfoldable pub positiveResponseReceived : Control → Control
+positiveResponseReceived c = setBid false (setState Send c)
 
 -- a bid refusal: flag off
-unfoldable pub refusalTaken : Control → Control
-refusalTaken c = setBid false c
+unfoldable pub negativeResponseReceived : Control → Control
+negativeResponseReceived c = setBid false c
 
 -- a confirmation: stay gives Send, turn Receive, end Reset
-unfoldable pub confirmationTaken : Control → Control
-confirmationTaken c = setState (afterLast (c .follows)) c
+unfoldable pub confirmationReceived : Control → Control
+confirmationReceived c = setState (afterLast (c .follows)) c

@@ -11,7 +11,9 @@ use header::Follows;
 use header::Header;
 ghost use mathlib.Core.Path.{_≡_};
 ghost use mathlib.Core.Bool.{cond};
-ghost use Rattle.transitions.specs.Transitions.{fresh, allocated, beginOf, spilled, afterLast, closed, afterOwed, confirmationMade, afterMark, markAnswered, markOfLast, markOf, dataTaken, bidTaken, bidAnswer, grantTaken, refusalTaken, confirmationTaken};
+ghost use Rattle.transitions.specs.Transitions.{fresh, allocated, beginOf, spilled, afterLast, closed, afterOwed, confirmationMade};
+ghost use Rattle.transitions.specs.Transitions.{afterMark, markAnswered, markOfLast, markOf, dataReceived, bidReceived, bidAnswer};
+ghost use Rattle.transitions.specs.Transitions.{positiveResponseReceived, negativeResponseReceived, confirmationReceived};
 
 fn choose(ok: bool, a: Control, b: Control) -> Control
     ensures { λ r. ⌜ r ≡ cond ok a b ⌝ }
@@ -160,8 +162,8 @@ pub fn mark_answered(c: Control) -> Control
 }
 
 // Data was taken.
-pub fn data_taken(c: Control, ends: ChainEnd) -> Control
-    ensures { λ r. ⌜ r ≡ dataTaken ends c ⌝ }
+pub fn data_received(c: Control, ends: ChainEnd) -> Control
+    ensures { λ r. ⌜ r ≡ dataReceived ends c ⌝ }
 {
     let mark = mark_of(ends);
     let last = header::build::is_last(ends);
@@ -171,8 +173,8 @@ pub fn data_taken(c: Control, ends: ChainEnd) -> Control
 }
 
 // A bid was taken, and granted in Reset.
-pub fn bid_taken(c: Control) -> Control
-    ensures { λ r. ⌜ r ≡ bidTaken c ⌝ }
+pub fn bid_received(c: Control) -> Control
+    ensures { λ r. ⌜ r ≡ bidReceived c ⌝ }
 {
     let state = c.state;
     choose(is_reset(state), c.with_state(State::Receive), c)
@@ -191,22 +193,22 @@ pub fn bid_answer(c: Control) -> Header
 }
 
 // The bid was granted.
-pub fn grant_taken(c: Control) -> Control
-    ensures { λ r. ⌜ r ≡ grantTaken c ⌝ }
+pub fn positive_response_received(c: Control) -> Control
+    ensures { λ r. ⌜ r ≡ positiveResponseReceived c ⌝ }
 {
     c.with_state(State::Send).with_bid(false)
 }
 
 // The bid was refused.
-pub fn refusal_taken(c: Control) -> Control
-    ensures { λ r. ⌜ r ≡ refusalTaken c ⌝ }
+pub fn negative_response_received(c: Control) -> Control
+    ensures { λ r. ⌜ r ≡ negativeResponseReceived c ⌝ }
 {
     c.with_bid(false)
 }
 
 // The confirmation that was awaited came.
-pub fn confirmation_taken(c: Control) -> Control
-    ensures { λ r. ⌜ r ≡ confirmationTaken c ⌝ }
+pub fn confirmation_received(c: Control) -> Control
+    ensures { λ r. ⌜ r ≡ confirmationReceived c ⌝ }
 {
     let follows = c.follows;
     let state = after_last(follows);

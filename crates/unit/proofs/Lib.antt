@@ -1,5 +1,6 @@
 mod FixedRu
-mod Reading
+mod ReadByHeader
 mod Writing
 pub mod WrittenIsRead
-pub mod Units
+pub mod UnitLaws
+pub mod MaximumFacts

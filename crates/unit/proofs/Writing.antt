@@ -11,7 +11,7 @@ use borrow.Author.Tests.{le-leb, lt-leb}
 use borrow.Rule.Slice.PartMut.{midOf, putMid}
 use Rattle.cells.specs.Cells.{front}
 use Rattle.cells.proofs.Fronts.{front-then}
-use Rattle.cells.proofs.Parts.{part-is, part-back}
+use Rattle.cells.proofs.PartLent.{part-is, part-back}
 use Rattle.header.specs.Header.{headerBytes}
 use Rattle.unit.specs.Unit.{RU-START, unitBytes, unitOf, lengthMade, cellsMade}
 use Rattle.header.specs.declared.HeaderBytes.{HeaderBytes}

@@ -1,7 +1,7 @@
 -- A unit written is read back as its number, its fields and its RU.
 -- Assumes nothing.
-use Rattle.unit.specs.Claims.{WrittenIsRead}
-use Rattle.unit.proofs.Units.{unit-read, unit-ru}
+use Rattle.unit.specs.UnitClaims.{WrittenIsRead}
+use Rattle.unit.proofs.UnitLaws.{unit-read, unit-ru}
 
 pub written-is-read : WrittenIsRead
 written-is-read r n f ru h = (unit-read r n f ru, unit-ru n f ru)

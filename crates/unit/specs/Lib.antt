@@ -1,3 +1,5 @@
+pub mod Maximum
+pub mod Sequence
 pub mod Ru
 pub mod Unit
-pub mod Claims
+pub mod UnitClaims

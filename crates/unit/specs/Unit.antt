@@ -64,9 +64,3 @@ abbrev pub ruleIn : UnitRead → Rule
 ruleIn (unitRead.Good h) = Rule.H1
 ruleIn unitRead.TooShort = Rule.H1
 ruleIn (unitRead.Breaks r) = r
-
--- the paper's number: 20, the unit has under 5 bytes; 21, its header breaks a rule
-abbrev pub refusalOf : UnitRead → ℕ
-refusalOf (unitRead.Good h) = 0
-refusalOf unitRead.TooShort = 20
-refusalOf (unitRead.Breaks r) = 21

@@ -1,6 +1,8 @@
 // The unit: a 2-byte sequence number, high byte first, the header, and the RU from byte 5 on.
-pub mod read;
+pub mod maximum;
+pub mod read_unit;
 pub mod ru;
+pub mod sequence;
 pub mod theorems;
 pub mod write;
 

@@ -1,6 +1,6 @@
 // What is proved of units as a whole. The function does nothing; its contract is the claim, so that a check prints its name and
 // fails if a proof goes.
-ghost use Rattle.unit.specs.Claims.{WrittenIsRead};
+ghost use Rattle.unit.specs.UnitClaims.{WrittenIsRead};
 
 pub fn units()
     ensures { λ _. ⌜ WrittenIsRead ⌝ }

@@ -8,7 +8,7 @@ use lib.ListN.{length, take, drop, set, length-append}
 use lib.Seq.{take-length}
 use borrow.Rule.Slice.PartMut.{midOf, putMid}
 use Rattle.cells.specs.Cells.{front}
-use Rattle.cells.proofs.Parts.{part-is, part-back}
+use Rattle.cells.proofs.PartLent.{part-is, part-back}
 use Rattle.unit_lines.specs.UnitLine.{framed, frames, NoneLonger}
 
 -- two stores, and the unit in the part that starts at cell 2

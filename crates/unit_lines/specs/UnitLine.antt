@@ -7,7 +7,7 @@ use mathlib.Core.List.{List, [], _∷_, _++_}
 use lib.Dec.{leb, ltb}
 use lib.ListN.{length, take, drop, getD}
 use Rattle.unit.specs.Unit.{RU-START}
-use Rattle.sides.specs.Shared.{greatestMax}
+use Rattle.unit.specs.Maximum.{greatestMax}
 use Rattle.unit_lines.specs.declared.Line.{Line}
 
 -- the units that a line holds at most

@@ -44,7 +44,7 @@ abbrev pub noneOpen : Station
 noneOpen = afterTaking receiving (secondUnit ∷ thirdUnit ∷ [])
 
 abbrev pub openAgain : Station
-openAgain = after noneOpen (Verb.receive (zeros 2) ∷ Verb.receive (zeros 2) ∷ Verb.receive (zeros 2) ∷ Verb.pace ∷ [])
+openAgain = after noneOpen (Verb.receive (zeros 2) ∷ Verb.receive (zeros 2) ∷ Verb.receive (zeros 2) ∷ Verb.sendPacingResponse ∷ [])
 
 -- a bidder in Owes: a unit with a confirmation request taken, its record and its mark read
 abbrev pub owes : Station

@@ -10,10 +10,10 @@ use Rattle.unit.specs.Ru.{ruGood}
 use Rattle.unit.specs.Unit.{unitBytes, unitOf}
 use Rattle.pacing.specs.Pacing.{credit, advanced, answered}
 use Rattle.control.specs.Within.{controlGood}
-use Rattle.transitions.specs.Transitions.{allocated, spilled, closed, confirmationMade, markAnswered, dataTaken, bidTaken, grantTaken, refusalTaken, confirmationTaken}
-use Rattle.sides.specs.Sending.{sendingGood, requestMade}
-use Rattle.sides.specs.Receiving.{receivingGood, requestTaken}
-use Rattle.sides.specs.Opening.{openingRefusal}
+use Rattle.transitions.specs.Transitions.{allocated, spilled, closed, confirmationMade, markAnswered, dataReceived, bidReceived, positiveResponseReceived, negativeResponseReceived, confirmationReceived}
+use Rattle.sending.specs.Sending.{sendingGood, requestMade}
+use Rattle.receiving.specs.Receiving.{receivingGood, requestReceived}
+use Rattle.session.specs.OpeningQuestions.{openingRefusal}
 use Rattle.session.specs.Opening.{opened}
 use Rattle.end.specs.Record.{recordGood}
 use Rattle.end.specs.Requests.{dataHeader}
@@ -21,14 +21,14 @@ use Rattle.end.specs.Allocate.{allocateRefusal, bidMade, allocateDecision, allo
 use Rattle.end.specs.SendData.{sendRefusal, bytesKept, bytesSpilled, sendDecision, sendCells, sendData}
 use Rattle.end.specs.Close.{closeRefusal, lastMade, closeDecision, close}
 use Rattle.end.specs.Confirmed.{confirmedRefusal, confirmedDecision, confirmed}
-use Rattle.end.specs.ReceiveUnit.{takeRefusal, dataJoined, bidAnswered, creditRaised, takeDecision, inboxCells, receiveUnit}
-use Rattle.end.specs.Receive.{readRefusal, copyCount, bytesRead, markRead, readDecision, inboxMoved, receive}
-use Rattle.end.specs.Pace.{paceRefusal, paceDecision, pace}
+use Rattle.end.specs.ReceiveUnit.{receiveUnitRefusal, dataJoined, bidAnswered, creditRaised, receiveUnitDecision, inboxCells, receiveUnit}
+use Rattle.end.specs.Receive.{receiveRefusal, copyCount, bytesRead, markRead, receiveDecision, inboxMoved, receive}
+use Rattle.end.specs.SendPacingResponse.{sendPacingResponseRefusal, sendPacingResponseDecision, sendPacingResponse}
 use Rattle.calls.specs.Calls.{called, taken}
 use Rattle.calls.specs.UnitCounts.{requestsAmong}
 use Rattle.joined.specs.Ends.{acts, takes}
 use Rattle.joined.specs.Histories as H
 
 unfoldable pub computed : Unit {0}
-unfolding front written sameBytes thenWalk recordsFrom keeps headerGood headerBytes fieldsOf ruGood unitBytes unitOf credit advanced answered controlGood allocated spilled closed confirmationMade markAnswered dataTaken bidTaken grantTaken refusalTaken confirmationTaken sendingGood requestMade receivingGood requestTaken openingRefusal opened recordGood dataHeader allocateRefusal bidMade allocateDecision allocate sendRefusal bytesKept bytesSpilled sendDecision sendCells sendData closeRefusal lastMade closeDecision close confirmedRefusal confirmedDecision confirmed takeRefusal dataJoined bidAnswered creditRaised takeDecision inboxCells receiveUnit readRefusal copyCount bytesRead markRead readDecision inboxMoved receive paceRefusal paceDecision pace called taken acts takes H.bytesAccepted H.bytesRead H.bytesOnLine H.pacingResponsesTaken H.requestsMade requestsAmong
+unfolding front written sameBytes thenWalk recordsFrom keeps headerGood headerBytes fieldsOf ruGood unitBytes unitOf credit advanced answered controlGood allocated spilled closed confirmationMade markAnswered dataReceived bidReceived positiveResponseReceived negativeResponseReceived confirmationReceived sendingGood requestMade receivingGood requestReceived openingRefusal opened recordGood dataHeader allocateRefusal bidMade allocateDecision allocate sendRefusal bytesKept bytesSpilled sendDecision sendCells sendData closeRefusal lastMade closeDecision close confirmedRefusal confirmedDecision confirmed receiveUnitRefusal dataJoined bidAnswered creditRaised receiveUnitDecision inboxCells receiveUnit receiveRefusal copyCount bytesRead markRead receiveDecision inboxMoved receive sendPacingResponseRefusal sendPacingResponseDecision sendPacingResponse called taken acts takes H.bytesAccepted H.bytesRead H.bytesOnLine H.pacingResponsesTaken H.requestsMade requestsAmong
 computed = tt

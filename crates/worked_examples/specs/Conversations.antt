@@ -103,7 +103,7 @@ cut =
     ∷ first (act (Verb.sendData eight))
     ∷ first (act (Verb.sendData sixteen))
     ∷ second (take normal)
-    ∷ second (act Verb.pace)
+    ∷ second (act Verb.sendPacingResponse)
     ∷ first (act (Verb.sendData four))
     ∷ first (act (J.deallocate false))
     ∷ first (take normal)

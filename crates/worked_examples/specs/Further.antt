@@ -101,15 +101,15 @@ pub record OpenRaised : Type 0 where
   pub left-at-2 : openAt twoTaken ≡ 1
   pub left-at-0 : openAt (afterTaking twoTaken (thirdUnit ∷ [])) ≡ 0
   pub owed-on : (owed roomy ≡ false) × (owed oneTaken ≡ true) × (owed twoTaken ≡ true)
-  pub paced-at-1 : makes oneTaken Verb.pace ≡ aPacingAnswer ∷ []
-  pub raised-at-1 : openAt (after oneTaken (Verb.pace ∷ [])) ≡ 5
-  pub off-at-1 : owed (after oneTaken (Verb.pace ∷ [])) ≡ false
-  pub paced-at-2 : makes twoTaken Verb.pace ≡ aPacingAnswer ∷ []
-  pub raised-at-2 : openAt (after twoTaken (Verb.pace ∷ [])) ≡ 4
-  pub off-at-2 : owed (after twoTaken (Verb.pace ∷ [])) ≡ false
+  pub paced-at-1 : makes oneTaken Verb.sendPacingResponse ≡ aPacingAnswer ∷ []
+  pub raised-at-1 : openAt (after oneTaken (Verb.sendPacingResponse ∷ [])) ≡ 5
+  pub off-at-1 : owed (after oneTaken (Verb.sendPacingResponse ∷ [])) ≡ false
+  pub paced-at-2 : makes twoTaken Verb.sendPacingResponse ≡ aPacingAnswer ∷ []
+  pub raised-at-2 : openAt (after twoTaken (Verb.sendPacingResponse ∷ [])) ≡ 4
+  pub off-at-2 : owed (after twoTaken (Verb.sendPacingResponse ∷ [])) ≡ false
   -- "is an answer owed, and is held + (open+W)×M within the inbox?" Answered twice; and where the inbox has no room for a window more
-  pub paced-once : refuses (after oneTaken (Verb.pace ∷ [])) Verb.pace ≡ 11
-  pub no-room : refuses receiving Verb.pace ≡ 11
+  pub paced-once : refuses (after oneTaken (Verb.sendPacingResponse ∷ [])) Verb.sendPacingResponse ≡ 11
+  pub no-room : refuses receiving Verb.sendPacingResponse ≡ 11
   -- a bid is a request too, granted or refused
   pub bid-before : openAt (firstSpeaker 3 64) ≡ 3
   pub bid-granted : openAt (taking (firstSpeaker 3 64) aBid .end) ≡ 2

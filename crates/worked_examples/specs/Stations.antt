@@ -2,7 +2,7 @@
 -- Assumes nothing.
 use Prim.Native.Nat.{ℕ, zero, suc, _+_, _*_}
 use mathlib.Core.List.{List, [], _∷_, _++_}
-use Rattle.sides.specs.declared.Session.{Session}
+use Rattle.session.specs.declared.Session.{Session}
 use Rattle.joined.specs.Joined.{Took, Both, At, run}
 use Rattle.calls.specs.Calls as J
 use Rattle.joined.specs.Ends.{Lane, normal, sameLane, Buffers, acts, takes, openedWith, openedBoth}

@@ -12,7 +12,7 @@ use Rattle.header.specs.Rules.{bytes, keeps, breaks, ruleNumber, headerGood}
 use Rattle.header.specs.declared.Rule.{Rule}
 use Rattle.header.specs.declared.Rule.the-variants.{H1, H2, H3, H4, H5, H6}
 use Rattle.unit.specs.Unit.{headerIn}
-use Rattle.control.specs.Parts.{setState}
+use Rattle.control.specs.FieldChanged.{setState}
 use Rattle.control.specs.declared.State.the-variants.{ConfirmOwed}
 use Rattle.control.specs.declared.WhatReceived.the-variants as mark
 use Rattle.end.specs.Outcome.{withControl, withOwed}

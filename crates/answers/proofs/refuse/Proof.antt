@@ -2,11 +2,8 @@ use borrow.Author.Needs.{needs}
 use Rattle.answers.proofs.refuse.Statement.{statement}
 use Rattle.answers.proofs.refuse.Tie as tie
 
-sense-of-requires : tie.Need-sense-of-requires
-sense-of-requires c κs = search needs
-
 returns : tie.Need-returns
 returns c = rw (c .sense-of .ensures)
 
 pub refuse-spec : {M : Type 1} → statement M
-refuse-spec = tie.close (tie.spec sense-of-requires returns)
+refuse-spec = tie.close (tie.spec (search needs) returns)

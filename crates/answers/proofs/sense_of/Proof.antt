@@ -6,17 +6,8 @@ use borrow.Author.Needs.{needs}
 use Rattle.answers.proofs.sense_of.Statement.{statement}
 use Rattle.answers.proofs.sense_of.Tie as tie
 
-mul-result : tie.Need-mul-result
-mul-result c = search needs
-
-array-read-result : tie.Need-array-read-result
-array-read-result c = search needs
-
-returns : tie.Need-returns
-returns c = search needs
-
 returns-2 : tie.Need-returns-2
 returns-2 c = sym (List·getD-eq-default senses 0 {n = c .before .args .number} (omega arith))
 
 pub sense-of-spec : {M : Type 1} → statement M
-sense-of-spec = tie.close (tie.spec mul-result array-read-result returns returns-2)
+sense-of-spec = tie.close (tie.spec (search needs) (search needs) (search needs) returns-2)

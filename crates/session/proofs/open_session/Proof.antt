@@ -2,7 +2,7 @@ use mathlib.Core.Path.{sym, _∙_}
 use native.Mathlib.Omega.{arith}
 use borrow.Author.Tests.{eq-eqb, ne-eqb}
 use Rattle.session.specs.Opening.{opened}
-use Rattle.session.proofs.Openings.{opening-fits}
+use Rattle.session.proofs.OpeningFits.{opening-fits}
 use borrow.Author.Needs.{needs}
 use Rattle.session.proofs.open_session.Statement.{statement}
 use Rattle.session.proofs.open_session.Tie as tie

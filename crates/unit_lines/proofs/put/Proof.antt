@@ -4,7 +4,7 @@ use native.Mathlib.Omega.{arith}
 use denote.Ref.{now}
 use lib.ListN.{length, length-drop}
 use Rattle.cells.specs.Cells.{written}
-use Rattle.cells.proofs.Parts.{part-is, part-back}
+use Rattle.cells.proofs.PartLent.{part-is, part-back}
 use Rattle.unit_lines.proofs.Held.{has-room, room-for, joined, apart}
 use borrow.Author.Needs.{needs}
 use Rattle.unit_lines.proofs.put.Statement.{statement}

@@ -3,7 +3,7 @@ use mathlib.Core.Path.{ap, _∙_}
 use native.Mathlib.Omega.{arith}
 use denote.Ref.{now}
 use lib.ListN.{length, length-set, length-drop}
-use Rattle.cells.proofs.Parts.{part-is}
+use Rattle.cells.proofs.PartLent.{part-is}
 use Rattle.cells.proofs.Fronts.{front-length}
 use Rattle.unit_lines.specs.UnitLine.{framed}
 use Rattle.unit_lines.proofs.Frames.{frame-put}

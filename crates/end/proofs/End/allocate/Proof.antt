@@ -9,8 +9,8 @@ use Rattle.pacing.specs.Pacing.{paced}
 use Rattle.end.specs.Outcome.{doneOf}
 use Rattle.end.specs.Results.{madeBy}
 use Rattle.end.specs.Allocate.{allocateDecision, allocate}
-use Rattle.end.proofs.Makes.{wrote}
-use Rattle.end.proofs.Makings.{allocate-makes}
+use Rattle.end.proofs.DecisionCells.{wrote}
+use Rattle.end.proofs.UnitsMade.{allocate-makes}
 use borrow.Author.Needs.{needs}
 use Rattle.end.proofs.End.allocate.Statement.{statement}
 use Rattle.end.proofs.End.allocate.Tie as tie

@@ -10,7 +10,7 @@ returns c = rw (
   c .before .with-receiving .ensures,
   c .before .before .with-control .ensures,
   c .before .before .before .request-counted .ensures,
-  c .before .before .before .before .bid-taken .ensures,
+  c .before .before .before .before .bid-received .ensures,
   c .before .before .before .before .before .bid-answer .ensures,
 )
 

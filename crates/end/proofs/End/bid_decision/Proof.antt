@@ -1,4 +1,4 @@
-use Rattle.sides.specs.Sending.{requestMade}
+use Rattle.sending.specs.Sending.{requestMade}
 use Rattle.end.specs.Allocate.{bidMade}
 use borrow.Author.Needs.{needs}
 use Rattle.end.proofs.End.bid_decision.Statement.{statement}

@@ -8,8 +8,8 @@ use Rattle.end.specs.SendData.{heldBytes}
 use Rattle.end.specs.Outcome.{Out, cellsOut, doneOf}
 use Rattle.end.specs.Results.{madeBy}
 use Rattle.end.specs.Close.{closeDecision, close}
-use Rattle.end.proofs.Makes.{stays, goes}
-use Rattle.end.proofs.Makings.{close-makes, close-goes}
+use Rattle.end.proofs.DecisionCells.{stays, goes}
+use Rattle.end.proofs.UnitsMade.{close-makes, close-goes}
 use borrow.Author.Needs.{needs}
 use Rattle.end.proofs.End.close.Statement.{statement}
 use Rattle.end.proofs.End.close.Tie as tie

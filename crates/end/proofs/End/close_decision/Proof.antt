@@ -2,7 +2,7 @@ use mathlib.Core.Path.{sym, _∙_}
 use native.Mathlib.Omega.{arith}
 use borrow.Author.Tests.{eq-eqb, ne-eqb}
 use Rattle.end.specs.Close.{closeDecision}
-use Rattle.end.proofs.Rooms.{close-room}
+use Rattle.end.proofs.RoomToWrite.{close-room}
 use borrow.Author.Needs.{needs}
 use Rattle.end.proofs.End.close_decision.Statement.{statement}
 use Rattle.end.proofs.End.close_decision.Tie as tie

@@ -7,8 +7,8 @@ use Rattle.header.specs.declared.Header.the-variants.{Confirmation}
 use Rattle.end.specs.Outcome.{doneOf}
 use Rattle.end.specs.Results.{madeBy}
 use Rattle.end.specs.Confirmed.{confirmedDecision, confirmed}
-use Rattle.end.proofs.Makes.{wrote}
-use Rattle.end.proofs.Makings.{confirmed-makes}
+use Rattle.end.proofs.DecisionCells.{wrote}
+use Rattle.end.proofs.UnitsMade.{confirmed-makes}
 use borrow.Author.Needs.{needs}
 use Rattle.end.proofs.End.confirmed.Statement.{statement}
 use Rattle.end.proofs.End.confirmed.Tie as tie

@@ -3,15 +3,9 @@ use borrow.Author.Needs.{needs}
 use Rattle.end.proofs.End.data_header.Statement.{statement}
 use Rattle.end.proofs.End.data_header.Tie as tie
 
-begin-of-requires : tie.Need-begin-of-requires
-begin-of-requires c κs = search needs
-
-paced-requires : tie.Need-paced-requires
-paced-requires c κs = search needs
-
 returns : tie.Need-returns
 unfolding dataHeader
 returns c = rw (c .paced .ensures, c .before .begin-of .ensures)
 
 pub data-header-spec : {M : Type 1} → statement M
-data-header-spec = tie.close (tie.spec begin-of-requires paced-requires returns)
+data-header-spec = tie.close (tie.spec (search needs) (search needs) returns)

@@ -11,7 +11,7 @@ returns c = rw (
   c .before .before .confirms .ensures,
   c .before .before .before .with-receiving .ensures,
   c .before .before .before .before .with-control .ensures,
-  c .before .before .before .before .before .data-taken .ensures,
+  c .before .before .before .before .before .data-received .ensures,
   c .before .before .before .before .before .before .joined .ensures,
   c .before .before .before .before .before .before .before .before .pre .0,
 )

@@ -1,5 +1,5 @@
 use lib.Seq.{length-take-le}
-use Rattle.sides.specs.Sending.{requestMade}
+use Rattle.sending.specs.Sending.{requestMade}
 use Rattle.end.specs.Close.{lastMade}
 use borrow.Author.Needs.{needs}
 use Rattle.end.proofs.End.last_decision.Statement.{statement}

@@ -5,8 +5,8 @@ use denote.Ref.{now}
 use borrow.Author.Tests.{ne-eqb}
 use Rattle.cells.specs.Cells.{front}
 use Rattle.end.specs.declared.ReadDone.{ReadDone}
-use Rattle.end.specs.Receive.{readDecision, inboxMoved, receive}
-use Rattle.end.proofs.Reading.{read-copies}
+use Rattle.end.specs.Receive.{receiveDecision, inboxMoved, receive}
+use Rattle.end.proofs.ReceiveCells.{read-copies}
 use borrow.Author.Needs.{needs}
 use Rattle.end.proofs.End.receive.Statement.{statement}
 use Rattle.end.proofs.End.receive.Tie as tie
@@ -34,7 +34,7 @@ returns-2 c = let a = c .before .before .before .before .before .before .before 
       c .before .before .before .before .hand-over .ensures .0,
       c .before .before .before .before .hand-over .ensures .1,
       e,
-      ne-eqb (readDecision (a .self) (now (a .inbox)) (length (now (a .buffer))) .answer .copied) 0 (λ z. c .before .before .before .before .before .before .before .before .if1 .left (copied ∙ z)),
+      ne-eqb (receiveDecision (a .self) (now (a .inbox)) (length (now (a .buffer))) .answer .copied) 0 (λ z. c .before .before .before .before .before .before .before .before .if1 .left (copied ∙ z)),
     )
 
 pub receive-spec : {M : Type 1} → statement M

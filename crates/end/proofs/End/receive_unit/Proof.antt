@@ -2,7 +2,7 @@ use mathlib.Core.Path.{ap, _∙_}
 use lib.ListN.{length}
 use denote.Ref.{now}
 use Rattle.end.specs.declared.Done.{Done}
-use Rattle.end.proofs.Joins.{take-rooms, take-left}
+use Rattle.end.proofs.ReceiveUnitCells.{take-rooms, take-left}
 use borrow.Author.Needs.{needs}
 use Rattle.end.proofs.End.receive_unit.Statement.{statement}
 use Rattle.end.proofs.End.receive_unit.Tie as tie

@@ -3,15 +3,15 @@ use native.Mathlib.Omega.{arith}
 use lib.ListN.{length}
 use denote.Ref.{now}
 use borrow.Author.Tests.{leb-true, ne-eqb}
-use Rattle.cells.proofs.Parts.{part-is}
+use Rattle.cells.proofs.PartLent.{part-is}
 use Rattle.unit.specs.Unit.{numberIn}
 use Rattle.answers.specs.declared.Answer.{Answer}
 use Rattle.end.specs.Outcome.{refuse}
-use Rattle.end.specs.ReceiveUnit.{headerTaken, ruTaken}
+use Rattle.end.specs.ReceiveUnit.{headerReceived, ruReceived}
 use Rattle.end.specs.Kinds.{endRefusal, kindDecision}
-use Rattle.end.proofs.TakeRooms.{end-good}
-use Rattle.end.proofs.UnitReads.{read-good, read-short, read-broken}
-use Rattle.end.proofs.Takes.{take-short, take-broken, take-refused, take-unlooked, take-by-kind, unnamed, kind-not-21, end-not-21}
+use Rattle.end.proofs.RoomToReceive.{end-good}
+use Rattle.end.proofs.UnitFacts.{read-good, read-short, read-broken}
+use Rattle.end.proofs.ReceiveUnitRows.{take-short, take-broken, take-refused, take-unlooked, take-by-kind, unnamed, kind-not-21, end-not-21}
 use borrow.Author.Needs.{needs}
 use Rattle.end.proofs.End.receive_unit_decision.Statement.{statement}
 use Rattle.end.proofs.End.receive_unit_decision.Tie as tie
@@ -43,9 +43,9 @@ returns-2 c = let a = c .before .before .before .before .before .before .before 
     let taken = now (a .taken) in
     let g = read-good taken _ _ (sym (c .before .before .before .read .given .1) ∙ c .before .before .before .before .before .read-unit .ensures .0) in
     let d = take-by-kind (a .self) taken (a .inbox) (a .unit) (sym (c .before .before .before .before .before .before .before .end-refusal .ensures) ∙ c .before .before .before .before .before .before .if1 .left) (g .long) (g .good) in
-    let u = unnamed (c .kind-decision .result) (kindDecision (a .self) (headerTaken taken) (numberIn taken) (ruTaken taken))
+    let u = unnamed (c .kind-decision .result) (kindDecision (a .self) (headerReceived taken) (numberIn taken) (ruReceived taken))
     (rw (c .kind-decision .ensures, g .header-is, g .number-is, part-is))
-    (kind-not-21 (a .self) (headerTaken taken) (numberIn taken) (ruTaken taken)) in
+    (kind-not-21 (a .self) (headerReceived taken) (numberIn taken) (ruReceived taken)) in
     (rw d (u .0), λ x. absurd (u .1 x))
 
 returns-3 : tie.Need-returns-3

@@ -4,15 +4,9 @@ use borrow.Author.Needs.{needs}
 use Rattle.end.proofs.End.record_good.Statement.{statement}
 use Rattle.end.proofs.End.record_good.Tie as tie
 
-control-good-requires : tie.Need-control-good-requires
-control-good-requires c κs = search needs
-
 returns : tie.Need-returns
 unfolding recordGood
 returns c = let k = c .before .control-good in rw (← k .ensures, not-true (k .result) (c .if1 .taken))
-
-sending-good-requires : tie.Need-sending-good-requires
-sending-good-requires c κs = search needs
 
 returns-2 : tie.Need-returns-2
 unfolding recordGood
@@ -20,9 +14,6 @@ returns-2 c =
     let k = c .before .before .before .control-good in
     let s = c .before .sending-good in
     rw (← k .ensures, not-false (k .result) (c .before .before .if1 .left), ← s .ensures, not-true (s .result) (c .if2 .taken))
-
-receiving-good-requires : tie.Need-receiving-good-requires
-receiving-good-requires c κs = search needs
 
 returns-3 : tie.Need-returns-3
 unfolding recordGood
@@ -40,4 +31,4 @@ returns-3 c =
 pub record-good-spec : {M : Type 1} → statement M
 record-good-spec =
     tie.close
-    (tie.spec control-good-requires returns sending-good-requires returns-2 receiving-good-requires returns-3)
+    (tie.spec (search needs) returns (search needs) returns-2 (search needs) returns-3)

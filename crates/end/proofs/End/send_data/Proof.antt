@@ -5,7 +5,7 @@ use denote.Ref.{now}
 use Rattle.end.specs.declared.Done.{Done}
 use Rattle.end.specs.Outcome.{doneOf}
 use Rattle.end.specs.SendData.{sendDecision, sendData}
-use Rattle.end.proofs.Spills.{send-sends, send-refused}
+use Rattle.end.proofs.SendDataCells.{send-sends, send-refused}
 use borrow.Author.Needs.{needs}
 use Rattle.end.proofs.End.send_data.Statement.{statement}
 use Rattle.end.proofs.End.send_data.Tie as tie

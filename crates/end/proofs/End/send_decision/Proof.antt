@@ -5,13 +5,10 @@ use denote.Ref.{now}
 use native.Mathlib.Omega.{arith}
 use borrow.Author.Tests.{eq-eqb, ne-eqb, leb-true, leb-false}
 use Rattle.end.specs.SendData.{bytesKept, sendDecision}
-use Rattle.end.proofs.Spills.{send-room}
+use Rattle.end.proofs.SendDataCells.{send-room}
 use borrow.Author.Needs.{needs}
 use Rattle.end.proofs.End.send_decision.Statement.{statement}
 use Rattle.end.proofs.End.send_decision.Tie as tie
-
-send-refusal-requires : tie.Need-send-refusal-requires
-send-refusal-requires c κs = search needs
 
 returns : tie.Need-returns
 unfolding sendDecision
@@ -47,4 +44,4 @@ returns-3 c = λ cells h.
     (c .spill-decision .ensures cells (omega (arith, r .in-send, h)))
 
 pub send-decision-spec : {M : Type 1} → statement M
-send-decision-spec = tie.close (tie.spec (search needs) send-refusal-requires (search needs) returns (search needs) kept-requires (search needs) (search needs) returns-2 spill-decision-requires returns-3)
+send-decision-spec = tie.close (tie.spec (search needs) (λ c κs. search needs) (search needs) returns (search needs) kept-requires (search needs) (search needs) returns-2 spill-decision-requires returns-3)

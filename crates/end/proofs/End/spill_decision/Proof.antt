@@ -1,7 +1,7 @@
 use denote.Ref.{now}
-use Rattle.sides.specs.Sending.{requestMade}
+use Rattle.sending.specs.Sending.{requestMade}
 use Rattle.end.specs.SendData.{bytesSpilled}
-use Rattle.end.proofs.Spills.{spilled-length}
+use Rattle.end.proofs.SendDataCells.{spilled-length}
 use borrow.Author.Needs.{needs}
 use Rattle.end.proofs.End.spill_decision.Statement.{statement}
 use Rattle.end.proofs.End.spill_decision.Tie as tie

@@ -2,11 +2,8 @@ use borrow.Author.Needs.{needs}
 use Rattle.end.proofs.results.accepted.Statement.{statement}
 use Rattle.end.proofs.results.accepted.Tie as tie
 
-accept-requires : tie.Need-accept-requires
-accept-requires c κs = search needs
-
 returns : tie.Need-returns
 returns c = rw (c .accept .ensures)
 
 pub accepted-spec : {M : Type 1} → statement M
-accepted-spec = tie.close (tie.spec accept-requires returns)
+accepted-spec = tie.close (tie.spec (search needs) returns)

@@ -2,11 +2,8 @@ use borrow.Author.Needs.{needs}
 use Rattle.end.proofs.results.read_refused.Statement.{statement}
 use Rattle.end.proofs.results.read_refused.Tie as tie
 
-read-refuse-requires : tie.Need-read-refuse-requires
-read-refuse-requires c κs = search needs
-
 returns : tie.Need-returns
 returns c = rw (c .read-refuse .ensures)
 
 pub read-refused-spec : {M : Type 1} → statement M
-read-refused-spec = tie.close (tie.spec read-refuse-requires returns)
+read-refused-spec = tie.close (tie.spec (search needs) returns)

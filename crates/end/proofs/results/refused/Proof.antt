@@ -2,11 +2,8 @@ use borrow.Author.Needs.{needs}
 use Rattle.end.proofs.results.refused.Statement.{statement}
 use Rattle.end.proofs.results.refused.Tie as tie
 
-refuse-requires : tie.Need-refuse-requires
-refuse-requires c κs = search needs
-
 returns : tie.Need-returns
 returns c = rw (c .refuse .ensures)
 
 pub refused-spec : {M : Type 1} → statement M
-refused-spec = tie.close (tie.spec refuse-requires returns)
+refused-spec = tie.close (tie.spec (search needs) returns)

@@ -1,4 +1,4 @@
--- `theorems::headers` meets its contract: the four claims of specs/Claims.antt.
+-- `theorems::headers` meets its contract: the four claims of specs/HeaderClaims.antt.
 -- Assumes nothing.
 use Rattle.header.proofs.RoundTrip.{built-is-read, read-is-built}
 use Rattle.header.proofs.OnlyH1.{only-h1}

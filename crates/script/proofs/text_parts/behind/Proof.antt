@@ -2,7 +2,7 @@
 -- Assumes nothing.
 use denote.Ref.{now}
 use Rattle.script.proofs.PartsFound.{past-end}
-use Rattle.cells.proofs.Parts.{part-is}
+use Rattle.cells.proofs.PartLent.{part-is}
 use borrow.Author.Needs.{needs}
 use Rattle.script.proofs.text_parts.behind.Statement.{statement}
 use Rattle.script.proofs.text_parts.behind.Tie as tie

@@ -1,4 +1,4 @@
--- `theorems::units` meets its contract: the claim of specs/Claims.antt.
+-- `theorems::units` meets its contract: the claim of specs/UnitClaims.antt.
 -- Assumes nothing.
 use Rattle.unit.proofs.WrittenIsRead.{written-is-read}
 use Rattle.unit.proofs.theorems.units.Statement.{statement}

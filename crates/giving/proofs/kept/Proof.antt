@@ -1,9 +1,0 @@
-use borrow.Author.Needs.{needs}
-use Rattle.giving.proofs.kept.Statement.{statement}
-use Rattle.giving.proofs.kept.Tie as tie
-
-returns : tie.Need-returns
-returns c = rw (c .place-or .ensures)
-
-pub kept-spec : {M : Type 1} → statement M
-kept-spec = tie.close (tie.spec (search needs) (search needs) (search needs) returns)

@@ -1,0 +1,2 @@
+pub mod ReceivingGood
+mod Most

@@ -1,0 +1,3 @@
+pub mod Receiving
+pub mod UnitQuestions
+pub mod BytesRead

@@ -1,4 +1,0 @@
-pub mod Shared
-pub mod Sending
-pub mod Receiving
-pub mod Opening
