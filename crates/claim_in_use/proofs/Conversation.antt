@@ -10,41 +10,18 @@ use Rattle.joined.specs.Joined as J
 use Rattle.joined.specs.Joined.{At, first, second, act, Some, step, AllFed}
 use Rattle.joined.specs.Ends.{Lane, sameLane, acts, takes}
 use Rattle.calls.specs.Calls.{Verb}
-use Rattle.calls.proofs.ByteLists.{below256, are-bytes}
-use Rattle.calls.specs.Laws.{BytesOf}
-use Rattle.joined.specs.Claim.{Pair, Claim, TheRecords, LentBytes, AlwaysGood, BytesOfAll}
+use Rattle.calls.proofs.ByteLists.{are-bytes}
+use Rattle.joined.specs.Claim.{Pair, Claim, TheRecords, LentBytes, AlwaysGood}
 use Rattle.worked_examples.specs.Stations.{anyRule}
 use Rattle.worked_examples.specs.Computed.{computed}
-use Rattle.claim_in_use.specs.OtherWords.{bytesOf}
+use Rattle.claim_in_use.specs.OtherWords.{each, offered}
 use Rattle.claim_in_use.specs.Conversation.{speaker, bidder, lent, ends, calls, reordered, Happened, Asked, Said, OneConversation}
+use Rattle.claim_in_use.proofs.GivenBytes.{written-out, given-bytes}
 
 -- ---- bytes
 
 lent-bytes : LentBytes lent
 lent-bytes = record { send = are-bytes (lent .send) refl; inbox = are-bytes (lent .inbox) refl }
-
--- the bytes that each call of a list gives
-abbrev allBelow256 : List (At Lane Verb) → Bool
-allBelow256 [] = true
-allBelow256 (first (act v) ∷ l) = below256 (bytesOf v) && allBelow256 l
-allBelow256 (first (J.take k) ∷ l) = allBelow256 l
-allBelow256 (second (act v) ∷ l) = below256 (bytesOf v) && allBelow256 l
-allBelow256 (second (J.take k) ∷ l) = allBelow256 l
-
-gives-bytes : (v : Verb) → below256 (bytesOf v) ≡ true → BytesOf v
-gives-bytes Verb.allocate e = tt
-gives-bytes Verb.confirmed e = tt
-gives-bytes Verb.sendPacingResponse e = tt
-gives-bytes (Verb.sendData bytes) e = are-bytes bytes e
-gives-bytes (Verb.close f b) e = tt
-gives-bytes (Verb.receive buffer) e = tt
-
-all-bytes : (l : List (At Lane Verb)) → allBelow256 l ≡ true → BytesOfAll l
-all-bytes [] e = tt
-all-bytes (first (act v) ∷ l) e = let h = both (below256 (bytesOf v)) (allBelow256 l) e in (gives-bytes v (h .0), all-bytes l (h .1))
-all-bytes (first (J.take k) ∷ l) e = (tt, all-bytes l e)
-all-bytes (second (act v) ∷ l) e = let h = both (below256 (bytesOf v)) (allBelow256 l) e in (gives-bytes v (h .0), all-bytes l (h .1))
-all-bytes (second (J.take k) ∷ l) e = (tt, all-bytes l e)
 
 -- ---- takes
 
@@ -117,7 +94,8 @@ module _ (claim : Claim) (records : TheRecords) (always : AlwaysGood) where
       let parts = claim anyRule speaker bidder lent lent calls (asked .openings) in
       let joint = parts .0 in
       let r = records anyRule speaker bidder lent lent calls (asked .openings) in
-      let good = always anyRule speaker bidder lent lent calls (asked .openings .one) (asked .openings .two) lent-bytes lent-bytes (all-bytes calls refl) in
+      let good = always anyRule speaker bidder lent lent calls (asked .openings .one) (asked .openings .two) lent-bytes lent-bytes
+      (given-bytes calls (written-out (each offered calls) refl)) in
       record {
         not-both = joint .not-both;
         no-breach-one = joint .no-breach-one;
@@ -134,8 +112,11 @@ module _ (claim : Claim) (records : TheRecords) (always : AlwaysGood) where
         given-two = r .two .given;
         read-one = r .one .read;
         inbox-one = r .one .inbox;
+        whole-one = r .one .whole;
         given-one = r .one .given;
         read-two = r .two .read;
+        inbox-two = r .two .inbox;
+        whole-two = r .two .whole;
         complete-one = r .one .complete;
         complete-two = r .two .complete;
         apart-one = r .one .apart;

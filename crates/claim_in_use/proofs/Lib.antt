@@ -1,5 +1,6 @@
 mod Stories
 mod InRangeAccepted
+mod GivenBytes
 mod Orders
 mod OtherWords
 mod Conversation

@@ -1,4 +1,4 @@
--- The claim in other words follows from the claim and from what is said of the records, and from nothing else that crate joined proves.
+-- The claim in other words follows from the claim and from what is said of the records and of question 5, and from nothing else that crate joined proves.
 -- Assumes nothing.
 use Prim.Native.Nat.{ℕ, _+_, _*_}
 use mathlib.Core.Path.{_≡_, sym, ap, _∙_}
@@ -14,13 +14,15 @@ use Rattle.control.specs.declared.State.{State}
 use Rattle.control.specs.declared.State.the-variants.{Send}
 use Rattle.control.proofs.States.{send-is}
 use Rattle.bools.proofs.Cases.{split}
-use Rattle.joined.specs.Joined.{Call, At}
-use Rattle.joined.specs.Ends.{Lane, normal, Buffers}
+use Rattle.session.specs.declared.Session.{Session}
+use Rattle.joined.specs.Joined.{Call, At, run}
+use Rattle.joined.specs.Ends.{Lane, normal, sameLane, acts, takes, openedBoth, Buffers}
 use Rattle.joined.specs.Histories.{bytesOnLine, breaches}
-use Rattle.joined.specs.Claim.{Claim, BytesConserved, CreditCounted, ReadsRight, RecordsArrive, TheRecords}
-use Rattle.claim_in_use.specs.OtherWords.{Numbers, speaker, bidder, InRange, story, each, made, request, pacingAnswer, creditLeft, Ends, OneEnd, hasRead, AtOneEnd, OneWay, Agree, Interleaves, after, TakesFind, SameEnd, InOtherWords, answer}
-use Rattle.claim_in_use.proofs.Stories.{given-is, read-is, line-is, requests-are, answers-are, no-breach-in, ends-there, says-so, none-before}
-use Rattle.claim_in_use.proofs.InRangeAccepted.{openings}
+use Rattle.joined.specs.Claim.{Claim, BytesConserved, CreditCounted, ReadsRight, RecordsArrive, TheRecords, AlwaysGood}
+use Rattle.claim_in_use.specs.OtherWords.{Numbers, speaker, bidder, Opens, InRange, story, each, made, request, pacingAnswer, creditLeft, Ends, OneEnd, hasRead, AtOneEnd, OneWay, Agree, Interleaves, after, TakesFind, SameEnd, AreBytes, offered, KeepsRules, InOtherWords, answer}
+use Rattle.claim_in_use.proofs.Stories.{given-is, read-is, line-is, requests-are, answers-are, no-breach-in, never-in, no-bad-read, takes-say-nothing, ends-there, says-so, none-before}
+use Rattle.claim_in_use.proofs.InRangeAccepted.{accepts, openings}
+use Rattle.claim_in_use.proofs.GivenBytes.{parted, all-bytes, given-bytes}
 use Rattle.claim_in_use.proofs.Orders.{firsts-are, seconds-are, fed}
 use Rattle.calls.specs.Calls.{Verb}
 
@@ -40,11 +42,15 @@ at-one-end w x b c r =
       credit = counted w x c;
       unfinished = ap (walk start) (given-is (x .log)) ∙ r .given;
       finished = λ n. r .whole (not-send (x .end .end .control .state) n);
+      read-so-far = ap (walk start) (read-is (x .log)) ∙ r .read;
+      in-inbox = r .inbox;
+      no-bad-record = no-bad-read (x .log) (r .never-8);
       cut = λ later earlier v y us e. (
         ends-there (x .log) later earlier v y us e (r .complete),
         says-so (x .log) later earlier v y us e (r .complete),
         none-before (x .log) later earlier v y us e (r .apart),
       );
+      takes-none = takes-say-nothing (x .log) (r .complete);
     }
 
 one-way : (x y : OneEnd) → BytesConserved x y → RecordsArrive x y → OneWay x y
@@ -72,7 +78,7 @@ same-end x y e =
       answers = ap (λ (z : OneEnd). each answer (story (z .log))) e;
     }
 
-module _ (claim : Claim) (records : TheRecords) where
+module _ (claim : Claim) (records : TheRecords) (always : AlwaysGood) where
   agrees : (naming : List ℕ → ℕ) (n : Numbers) (b c : Buffers) → InRange n b c → (l : List (At Lane Verb)) → Agree n (after naming n b c l)
   agrees naming n b c r l =
       let p = after naming n b c l in
@@ -102,5 +108,21 @@ module _ (claim : Claim) (records : TheRecords) where
         same-end (after naming n b c l .two) (after naming n b c m .two) (ap (λ (q : Ends). q .two) e),
       )
 
+  keeps : (naming : List ℕ → ℕ) (s t : Session) (b c : Buffers) → Opens s b → Opens t c → (l : List (At Lane Verb))
+      → AreBytes (b .send ++ (b .inbox ++ (c .send ++ (c .inbox ++ each offered l))))
+      → (let p = run sameLane acts (takes naming) (openedBoth s t b c) l in KeepsRules (p .one) × KeepsRules (p .two))
+  keeps naming s t b c o q l h =
+      let p = run sameLane acts (takes naming) (openedBoth s t b c) l in
+      let h1 = parted (b .send) _ h in
+      let h2 = parted (b .inbox) _ (h1 .1) in
+      let h3 = parted (c .send) _ (h2 .1) in
+      let h4 = parted (c .inbox) (each offered l) (h3 .1) in
+      let g =
+      always naming s t b c l (accepts s b o) (accepts t c q) (record { send = all-bytes (b .send) (h1 .0); inbox = all-bytes (b .inbox) (h2 .0) })
+      (record { send = all-bytes (c .send) (h3 .0); inbox = all-bytes (c .inbox) (h4 .0) }) (given-bytes l (h4 .1)) in (
+        record { record-good = g .one; never-5 = never-in 5 (p .one .log) (g .never-5-one) },
+        record { record-good = g .two; never-5 = never-in 5 (p .two .log) (g .never-5-two) },
+      )
+
   pub in-other-words : InOtherWords
-  in-other-words = record { agree = agrees; same = alike }
+  in-other-words = record { agree = agrees; same = alike; rules = keeps }

@@ -5,7 +5,7 @@ use mathlib.Core.Path.{_≡_, refl, sym, ap, _∙_, subst}
 use mathlib.Core.Bool.{Bool, true, false, not, cond, _&&_}
 use mathlib.Core.List.{List, [], _∷_, _++_, append-nil, append-assoc}
 use native.Mathlib.Omega.{arith}
-use borrow.Author.Tests.{le-leb, ne-eqb}
+use borrow.Author.Tests.{eq-eqb, le-leb, ne-eqb}
 use lib.Dec.{eqb}
 use lib.ListN.{length, take, getD, length-append}
 use Rattle.bools.proofs.Tests.{right}
@@ -17,8 +17,8 @@ use Rattle.joined.specs.Lanes.{Lines}
 use Rattle.joined.specs.Joined.{acted, took}
 use Rattle.joined.specs.Ends.{Lane, normal}
 use Rattle.joined.specs.Histories as H
-use Rattle.joined.specs.Histories.{Log, bytesAccepted, bytesRead, bytesOnLine, isBreach, breaches, requestsMade, pacingResponsesTaken, CompleteIsRight, NoneCrosses}
-use Rattle.claim_in_use.specs.OtherWords.{Seen, story, each, All, numberOf, gave, copied, made, takeNumber, request, pacingAnswer, dataBytes}
+use Rattle.joined.specs.Histories.{Log, bytesAccepted, bytesRead, bytesOnLine, isBreach, breaches, refusedWith, isBadRead, badReads, requestsMade, pacingResponsesTaken, CompleteIsRight, NoneCrosses}
+use Rattle.claim_in_use.specs.OtherWords.{Seen, story, each, All, numberOf, gave, copied, made, answer, takeAnswer, ofRead, readAnswer, request, pacingAnswer, dataBytes}
 use Rattle.calls.specs.Calls.{Reply, Verb}
 use Rattle.calls.specs.UnitCounts.{count, requestsAmong, isPacingResponse}
 
@@ -35,6 +35,11 @@ goes-on f e es = each-append f (story es) (e ∷ []) ∙ ap (λ (r : List _). ea
 all-append : {A : Type 0} (P : A → Type 0) (xs ys : List A) → All P xs → All P ys → All P (xs ++ ys)
 all-append P [] ys h k = k
 all-append P (x ∷ xs) ys h k = (h .0, all-append P xs ys (h .1) k)
+
+-- what holds of each item of the story until now, and of what happened last
+holds-on : {B : Type 0} (P : B → Type 0) (f : Seen → List B) (e : Seen) (es : List Seen) → All P (each f (story es)) → All P (f e)
+    → All P (each f (story (e ∷ es)))
+holds-on P f e es h k = subst (All P) (sym (goes-on f e es)) (all-append P (each f (story es)) (f e) h k)
 
 -- ---- bytes
 
@@ -109,27 +114,62 @@ answers-are (took l u r us ∷ es) =
 
 -- ---- takes
 
-abbrev pub NoBreach : ℕ → Type 0
-NoBreach q = 20 ≤ q → q ≤ 29 → ⊥
+abbrev pub NoBreach : Reply → Type 0
+NoBreach r = 20 ≤ numberOf r → numberOf r ≤ 29 → ⊥
 
 not-counted : (b : Bool) (n : ℕ) → count b + n ≡ 0 → (b ≡ false) × (n ≡ 0)
 not-counted true n e = absurd (omega (arith, e))
 not-counted false n e = (refl, omega (arith, e))
 
-outside : (q : ℕ) → isBreach q ≡ false → NoBreach q
-outside q e l m = let z : true ≡ false = sym (rw (le-leb 20 q l, le-leb q 29 m)) ∙ e in absurd (let y : _≡_ {A = ℕ} 0 1 = cc in omega arith)
+outside : (r : Reply) → isBreach (numberOf r) ≡ false → NoBreach r
+outside r e l m = let z : true ≡ false = sym (rw (le-leb 20 (numberOf r) l, le-leb (numberOf r) 29 m)) ∙ e in absurd (let y : _≡_ {A = ℕ} 0 1 = cc in omega arith)
 
-pub no-breach-in : (es : Log) → breaches es ≡ 0 → All NoBreach (each takeNumber (story es))
+pub no-breach-in : (es : Log) → breaches es ≡ 0 → All NoBreach (each takeAnswer (story es))
 unfolding breaches
 no-breach-in [] e = tt
-no-breach-in (acted v r us ∷ es) e =
-    subst (All NoBreach) (sym (goes-on takeNumber (acted v r us) es ∙ append-nil (each takeNumber (story es)))) (no-breach-in es e)
+no-breach-in (acted v r us ∷ es) e = holds-on NoBreach takeAnswer (acted v r us) es (no-breach-in es e) tt
 no-breach-in (took l u r us ∷ es) e =
     let n = not-counted (isBreach (numberOf r)) (breaches es) e in
-    subst (All NoBreach) (sym (goes-on takeNumber (took l u r us) es))
-    (all-append NoBreach (each takeNumber (story es)) (numberOf r ∷ []) (no-breach-in es (n .1)) (outside (numberOf r) (n .0), tt))
+    holds-on NoBreach takeAnswer (took l u r us) es (no-breach-in es (n .1)) (outside r (n .0), tt)
+
+-- ---- refusals
+
+abbrev pub Not : ℕ → Reply → Type 0
+Not n r = numberOf r ≡ n → ⊥
+
+other-than : (n : ℕ) (r : Reply) → eqb (numberOf r) n ≡ false → Not n r
+other-than n r e h = let z : true ≡ false = sym (eq-eqb (numberOf r) n h) ∙ e in absurd (let y : _≡_ {A = ℕ} 0 1 = cc in omega arith)
+
+pub never-in : (n : ℕ) (es : Log) → refusedWith n es ≡ 0 → All (Not n) (each answer (story es))
+unfolding refusedWith
+never-in n [] e = tt
+never-in n (acted v r us ∷ es) e =
+    let c = not-counted (eqb (numberOf r) n) (refusedWith n es) e in
+    holds-on (Not n) answer (acted v r us) es (never-in n es (c .1)) (other-than n r (c .0), tt)
+never-in n (took l u r us ∷ es) e =
+    let c = not-counted (eqb (numberOf r) n) (refusedWith n es) e in
+    holds-on (Not n) answer (took l u r us) es (never-in n es (c .1)) (other-than n r (c .0), tt)
+
+not-bad : (v : Verb) (r : Reply) → isBadRead v (numberOf r) ≡ false → All (Not 8) (ofRead v r)
+not-bad Verb.allocate r e = tt
+not-bad Verb.confirmed r e = tt
+not-bad Verb.sendPacingResponse r e = tt
+not-bad (Verb.sendData bytes) r e = tt
+not-bad (Verb.close f b) r e = tt
+not-bad (Verb.receive buffer) r e = (other-than 8 r e, tt)
+
+pub no-bad-read : (es : Log) → badReads es ≡ 0 → All (Not 8) (each readAnswer (story es))
+unfolding badReads
+no-bad-read [] e = tt
+no-bad-read (acted v r us ∷ es) e =
+    let c = not-counted (isBadRead v (numberOf r)) (badReads es) e in
+    holds-on (Not 8) readAnswer (acted v r us) es (no-bad-read es (c .1)) (not-bad v r (c .0))
+no-bad-read (took l u r us ∷ es) e = holds-on (Not 8) readAnswer (took l u r us) es (no-bad-read es e) tt
 
 -- ---- reads
+
+abbrev pub Silent : Reply → Type 0
+Silent r = r .answer .complete ≡ false
 
 complete-at : (later earlier : Log) → CompleteIsRight (later ++ earlier) → CompleteIsRight earlier
 unfolding CompleteIsRight
@@ -142,6 +182,12 @@ unfolding NoneCrosses
 apart-at [] earlier h = h
 apart-at (acted v r us ∷ later) earlier h = apart-at later earlier (h .1)
 apart-at (took l u r us ∷ later) earlier h = apart-at later earlier h
+
+pub takes-say-nothing : (es : Log) → CompleteIsRight es → All Silent (each takeAnswer (story es))
+unfolding CompleteIsRight
+takes-say-nothing [] h = tt
+takes-say-nothing (acted v r us ∷ es) h = holds-on Silent takeAnswer (acted v r us) es (takes-say-nothing es (h .1)) tt
+takes-say-nothing (took l u r us ∷ es) h = holds-on Silent takeAnswer (took l u r us) es (takes-say-nothing es (h .1)) (h .0, tt)
 
 -- what a call says of the record's end, where it stands in the log
 module _ (log later earlier : Log) (v : Verb) (r : Reply) (us : Lines Lane (List ℕ)) (here : log ≡ later ++ (acted v r us ∷ earlier)) where

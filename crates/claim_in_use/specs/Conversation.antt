@@ -5,7 +5,7 @@ use Prim.Native.Nat.{ℕ, _+_, _*_}
 use mathlib.Core.Path.{_≡_}
 use mathlib.Core.Bool.{true, false}
 use mathlib.Core.List.{List, [], _∷_, _++_}
-use Rattle.logical_record.specs.Positions.{start}
+use Rattle.logical_record.specs.Positions.{start, isWhole}
 use Rattle.logical_record.specs.Walk.{walk}
 use Rattle.logical_record.specs.declared.Position.the-variants.{Between, Remaining}
 use Rattle.logical_record.specs.declared.Walked.the-variants.{At}
@@ -170,8 +170,11 @@ pub record Said : Type 0 where
   pub given-two : walk start (reply1 ++ (reply2 ++ (reply3 ++ reply4))) ≡ At (Remaining 11000)
   pub read-one : walk start reply1 ≡ At Between
   pub inbox-one : walk Between (0x00 ∷ 0x05 ∷ []) ≡ At (Remaining 3)
+  pub whole-one : isSend Receive ≡ false → isWhole Between ≡ true
   pub given-one : walk start (table1 ++ (table2 ++ table3)) ≡ At Between
   pub read-two : walk start (table1 ++ (table2 ++ table3)) ≡ At Between
+  pub inbox-two : walk Between [] ≡ At Between
+  pub whole-two : isSend Send ≡ false → isWhole (Remaining 11000) ≡ true
   pub complete-one : CompleteIsRight (talked .one .log)
   pub complete-two : CompleteIsRight (talked .two .log)
   pub apart-one : NoneCrosses (talked .one .log)

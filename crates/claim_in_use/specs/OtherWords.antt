@@ -14,6 +14,7 @@ use Rattle.logical_record.specs.Records.{wholeRecords, ended}
 use Rattle.logical_record.specs.declared.Walked.the-variants as walked
 use Rattle.pacing.specs.declared.Window.{Window}
 use Rattle.control.specs.declared.State.the-variants.{Send}
+use Rattle.end.specs.Record.{recordGood}
 use Rattle.session.specs.declared.Session.{Session}
 use Rattle.joined.specs.Lanes.{Lines}
 use Rattle.joined.specs.Joined as J
@@ -43,20 +44,22 @@ WindowIs w = (1 ≤ w) × (w ≤ 63)
 abbrev pub MaximumIs : ℕ → Type 0
 MaximumIs m = (8 ≤ m) × (m ≤ 1024)
 
--- the send buffer holds M bytes and the unit buffer 5 more; the inbox holds all that may come before a pacing answer
-pub record Lent (out window back : ℕ) (b : Buffers) : Type 0 where
-  pub send : out ≤ length (b .send)
-  pub unit : out + 5 ≤ length (b .unit)
-  pub inbox : window * back ≤ length (b .inbox)
+-- One session in range: the role is 0 or 1; the send buffer holds M bytes and the unit buffer 5 more; the inbox holds all that may come before a pacing
+-- answer.
+pub record Opens (s : Session) (b : Buffers) : Type 0 where
+  pub role : s .role ≤ 1
+  pub window-out : WindowIs (s .outwindow)
+  pub window-in : WindowIs (s .inwindow)
+  pub max-out : MaximumIs (s .outmax)
+  pub max-in : MaximumIs (s .inmax)
+  pub send : s .outmax ≤ length (b .send)
+  pub unit : s .outmax + 5 ≤ length (b .unit)
+  pub inbox : s .inwindow * s .inmax ≤ length (b .inbox)
   pub least : length (b .inbox) ≤ 65535
 
 pub record InRange (n : Numbers) (b c : Buffers) : Type 0 where
-  pub window-out : WindowIs (n .window-out)
-  pub window-back : WindowIs (n .window-back)
-  pub max-out : MaximumIs (n .max-out)
-  pub max-back : MaximumIs (n .max-back)
-  pub one : Lent (n .max-out) (n .window-back) (n .max-back) b
-  pub two : Lent (n .max-back) (n .window-out) (n .max-out) c
+  pub one : Opens (speaker n) b
+  pub two : Opens (bidder n) c
 
 -- ---- what an end's program saw
 
@@ -109,10 +112,23 @@ abbrev pub answer : Seen → List Reply
 answer (acted v r us) = r ∷ []
 answer (took l u r us) = r ∷ []
 
--- the number that a take was answered with
-abbrev pub takeNumber : Seen → List ℕ
-takeNumber (acted v r us) = []
-takeNumber (took l u r us) = numberOf r ∷ []
+-- the answer of a take
+abbrev pub takeAnswer : Seen → List Reply
+takeAnswer (acted v r us) = []
+takeAnswer (took l u r us) = r ∷ []
+
+-- the answer of a read
+abbrev pub ofRead : Verb → Reply → List Reply
+ofRead Verb.allocate r = []
+ofRead Verb.confirmed r = []
+ofRead Verb.sendPacingResponse r = []
+ofRead (Verb.sendData bytes) r = []
+ofRead (Verb.close f b) r = []
+ofRead (Verb.receive buffer) r = r ∷ []
+
+abbrev pub readAnswer : Seen → List Reply
+readAnswer (acted v r us) = ofRead v r
+readAnswer (took l u r us) = []
 
 -- a request has no weight 80 in header byte 0, which is the unit's third
 abbrev pub request : List ℕ → List (List ℕ)
@@ -151,7 +167,7 @@ hasRead x = each copied (story (x .log))
 -- of one end: takes, credit and reads
 pub record AtOneEnd (w : ℕ) (x : OneEnd) : Type 0 where
   -- no take was answered with a number from 20 to 29
-  pub no-breach : All (λ q. 20 ≤ q → q ≤ 29 → ⊥) (each takeNumber (story (x .log)))
+  pub no-breach : All (λ r. 20 ≤ numberOf r → numberOf r ≤ 29 → ⊥) (each takeAnswer (story (x .log)))
   -- each request made has cost one, and each pacing answer given W
   pub credit :
       length (each request (each made (story (x .log)))) + creditLeft (x .end .end .sending .window)
@@ -159,11 +175,18 @@ pub record AtOneEnd (w : ℕ) (x : OneEnd) : Type 0 where
   -- what was given and not finished is what the end keeps; there is none outside Send
   pub unfinished : walk start (given x) ≡ walked.At (x .end .end .sending .given)
   pub finished : (x .end .end .control .state ≡ Send → ⊥) → isWhole (x .end .end .sending .given) ≡ true
+  -- what was read ends at the place read, and what the inbox holds goes on from there to the place taken
+  pub read-so-far : walk start (hasRead x) ≡ walked.At (x .end .end .receiving .read)
+  pub in-inbox : walk (x .end .end .receiving .read) (take (x .end .end .receiving .held) (x .end .inbox)) ≡ walked.At (x .end .end .receiving .taken)
+  -- no read was answered with 8
+  pub no-bad-record : All (λ r. numberOf r ≡ 8 → ⊥) (each readAnswer (story (x .log)))
   -- a call said complete exactly if it copied bytes and the bytes read until then end a record; and fewer of its bytes would not have ended one
   pub cut : (later earlier : List Seen) (v : Verb) (r : Reply) (us : Lines Lane (List ℕ)) → x .log ≡ later ++ (acted v r us ∷ earlier)
       → (r .answer .complete ≡ true → ended (walk start (each copied (story (acted v r us ∷ earlier)))) ≡ true)
       × (0 < r .answer .copied → ended (walk start (each copied (story (acted v r us ∷ earlier)))) ≡ true → r .answer .complete ≡ true)
       × ((n : ℕ) → 0 < n → n < r .answer .copied → ended (walk start (each copied (story earlier) ++ take n (r .buffer))) ≡ false)
+  -- no take said complete
+  pub takes-none : All (λ r. r .answer .complete ≡ false) (each takeAnswer (story (x .log)))
 
 -- of one direction, from x to y: bytes and records
 pub record OneWay (x y : OneEnd) : Type 0 where
@@ -207,6 +230,23 @@ pub record SameEnd (x y : OneEnd) : Type 0 where
   pub waiting : x .waiting ≡ y .waiting
   pub answers : each answer (story (x .log)) ≡ each answer (story (y .log))
 
+-- ---- question 5
+
+abbrev pub AreBytes : List ℕ → Type 0
+AreBytes bs = All (λ b. b < 256) bs
+
+-- the bytes that a call of a list gives
+abbrev pub offered : At Lane Verb → List ℕ
+offered (first (J.act v)) = bytesOf v
+offered (first (J.take k)) = []
+offered (second (J.act v)) = bytesOf v
+offered (second (J.take k)) = []
+
+-- the record keeps its rules, and no call and no take was answered with 5
+pub record KeepsRules (x : OneEnd) : Type 0 where
+  pub record-good : recordGood (x .end .end) ≡ true
+  pub never-5 : All (λ r. numberOf r ≡ 5 → ⊥) (each answer (story (x .log)))
+
 -- ---- the whole, of every two sessions, buffers and lists
 
 pub record InOtherWords : Type 0 where
@@ -217,3 +257,7 @@ pub record InOtherWords : Type 0 where
       → TakesFind naming (openedBoth (speaker n) (bidder n) b c) l
       → TakesFind naming (openedBoth (speaker n) (bidder n) b c) m
       → SameEnd (after naming n b c l .one) (after naming n b c m .one) × SameEnd (after naming n b c l .two) (after naming n b c m .two)
+  -- of sessions that are joined or not, if all that is lent to the ends and given at them are bytes
+  pub rules : (naming : List ℕ → ℕ) (s t : Session) (b c : Buffers) → Opens s b → Opens t c → (l : List (At Lane Verb))
+      → AreBytes (b .send ++ (b .inbox ++ (c .send ++ (c .inbox ++ each offered l))))
+      → (let p = run sameLane acts (takes naming) (openedBoth s t b c) l in KeepsRules (p .one) × KeepsRules (p .two))

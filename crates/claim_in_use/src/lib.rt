@@ -12,6 +12,7 @@ pub fn in_other_words()
 {
     joined_ends();
     the_records();
+    always_good();
 }
 
 // The claim of one conversation and of one other order of its calls, in bytes and numbers.

@@ -1,11 +1,11 @@
--- `claim_in_use::in_other_words` meets its contract: by the contracts of the two functions that it calls.
+-- `claim_in_use::in_other_words` meets its contract: by the contracts of the three functions that it calls.
 -- Assumes nothing.
 use Rattle.claim_in_use.proofs.OtherWords as laws
 use Rattle.claim_in_use.proofs.in_other_words.Statement.{statement}
 use Rattle.claim_in_use.proofs.in_other_words.Tie as tie
 
 returns : tie.Need-returns
-returns c = laws.in-other-words (c .before .joined-ends .ensures) (c .the-records .ensures)
+returns c = laws.in-other-words (c .before .before .joined-ends .ensures) (c .before .the-records .ensures) (c .always-good .ensures)
 
 pub in-other-words-spec : {M : Type 1} → statement M
-in-other-words-spec = tie.close (tie.spec (search) (search) returns)
+in-other-words-spec = tie.close (tie.spec (search) (search) (search) returns)
