@@ -202,10 +202,10 @@ impl End {
         outcome(raw).map(|_| end)
     }
 
-    /// The end whose record was kept as these bytes. Any bytes may be given. If they are of another [`FORMAT`], or have a value or a
-    /// combination of values that no end can have (a window of 0, say, or more bytes held than the inbox has room for), every call is
-    /// refused with [`Reason::BadRecord`] or [`Reason::BadBuffer`]. Bytes that were changed and are still such a record are accepted
-    /// as that record: whoever keeps an image must see to it that it is not changed.
+    /// The end whose record was kept as these bytes. Any bytes may be given. If they are of another [`FORMAT`], or break a rule that
+    /// every record keeps (no window is 0, no more bytes are held than the inbox has room for, and the like), every call is refused
+    /// with [`Reason::BadRecord`] or [`Reason::BadBuffer`]. Bytes that were changed and still keep these rules are accepted as the
+    /// record that they now are: whoever keeps an image must see to it that it is not changed.
     pub fn from_image(image: [u8; IMAGE]) -> End {
         End { image }
     }
