@@ -81,6 +81,8 @@ static bool partner_ended_well(int socket, pid_t child)
         perror("batch: waitpid");
         return false;
     }
+    if (WIFSIGNALED(status))
+        fprintf(stderr, "batch: the laboratory was ended by signal %d\n", WTERMSIG(status));
     return WIFEXITED(status) && WEXITSTATUS(status) == EXIT_SUCCESS;
 }
 

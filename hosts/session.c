@@ -21,9 +21,11 @@ void session_fail(struct session *session, const char *format, ...)
         return;
     session->failed = true;
     va_start(values, format);
-    (void)vsnprintf(what, sizeof what, format, values);
+    int length = vsnprintf(what, sizeof what, format, values);
     va_end(values);
-    tell(session, what);
+    /* Where the text cannot be made, its format says most of it. No text is longer than the room for it; if one were, it would be
+     * cut. */
+    tell(session, length < 0 ? format : what);
 }
 
 void session_refused(struct session *session, const char *what, const struct lu62_answer *answer)
@@ -35,9 +37,18 @@ void session_refused(struct session *session, const char *what, const struct lu6
                  lu62_refusal_text(answer->refusal), answer->sense, rule);
 }
 
-static bool open_end(struct session *session, int socket, const struct options *options, const struct lu62_session *terms)
+/* One of the two programs: its name, its partner's, and what it opens the session with. */
+struct program {
+    const char *name, *partner;
+    struct lu62_session terms;
+};
+
+static bool open_session(struct session *session, int socket, const struct options *options, const struct program *program)
 {
-    size_t inbox_length = LU62_INBOX((size_t)terms->in_window, terms->in_max);
+    size_t inbox_length = LU62_INBOX((size_t)program->terms.in_window, program->terms.in_max);
+    memset(session, 0, sizeof *session);
+    session->name = program->name;
+    session->partner = program->partner;
     session->limit_ms = options->limit_ms;
     session->pause_ms = options->pause_ms;
     session->moved_at = clock_ms();
@@ -45,29 +56,23 @@ static bool open_end(struct session *session, int socket, const struct options *
                   inbox_length);
     if (!line_open(&session->line, socket))
         session_fail(session, "the line cannot be used");
-    else if (lu62_end_open(&session->end, terms) != LU62_ACCEPTED)
+    else if (lu62_end_open(&session->end, &program->terms) != LU62_ACCEPTED)
         session_refused(session, "the session cannot be opened", &session->end.answer);
     return !session->failed;
 }
 
 bool session_open_laboratory(struct session *session, int socket, const struct options *options)
 {
-    static const struct lu62_session terms = {
-        LU62_FIRST_SPEAKER, LABORATORY_WINDOW, BLENDER_WINDOW, LABORATORY_MAXIMUM, BLENDER_MAXIMUM};
-    memset(session, 0, sizeof *session);
-    session->name = "laboratory";
-    session->partner = "blender";
-    return open_end(session, socket, options, &terms);
+    static const struct program laboratory = {
+        "laboratory", "blender", {LU62_FIRST_SPEAKER, LABORATORY_WINDOW, BLENDER_WINDOW, LABORATORY_MAXIMUM, BLENDER_MAXIMUM}};
+    return open_session(session, socket, options, &laboratory);
 }
 
 bool session_open_blender(struct session *session, int socket, const struct options *options)
 {
-    static const struct lu62_session terms = {
-        LU62_BIDDER, BLENDER_WINDOW, LABORATORY_WINDOW, BLENDER_MAXIMUM, LABORATORY_MAXIMUM};
-    memset(session, 0, sizeof *session);
-    session->name = "blender";
-    session->partner = "laboratory";
-    return open_end(session, socket, options, &terms);
+    static const struct program blender = {
+        "blender", "laboratory", {LU62_BIDDER, BLENDER_WINDOW, LABORATORY_WINDOW, BLENDER_MAXIMUM, LABORATORY_MAXIMUM}};
+    return open_session(session, socket, options, &blender);
 }
 
 /* Notes that the conversation got on: bytes were given or read, or the turn or the end was given or read. Bids, their refusals
@@ -115,7 +120,7 @@ uint32_t session_flush(struct session *session)
 
 uint32_t session_confirm(struct session *session)
 {
-    return moved_on(session, lu62_end_confirm(&session->end));
+    return carried(session, lu62_end_confirm(&session->end));
 }
 
 uint32_t session_turn(struct session *session, bool confirm)

@@ -23,10 +23,10 @@
  * the buffers lie apart.
  *
  * A call returns its refusal number, LU62_ACCEPTED or one of the numbers below, and writes the whole answer to `answer`.
- * A refused call changes nothing but `answer`; lu62_open alone writes an image when it refuses: LU62_FORMAT and zeros, which
- * every call refuses. If several refusals fit, the answer is the first in the order in which they are listed at the call. Every
- * call but lu62_open also refuses, before all else, an image of a wrong length (LU62_BAD_BUFFER), then one of another format or
- * with a code or flag that no record has (LU62_BAD_RECORD).
+ * A refused call changes nothing but `answer`; lu62_open alone writes an image when it refuses, if the image is LU62_IMAGE bytes
+ * long: LU62_FORMAT and zeros, which every call refuses. If several refusals fit, the answer is the first in the order in which
+ * they are listed at the call. Every call but lu62_open also refuses, before all else, an image of a wrong length
+ * (LU62_BAD_BUFFER), then one of another format or with a code or flag that no record has (LU62_BAD_RECORD).
  *
  * If `answer->unit` is not 0, a unit of that many bytes stands at the front of the unit buffer. The host must carry it to the
  * partner, after all units made before it and before all made later. */
@@ -82,7 +82,7 @@ extern "C" {
 
 /* Refusals of lu62_receive_unit: the partner's unit breaks the protocol. */
 #define LU62_SHORT_UNIT 20        /* under 5 bytes */
-#define LU62_BAD_HEADER 21        /* the header breaks rule H1 to H6; `rule` names one that it breaks */
+#define LU62_BAD_HEADER 21        /* the header breaks a rule, H1 to H6 below; `rule` names one that it breaks */
 #define LU62_BAD_RU 22            /* the RU does not fit the header, or is too long */
 #define LU62_BAD_NUMBER 23        /* not the next sequence number */
 #define LU62_BAD_CHAIN 24         /* first in chain where a chain is open, or the reverse */
@@ -94,6 +94,14 @@ extern "C" {
 
 /* From here on a refusal number is a breach of protocol by the partner. */
 #define LU62_FIRST_BREACH LU62_SHORT_UNIT
+
+/* The rules of a header, the three bytes behind the number. Bytes are in hexadecimal; data has a byte 0 of 00 to 03.
+ *   H1  byte 0 is 00, 01 (last in chain), 02 (first), 03 (first and last), 4B, 83, CB or CF
+ *   H2  not data: the header is 4B 80 80, 4B 81 80, 83 01 00, 83 20 00, CB 80 00 or CF 90 00
+ *   H3  data: byte 1 is 90 or 91, or 20 or 21, which request a confirmation
+ *   H4  data: only the last in a chain requests a confirmation
+ *   H5  data: byte 2 is 00, 01, 20, 80, 81 or A0
+ *   H6  data: weight 80 of byte 2 only on the first in a chain, weights 20 and 01 only on the last */
 
 /* Marks: what a unit says after its bytes. lu62_receive answers the mark when all bytes before it have been read. */
 #define LU62_MARK_NONE 0

@@ -9,7 +9,8 @@
  *       carry end.unit, end.answer.unit bytes, to the partner
  *
  * Every call asserts that none of its buffers is null and no two overlap; such a call would be accepted and its unit carry wrong
- * bytes. Define LU62_ASSERT(condition) before this header to have another answer to it than assert. */
+ * bytes. Define LU62_ASSERT(condition) before this header to have another answer to it than assert. With NDEBUG defined, assert
+ * does nothing and such a call is made. */
 #ifndef LU62_END_H
 #define LU62_END_H
 

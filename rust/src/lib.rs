@@ -103,6 +103,20 @@ pub enum State {
     ConfirmAwaited,
 }
 
+impl State {
+    /// The state with this number of lu62.h.
+    pub fn from_number(number: u32) -> Option<State> {
+        match number {
+            0 => Some(State::Reset),
+            1 => Some(State::Send),
+            2 => Some(State::Receive),
+            3 => Some(State::ConfirmOwed),
+            4 => Some(State::ConfirmAwaited),
+            _ => None,
+        }
+    }
+}
+
 /// What a unit says after its bytes, answered by a read when all bytes before it have been read.
 #[derive(Clone, Copy, Debug, PartialEq, Eq)]
 pub enum Mark {
@@ -116,6 +130,20 @@ pub enum Mark {
     ConfirmTurn,
     /// A confirmation is due; then the conversation is over.
     ConfirmEnd,
+}
+
+impl Mark {
+    /// The mark with this number of lu62.h; 0 is none.
+    pub fn from_number(number: u32) -> Option<Mark> {
+        match number {
+            1 => Some(Mark::Turn),
+            2 => Some(Mark::End),
+            3 => Some(Mark::Confirm),
+            4 => Some(Mark::ConfirmTurn),
+            5 => Some(Mark::ConfirmEnd),
+            _ => None,
+        }
+    }
 }
 
 /// An accepted call.
@@ -146,17 +174,6 @@ fn outcome(raw: raw::Answer) -> Result<Answer, Refusal> {
     Err(Refusal { reason, sense: raw.sense, rule: raw.rule })
 }
 
-fn mark(number: u32) -> Option<Mark> {
-    match number {
-        1 => Some(Mark::Turn),
-        2 => Some(Mark::End),
-        3 => Some(Mark::Confirm),
-        4 => Some(Mark::ConfirmTurn),
-        5 => Some(Mark::ConfirmEnd),
-        _ => None,
-    }
-}
-
 /// One end of a session.
 #[derive(Clone, Debug, PartialEq, Eq)]
 pub struct End {
@@ -185,10 +202,10 @@ impl End {
         outcome(raw).map(|_| end)
     }
 
-    /// The end whose record was kept as these bytes. Any bytes may be given. If they are no record within document 01's section on
-    /// the end's record, or of another [`FORMAT`], every call is refused with [`Reason::BadRecord`] or [`Reason::BadBuffer`]. Bytes
-    /// that were changed and are still such a record are accepted as that record: whoever keeps an image must see to it that it is
-    /// not changed.
+    /// The end whose record was kept as these bytes. Any bytes may be given. If they are of another [`FORMAT`], or break a rule that
+    /// every record keeps (no window is 0, no more bytes are held than the inbox has room for, and the like), every call is refused
+    /// with [`Reason::BadRecord`] or [`Reason::BadBuffer`]. Bytes that were changed and still keep these rules are accepted as the
+    /// record that they now are: whoever keeps an image must see to it that it is not changed.
     pub fn from_image(image: [u8; IMAGE]) -> End {
         End { image }
     }
@@ -200,14 +217,7 @@ impl End {
 
     /// The state, or `None` for an image that no call has left.
     pub fn state(&self) -> Option<State> {
-        match self.image[2] {
-            0 => Some(State::Reset),
-            1 => Some(State::Send),
-            2 => Some(State::Receive),
-            3 => Some(State::ConfirmOwed),
-            4 => Some(State::ConfirmAwaited),
-            _ => None,
-        }
+        State::from_number(u32::from(self.image[2]))
     }
 
     /// Whether a bid of this end has not been answered.
@@ -276,6 +286,7 @@ impl End {
     /// Reads bytes of the current record, never past its end; or, with all bytes read, the mark.
     pub fn receive(&mut self, inbox: &mut [u8], buffer: &mut [u8]) -> Result<ReadAnswer, Refusal> {
         let raw = raw::receive(&mut self.image, inbox, buffer);
-        outcome(raw).map(|_| ReadAnswer { copied: raw.copied as usize, complete: raw.complete != 0, mark: mark(raw.mark) })
+        let mark = Mark::from_number(raw.mark);
+        outcome(raw).map(|_| ReadAnswer { copied: raw.copied as usize, complete: raw.complete != 0, mark })
     }
 }

@@ -23,6 +23,9 @@ pub type BySend = unsafe extern "C" fn(*mut u8, usize, *const u8, usize, *mut u8
 /// The same with the byte `confirm` behind the image.
 pub type BySendConfirmed = unsafe extern "C" fn(*mut u8, usize, u8, *const u8, usize, *mut u8, usize, *mut Answer) -> u32;
 
+/// A call lent the image, bytes that it only reads, a buffer that keeps bytes, and the unit buffer.
+pub type ByBytes = unsafe extern "C" fn(*mut u8, usize, *const u8, usize, *mut u8, usize, *mut u8, usize, *mut Answer) -> u32;
+
 extern "C" {
     pub fn lu62_open(
         role: u8,
@@ -189,27 +192,31 @@ fn by_send_confirmed(call: BySendConfirmed, image: &mut [u8], confirm: bool, sen
     answer
 }
 
-pub fn allocate(image: &mut [u8], unit: &mut [u8]) -> Answer {
-    by_unit(lu62_allocate, image, unit)
-}
-
-pub fn send_data(image: &mut [u8], bytes: &[u8], send: &mut [u8], unit: &mut [u8]) -> Answer {
+fn by_bytes(call: ByBytes, image: &mut [u8], bytes: &[u8], buffer: &mut [u8], unit: &mut [u8]) -> Answer {
     let mut answer = Answer::default();
     // SAFETY: the slices written are borrowed mutably and `bytes` beside them, so none overlap; the library only reads `bytes`.
     unsafe {
-        lu62_send_data(
+        call(
             image.as_mut_ptr(),
             image.len(),
             bytes.as_ptr(),
             bytes.len(),
-            send.as_mut_ptr(),
-            send.len(),
+            buffer.as_mut_ptr(),
+            buffer.len(),
             unit.as_mut_ptr(),
             unit.len(),
             &mut answer,
         );
     }
     answer
+}
+
+pub fn allocate(image: &mut [u8], unit: &mut [u8]) -> Answer {
+    by_unit(lu62_allocate, image, unit)
+}
+
+pub fn send_data(image: &mut [u8], bytes: &[u8], send: &mut [u8], unit: &mut [u8]) -> Answer {
+    by_bytes(lu62_send_data, image, bytes, send, unit)
 }
 
 pub fn flush(image: &mut [u8], send: &[u8], unit: &mut [u8]) -> Answer {
@@ -237,22 +244,7 @@ pub fn send_pacing_response(image: &mut [u8], unit: &mut [u8]) -> Answer {
 }
 
 pub fn receive_unit(image: &mut [u8], taken: &[u8], inbox: &mut [u8], unit: &mut [u8]) -> Answer {
-    let mut answer = Answer::default();
-    // SAFETY: the slices written are borrowed mutably and `taken` beside them, so none overlap; the library only reads `taken`.
-    unsafe {
-        lu62_receive_unit(
-            image.as_mut_ptr(),
-            image.len(),
-            taken.as_ptr(),
-            taken.len(),
-            inbox.as_mut_ptr(),
-            inbox.len(),
-            unit.as_mut_ptr(),
-            unit.len(),
-            &mut answer,
-        );
-    }
-    answer
+    by_bytes(lu62_receive_unit, image, taken, inbox, unit)
 }
 
 pub fn receive(image: &mut [u8], inbox: &mut [u8], buffer: &mut [u8]) -> Answer {

@@ -62,7 +62,7 @@ reasons! {
     UnreadMark = 13, "a mark has not been read";
     /// Under 5 bytes.
     ShortUnit = 20, "the unit is too short";
-    /// The header breaks rule H1 to H6; [`Refusal::rule`] names one that it breaks.
+    /// The header breaks a rule, H1 to H6 in lu62.h; [`Refusal::rule`] names one that it breaks.
     BadHeader = 21, "the header breaks a rule";
     /// The RU does not fit the header, or is too long.
     BadRu = 22, "the RU does not fit";

@@ -267,6 +267,11 @@ fn place(image: &[u8], at: usize) -> Option<Place> {
     }
 }
 
+// In the order of their codes.
+const STATES: [State; 5] = [State::Reset, State::Send, State::Receive, State::Owes, State::Waits];
+const FOLLOWS: [Follow; 3] = [Follow::Stay, Follow::Turn, Follow::End];
+const MARKS: [Mark; 6] = [Mark::None, Mark::Turn, Mark::End, Mark::Confirm, Mark::ConfirmTurn, Mark::ConfirmEnd];
+
 // The record in an image, or none if a code, flag or place is one that no record has.
 fn decoded(image: &[u8]) -> Option<plain::End> {
     if image[at::FORMAT] != FORMAT {
@@ -274,29 +279,9 @@ fn decoded(image: &[u8]) -> Option<plain::End> {
     }
     Some(plain::End {
         bidder: flag(image[at::ROLE])?,
-        state: match image[at::STATE] {
-            0 => State::Reset,
-            1 => State::Send,
-            2 => State::Receive,
-            3 => State::Owes,
-            4 => State::Waits,
-            _ => return None,
-        },
-        follow: match image[at::FOLLOW] {
-            0 => Follow::Stay,
-            1 => Follow::Turn,
-            2 => Follow::End,
-            _ => return None,
-        },
-        mark: match image[at::MARK] {
-            0 => Mark::None,
-            1 => Mark::Turn,
-            2 => Mark::End,
-            3 => Mark::Confirm,
-            4 => Mark::ConfirmTurn,
-            5 => Mark::ConfirmEnd,
-            _ => return None,
-        },
+        state: *STATES.get(usize::from(image[at::STATE]))?,
+        follow: *FOLLOWS.get(usize::from(image[at::FOLLOW]))?,
+        mark: *MARKS.get(usize::from(image[at::MARK]))?,
         due: flag(image[at::DUE])?,
         bid: flag(image[at::BID])?,
         out_chain: flag(image[at::OUT_CHAIN])?,
@@ -364,31 +349,35 @@ fn only(refusal: u32) -> plain::Answer {
     plain::Answer { refusal, ..plain::Answer::default() }
 }
 
+// Opens the plain end on an image of the right length.
+fn opened_plain(opening: &Opening, image: &mut [u8]) -> plain::Answer {
+    let session = plain::Session {
+        role: opening.role,
+        out_window: opening.out_window,
+        in_window: opening.in_window,
+        out_max: opening.out_max,
+        in_max: opening.in_max,
+    };
+    match plain::open(session, opening.send, opening.unit, opening.inbox) {
+        Ok(end) => {
+            encode(&end, image);
+            only(0)
+        }
+        Err(number) => {
+            image.fill(0);
+            image[at::FORMAT] = FORMAT;
+            only(number)
+        }
+    }
+}
+
 // The same call by the plain end, on another block.
 fn by_plain(call: Call, block: &mut Block, opening: &Opening, confirm: u8) -> plain::Answer {
     if block.image.len() != IMAGE {
         return only(4);
     }
     if call == Call::Open {
-        let session = plain::Session {
-            role: opening.role,
-            out_window: opening.out_window,
-            in_window: opening.in_window,
-            out_max: opening.out_max,
-            in_max: opening.in_max,
-        };
-        let image = &mut block.cells[block.image.clone()];
-        return match plain::open(session, opening.send, opening.unit, opening.inbox) {
-            Ok(end) => {
-                encode(&end, image);
-                only(0)
-            }
-            Err(number) => {
-                image.fill(0);
-                image[at::FORMAT] = FORMAT;
-                only(number)
-            }
-        };
+        return opened_plain(opening, &mut block.cells[block.image.clone()]);
     }
     let Some(mut end) = decoded(&block.cells[block.image.clone()]) else {
         return only(5);
@@ -445,21 +434,8 @@ fn random_window(random: &mut Random) -> Window {
     Window { size: size as u8, place: place as u8, pending: random.chance(1, 2) }
 }
 
-// A record that is within question 5, though not one that calls must be able to reach.
-fn random_end(random: &mut Random) -> plain::End {
-    let bidder = random.chance(1, 2);
-    let state = random.pick(&[State::Reset, State::Send, State::Send, State::Receive, State::Receive, State::Owes, State::Waits]);
-    let marks = [Mark::Turn, Mark::End, Mark::Confirm, Mark::ConfirmTurn, Mark::ConfirmEnd];
-    let sends = state == State::Send;
-    let out_max = random_max(random);
-    let out_held = match (sends, random.below(4)) {
-        (false, _) | (true, 0) => 0,
-        (true, 1) => out_max,
-        (true, _) => random.range(0, out_max),
-    };
-    let out_chain = sends && out_held > 0 && random.chance(1, 2);
-    let into = random_window(random);
-    let in_max = random_max(random);
+// The inbox's length and the bytes held in it, with room for what is open.
+fn random_inbox(random: &mut Random, into: Window, in_max: usize) -> (usize, usize) {
     let open = into.credit() as usize * in_max;
     let in_held = match random.below(4) {
         0 => 0,
@@ -473,13 +449,30 @@ fn random_end(random: &mut Random) -> plain::End {
         _ => least + random.below(3 * in_max),
     };
     let inbox = inbox.min(65535);
-    let in_held = in_held.min(inbox.saturating_sub(open));
+    (inbox, in_held.min(inbox.saturating_sub(open)))
+}
+
+// A record that is within question 5, though not one that calls must be able to reach.
+fn random_end(random: &mut Random) -> plain::End {
+    let bidder = random.chance(1, 2);
+    let state = random.pick(&[State::Reset, State::Send, State::Send, State::Receive, State::Receive, State::Owes, State::Waits]);
+    let sends = state == State::Send;
+    let out_max = random_max(random);
+    let out_held = match (sends, random.below(4)) {
+        (false, _) | (true, 0) => 0,
+        (true, 1) => out_max,
+        (true, _) => random.range(0, out_max),
+    };
+    let out_chain = sends && out_held > 0 && random.chance(1, 2);
+    let into = random_window(random);
+    let in_max = random_max(random);
+    let (inbox, in_held) = random_inbox(random, into, in_max);
     let whole = random.chance(1, 2);
     plain::End {
         bidder,
         state,
-        follow: random.pick(&[Follow::Stay, Follow::Turn, Follow::End]),
-        mark: if state == State::Receive && random.chance(1, 4) { random.pick(&marks) } else { Mark::None },
+        follow: random.pick(&FOLLOWS),
+        mark: if state == State::Receive && random.chance(1, 4) { random.pick(&MARKS[1..]) } else { Mark::None },
         due: !bidder && sends && !out_chain && random.chance(1, 2),
         bid: bidder && random.chance(1, 2),
         out_chain,
@@ -540,6 +533,77 @@ fn put_records(random: &mut Random, bytes: &mut [u8], from: Place, end_whole: bo
 const HEADS: [[u8; 3]; 6] =
     [[0x4B, 0x80, 0x80], [0x4B, 0x81, 0x80], [0xCB, 0x80, 0x00], [0xCF, 0x90, 0x00], [0x83, 0x20, 0x00], [0x83, 0x01, 0x00]];
 
+// Number, header and RU of a unit.
+type Parts = (u16, [u8; 3], Vec<u8>);
+
+// A bid or a response that the end might take.
+fn fixed_unit(random: &mut Random, end: &plain::End) -> Parts {
+    let header = random.pick(&HEADS);
+    match header[0] {
+        0x4B => {
+            let pacing = u8::from(end.into.place == 0);
+            (end.in_number.wrapping_add(1), [0x4B, 0x80 | pacing, 0x80], vec![0x04, 0x00, 0x06, 0x00, 0x00])
+        }
+        0xCB => (end.bid_number, header, vec![0x04]),
+        0xCF => (end.bid_number, header, vec![0x08, 0x13, 0x00, 0x00, 0x04]),
+        _ if header[1] == 1 => (0, header, Vec::new()),
+        _ => (end.out_number, header, Vec::new()),
+    }
+}
+
+// The RU of data: records that go on from those taken, cut anywhere or, at a mark, mostly not.
+fn data_ru(random: &mut Random, end: &plain::End, marks: bool) -> Vec<u8> {
+    let max = usize::from(end.in_max);
+    let mut length = match random.below(6) {
+        0 => max,
+        1 => 0,
+        _ => random.range(1, max),
+    };
+    if marks && random.chance(3, 4) {
+        // Long enough for the record under way to end in it, if it can.
+        length = match end.taken {
+            Place::Left(left) if usize::from(left) <= max => usize::from(left),
+            Place::AfterFirst(_) => length.max(1),
+            _ => length,
+        };
+    }
+    if !marks {
+        length = length.max(1);
+    }
+    let mut ru = vec![0; length];
+    random.fill(&mut ru);
+    if random.chance(15, 16) {
+        put_records(random, &mut ru, end.taken, marks);
+    }
+    ru
+}
+
+// A data unit that the end might take.
+fn data_unit(random: &mut Random, end: &plain::End) -> Parts {
+    let first = !end.in_chain;
+    let last = random.chance(1, 2);
+    let begin = first && end.bidder && end.state == State::Reset;
+    let pacing = u8::from(end.into.place == 0);
+    let byte1 = if last && random.chance(1, 3) { 0x20 } else { 0x90 } | pacing;
+    let follows = if last { random.pick(&[0x00, 0x20, 0x01]) } else { 0x00 };
+    let header = [u8::from(first) * 2 + u8::from(last), byte1, follows | u8::from(begin) << 7];
+    let marks = byte1 & 0x20 != 0 || follows != 0;
+    (end.in_number.wrapping_add(1), header, data_ru(random, end, marks))
+}
+
+fn put_fault(random: &mut Random, unit: &mut Vec<u8>) {
+    match random.below(8) {
+        0 => unit.truncate(random.below(unit.len() + 1)),
+        1 => unit.extend(vec![0; random.range(1, 1100)]),
+        2 => unit[0] = random.byte(),
+        3 => unit[3] ^= 1,
+        4 => unit[4] ^= 0x80,
+        5 => unit[2] ^= 2,
+        6 => unit[random.range(2, 4)] = random.byte(),
+        _ => unit[random.range(2, 4)] ^= 1 << random.below(8),
+    }
+}
+
 // A unit that the end might take, with faults in some.
 fn random_unit(random: &mut Random, end: &plain::End) -> Vec<u8> {
     if random.chance(1, 16) {
@@ -547,63 +611,12 @@ fn random_unit(random: &mut Random, end: &plain::End) -> Vec<u8> {
         random.fill(&mut unit);
         return unit;
     }
-    let next = end.in_number.wrapping_add(1);
-    let pacing = u8::from(end.into.place == 0);
-    let (number, header, ru) = if random.chance(1, 3) {
-        let header = random.pick(&HEADS);
-        match header[0] {
-            0x4B => (next, [0x4B, 0x80 | pacing, 0x80], vec![0x04, 0x00, 0x06, 0x00, 0x00]),
-            0xCB => (end.bid_number, header, vec![0x04]),
-            0xCF => (end.bid_number, header, vec![0x08, 0x13, 0x00, 0x00, 0x04]),
-            _ if header[1] == 1 => (0, header, Vec::new()),
-            _ => (end.out_number, header, Vec::new()),
-        }
-    } else {
-        let first = !end.in_chain;
-        let last = random.chance(1, 2);
-        let begin = first && end.bidder && end.state == State::Reset;
-        let byte1 = if last && random.chance(1, 3) { 0x20 } else { 0x90 } | pacing;
-        let follows = if last { random.pick(&[0x00, 0x20, 0x01]) } else { 0x00 };
-        let header = [u8::from(first) * 2 + u8::from(last), byte1, follows | u8::from(begin) << 7];
-        let marks = byte1 & 0x20 != 0 || follows != 0;
-        let max = usize::from(end.in_max);
-        let mut length = match random.below(6) {
-            0 => max,
-            1 => 0,
-            _ => random.range(1, max),
-        };
-        if marks && random.chance(3, 4) {
-            // Long enough for the record under way to end in it, if it can.
-            length = match end.taken {
-                Place::Left(left) if usize::from(left) <= max => usize::from(left),
-                Place::AfterFirst(_) => length.max(1),
-                _ => length,
-            };
-        }
-        if !marks {
-            length = length.max(1);
-        }
-        let mut ru = vec![0; length];
-        random.fill(&mut ru);
-        if random.chance(15, 16) {
-            put_records(random, &mut ru, end.taken, marks);
-        }
-        (next, header, ru)
-    };
+    let (number, header, ru) = if random.chance(1, 3) { fixed_unit(random, end) } else { data_unit(random, end) };
     let mut unit = number.to_be_bytes().to_vec();
     unit.extend(header);
     unit.extend(ru);
     if random.chance(1, 4) {
-        match random.below(8) {
-            0 => unit.truncate(random.below(unit.len() + 1)),
-            1 => unit.extend(vec![0; random.range(1, 1100)]),
-            2 => unit[0] = random.byte(),
-            3 => unit[3] ^= 1,
-            4 => unit[4] ^= 0x80,
-            5 => unit[2] ^= 2,
-            6 => unit[random.range(2, 4)] = random.byte(),
-            _ => unit[random.range(2, 4)] ^= 1 << random.below(8),
-        }
+        put_fault(random, &mut unit);
     }
     unit
 }
@@ -687,28 +700,29 @@ fn put_image(random: &mut Random, mut end: plain::End, image: &mut [u8]) {
     }
 }
 
+// Bytes of records to be given.
+fn random_gift(random: &mut Random, end: &plain::End) -> Vec<u8> {
+    let max = usize::from(end.out_max);
+    let length = match random.below(12) {
+        0 => 0,
+        1 => max + 1,
+        2 => max,
+        3 => random.below(1100),
+        _ => random.range(1, max),
+    };
+    let mut bytes = vec![0; length];
+    random.fill(&mut bytes);
+    if random.chance(15, 16) {
+        put_records(random, &mut bytes, end.given, false);
+    }
+    bytes
+}
+
 // Lays out and fills a block for one call.
 fn prepare(random: &mut Random, call: Call, block: &mut Block) {
     let end = random_end(random);
     let max = usize::from(end.out_max);
-    let gift = match call {
-        Call::Take => random_unit(random, &end),
-        _ => {
-            let length = match random.below(12) {
-                0 => 0,
-                1 => max + 1,
-                2 => max,
-                3 => random.below(1100),
-                _ => random.range(1, max),
-            };
-            let mut bytes = vec![0; length];
-            random.fill(&mut bytes);
-            if random.chance(15, 16) {
-                put_records(random, &mut bytes, end.given, false);
-            }
-            bytes
-        }
-    };
+    let gift = if call == Call::Take { random_unit(random, &end) } else { random_gift(random, &end) };
     let image = if random.chance(1, 64) { random.below(64) } else { IMAGE };
     let read = match random.below(8) {
         0 => 0,
@@ -752,68 +766,76 @@ fn unchanged_outside(before: &Block, after: &Block, ranges: &[Range<usize>]) -> 
     before.cells[from..] == after.cells[from..]
 }
 
-// What the paper leaves a call to answer and to write, told from the block before and the answer alone.
-fn check(call: Call, before: &Block, after: &Block, answer: &raw::Answer, opening: &Opening) {
-    let tail = [answer.copied, answer.complete, answer.mark];
-    if answer.refusal != 0 {
-        assert!(allowed(call).contains(&answer.refusal), "{call:?} refused with {}", answer.refusal);
-        let sense = SENSES.iter().find(|(number, _)| *number == answer.refusal).map_or(0, |(_, sense)| *sense);
-        assert_eq!(answer.sense, sense, "sense of {}", answer.refusal);
-        if answer.refusal == 21 {
-            let unit = &before.cells[before.gift.clone()];
-            assert!((1..=6).contains(&answer.rule), "21 names no rule");
-            assert!(plain::broken([unit[2], unit[3], unit[4]])[answer.rule as usize - 1], "the rule named is not broken");
-        } else {
-            assert_eq!(answer.rule, 0, "a rule named with {}", answer.refusal);
-        }
-        assert_eq!((answer.unit, tail), (0, [0, 0, 0]), "a refusal has zeros");
-        if call == Call::Open && before.image.len() == IMAGE {
-            let (format, zeros) = after.cells[after.image.clone()].split_at(1);
-            assert!(format == [FORMAT] && zeros.iter().all(|&cell| cell == 0), "a refused opening leaves the format and zeros");
-            assert!(unchanged_outside(before, after, std::slice::from_ref(&before.image)), "opening wrote outside the image");
-        } else {
-            assert!(before.cells == after.cells, "{call:?} refused with {} changed a cell", answer.refusal);
-        }
-        return;
+// What the paper leaves a refused call to answer and to write.
+fn check_refused(call: Call, before: &Block, after: &Block, answer: &raw::Answer) {
+    assert!(allowed(call).contains(&answer.refusal), "{call:?} refused with {}", answer.refusal);
+    let sense = SENSES.iter().find(|(number, _)| *number == answer.refusal).map_or(0, |(_, sense)| *sense);
+    assert_eq!(answer.sense, sense, "sense of {}", answer.refusal);
+    if answer.refusal == 21 {
+        let unit = &before.cells[before.gift.clone()];
+        assert!((1..=6).contains(&answer.rule), "21 names no rule");
+        assert!(plain::broken([unit[2], unit[3], unit[4]])[answer.rule as usize - 1], "the rule named is not broken");
+    } else {
+        assert_eq!(answer.rule, 0, "a rule named with {}", answer.refusal);
     }
-    assert_eq!((answer.sense, answer.rule), (0, 0), "an accepted call has no sense and no rule");
-    let image = &before.cells[before.image.clone()];
-    let mut may = vec![before.image.clone()];
-    if call == Call::Open {
-        assert_eq!((answer.unit, tail), (0, [0, 0, 0]));
-        assert!(unchanged_outside(before, after, &may), "opening wrote outside the image");
-        assert!(opening.role < 2 && opening.inbox <= 65535);
-        return;
+    assert_eq!([answer.unit, answer.copied, answer.complete, answer.mark], [0; 4], "a refusal has zeros");
+    if call == Call::Open && before.image.len() == IMAGE {
+        let (format, zeros) = after.cells[after.image.clone()].split_at(1);
+        assert!(format == [FORMAT] && zeros.iter().all(|&cell| cell == 0), "a refused opening leaves the format and zeros");
+        assert!(unchanged_outside(before, after, std::slice::from_ref(&before.image)), "opening wrote outside the image");
+    } else {
+        assert!(before.cells == after.cells, "{call:?} refused with {} changed a cell", answer.refusal);
     }
-    let unit = answer.unit as usize;
-    let max = word(image, at::OUT_MAX);
-    assert!(unit == 0 || (5..=max + 5).contains(&unit), "a unit of {unit} bytes");
-    may.push(before.unit.start..before.unit.start + unit);
+}
+
+// The cells that an accepted call may write beside image and unit buffer.
+fn kept_cells(call: Call, before: &Block, after: &Block, answer: &raw::Answer) -> Vec<Range<usize>> {
+    let (image, image_after) = (&before.cells[before.image.clone()], &after.cells[after.image.clone()]);
     let held = word(image, at::IN_HELD);
     match call {
         Call::SendData => {
             // Kept bytes follow those held; after a unit the rest stands at the front.
-            let kept = word(&after.cells[after.image.clone()], at::OUT_HELD);
-            let from = if unit == 0 { word(image, at::OUT_HELD) } else { 0 };
-            may.push(before.send.start + from..before.send.start + kept);
+            let kept = word(image_after, at::OUT_HELD);
+            let from = if answer.unit == 0 { word(image, at::OUT_HELD) } else { 0 };
+            vec![before.send.start + from..before.send.start + kept]
         }
         Call::Take => {
-            let joined = word(&after.cells[after.image.clone()], at::IN_HELD);
+            let joined = word(image_after, at::IN_HELD);
             assert!(joined >= held && joined <= before.inbox.len());
-            may.push(before.inbox.start + held..before.inbox.start + joined);
+            vec![before.inbox.start + held..before.inbox.start + joined]
         }
         Call::Read => {
             let copied = answer.copied as usize;
             assert!(copied <= before.buffer.len() && copied <= held);
             assert_eq!(copied == 0, answer.mark != 0, "a read gives bytes or a mark");
             assert!(answer.complete <= 1 && (copied > 0 || answer.complete == 0) && answer.mark <= 5);
-            may.push(before.inbox.start..before.inbox.start + held - copied);
-            may.push(before.buffer.start..before.buffer.start + copied);
+            let left = before.inbox.start..before.inbox.start + held - copied;
+            vec![left, before.buffer.start..before.buffer.start + copied]
         }
-        _ => {}
+        _ => Vec::new(),
     }
+}
+
+// What the paper leaves a call to answer and to write, told from the block before and the answer alone.
+fn check(call: Call, before: &Block, after: &Block, answer: &raw::Answer, opening: &Opening) {
+    if answer.refusal != 0 {
+        check_refused(call, before, after, answer);
+        return;
+    }
+    assert_eq!((answer.sense, answer.rule), (0, 0), "an accepted call has no sense and no rule");
     if call != Call::Read {
-        assert_eq!(tail, [0, 0, 0], "only a read copies bytes or answers a mark");
+        assert_eq!([answer.copied, answer.complete, answer.mark], [0; 3], "only a read copies bytes or answers a mark");
+    }
+    let mut may = vec![before.image.clone()];
+    if call == Call::Open {
+        assert_eq!(answer.unit, 0, "opening makes no unit");
+        assert!(opening.role < 2 && opening.inbox <= 65535);
+    } else {
+        let unit = answer.unit as usize;
+        let max = word(&before.cells[before.image.clone()], at::OUT_MAX);
+        assert!(unit == 0 || (5..=max + 5).contains(&unit), "a unit of {unit} bytes");
+        may.push(before.unit.start..before.unit.start + unit);
+        may.extend(kept_cells(call, before, after, answer));
     }
     assert!(unchanged_outside(before, after, &may), "{call:?} wrote outside what it may");
 }

@@ -1,5 +1,6 @@
-//! The crate and include/lu62.h say the same: refusals by number and in words, sizes, format and version.
-use lu62::{Reason, FORMAT, IMAGE, INBOX_MOST};
+//! The crate and include/lu62.h say the same: refusals by number and in words, states, marks and roles by number, sizes, format and
+//! version.
+use lu62::{inbox_length, unit_length, End, Mark, Reason, Role, Session, State, FORMAT, IMAGE, INBOX_MOST};
 use std::collections::BTreeMap;
 
 const HEADER: &str = include_str!("../../include/lu62.h");
@@ -44,16 +45,46 @@ fn sizes_format_and_version_are_the_same() {
     assert_eq!(number("LU62_IMAGE"), IMAGE);
     assert_eq!(number("LU62_FORMAT"), usize::from(FORMAT));
     assert_eq!(number("LU62_INBOX_MOST"), INBOX_MOST);
+    assert!(HEADER.contains("#define LU62_UNIT(m) ((m) + 5)\n") && unit_length(8) == 8 + 5);
+    assert!(HEADER.contains("#define LU62_INBOX(w, m) ((w) * (m))\n") && inbox_length(3, 8) == 3 * 8);
     assert_eq!(definitions["LU62_VERSION"], format!("\"{}\"", env!("CARGO_PKG_VERSION")));
 }
 
-#[test]
-fn every_state_and_mark_has_its_name() {
+// The numbers of the header's states or marks with their names in small letters, in the order of the numbers.
+fn named(function: &str) -> Vec<(u32, String)> {
     let definitions = definitions();
-    for (function, last) in [("lu62_state_name", 4), ("lu62_mark_name", 5)] {
-        let mut numbers: Vec<usize> =
-            cases(function).iter().map(|(name, _)| definitions[*name].parse().expect("a number")).collect();
-        numbers.sort_unstable();
-        assert_eq!(numbers, (0..=last).collect::<Vec<_>>(), "{function}");
+    let mut rows: Vec<(u32, String)> = cases(function)
+        .into_iter()
+        .map(|(name, text)| (definitions[name].parse().expect("a number"), text.replace('-', "").to_lowercase()))
+        .collect();
+    rows.sort_unstable();
+    rows
+}
+
+// The crate's names by number, in the same form, up to a number well past the last.
+fn ours<T: std::fmt::Debug>(value: impl Fn(u32) -> Option<T>) -> Vec<(u32, String)> {
+    (0..256).filter_map(|number| Some((number, format!("{:?}", value(number)?).to_lowercase()))).collect()
+}
+
+#[test]
+fn states_have_the_same_numbers() {
+    assert_eq!(named("lu62_state_name"), ours(State::from_number));
+}
+
+#[test]
+fn marks_have_the_same_numbers() {
+    let marks = named("lu62_mark_name");
+    assert_eq!(marks[0], (0, "none".to_string()));
+    assert_eq!(marks[1..], ours(Mark::from_number));
+}
+
+#[test]
+fn roles_have_the_same_numbers() {
+    let definitions = definitions();
+    for (name, role) in [("LU62_FIRST_SPEAKER", Role::FirstSpeaker), ("LU62_BIDDER", Role::Bidder)] {
+        let session = Session { role, out_window: 1, in_window: 1, out_max: 8, in_max: 8 };
+        let end = End::open(session, &[0; 8], &[0; unit_length(8)], &[0; inbox_length(1, 8)]).expect("these sizes are in range");
+        // The role is the byte behind the format.
+        assert_eq!(end.image()[1].to_string(), definitions[name], "{name}");
     }
 }

@@ -87,6 +87,55 @@ struct Seen {
     wrapped: usize,
 }
 
+impl Seen {
+    fn count(&mut self, call: &Call, outcome: &Outcome) {
+        self.calls += 1;
+        let place = match call {
+            Call::Allocate => 0,
+            Call::SendData(_) => 1,
+            Call::Flush => 2,
+            Call::Confirm => 3,
+            Call::Turn(_) => 4,
+            Call::Deallocate(_) => 5,
+            Call::Confirmed => 6,
+            Call::Pace => 7,
+            Call::Take => 8,
+            Call::Read(_) => 9,
+        };
+        match outcome {
+            Outcome::Called(Err(refusal)) | Outcome::Read(Err(refusal), _) => {
+                assert!(!refusal.reason.is_breach(), "a take between joined ends was refused: {refusal}");
+                assert_ne!(refusal.reason, Reason::BadBuffer, "the buffers are those of opening");
+                assert_ne!(refusal.reason, Reason::BadRecord, "calls left a record out of range");
+                self.refused[refusal.reason.number() as usize] += 1;
+            }
+            _ => self.accepted[place] += 1,
+        }
+    }
+}
+
+impl Side {
+    // Bytes given here: 8 is answered for a bad LL and for nothing else.
+    fn note_given(&mut self, bytes: &[u8], result: &Result<Answer, Refusal>) {
+        let after = walk(self.given, bytes);
+        match result {
+            Ok(_) => {
+                self.given = after.expect("an accepted LL is in range");
+                self.unread.extend(bytes);
+            }
+            Err(refusal) => {
+                let image = self.end.image();
+                let fits = (1..=word(image, at::OUT_MAX)).contains(&bytes.len());
+                assert_eq!(
+                    refusal.reason == Reason::BadLl,
+                    fits && image[at::STATE] == 1 && after.is_none(),
+                    "8 is for a bad LL given in Send: {refusal}"
+                );
+            }
+        }
+    }
+}
+
 struct Pair {
     sides: [Side; 2],
 }
@@ -184,75 +233,15 @@ impl Pair {
 
     // What the outcome adds to the histories, with the checks that belong to this one call.
     fn note(&mut self, who: usize, call: &Call, outcome: &Outcome, seen: &mut Seen) {
-        seen.calls += 1;
-        let place = match call {
-            Call::Allocate => 0,
-            Call::SendData(_) => 1,
-            Call::Flush => 2,
-            Call::Confirm => 3,
-            Call::Turn(_) => 4,
-            Call::Deallocate(_) => 5,
-            Call::Confirmed => 6,
-            Call::Pace => 7,
-            Call::Take => 8,
-            Call::Read(_) => 9,
-        };
-        let refusal = match outcome {
-            Outcome::Called(Err(refusal)) | Outcome::Read(Err(refusal), _) => Some(*refusal),
-            _ => None,
-        };
-        if let Some(refusal) = refusal {
-            assert!(!refusal.reason.is_breach(), "a take between joined ends was refused: {refusal}");
-            assert_ne!(refusal.reason, Reason::BadBuffer, "the buffers are those of opening");
-            assert_ne!(refusal.reason, Reason::BadRecord, "calls left a record out of range");
-            seen.refused[refusal.reason.number() as usize] += 1;
-        } else {
-            seen.accepted[place] += 1;
-        }
+        seen.count(call, outcome);
         match (call, outcome) {
-            (Call::SendData(bytes), Outcome::Called(result)) => {
-                let side = &mut self.sides[who];
-                let after = walk(side.given, bytes);
-                match result {
-                    Ok(_) => {
-                        side.given = after.expect("an accepted LL is in range");
-                        side.unread.extend(bytes);
-                    }
-                    Err(refusal) => {
-                        let image = side.end.image();
-                        let fits = (1..=word(image, at::OUT_MAX)).contains(&bytes.len());
-                        assert_eq!(
-                            refusal.reason == Reason::BadLl,
-                            fits && image[at::STATE] == 1 && after.is_none(),
-                            "8 is for a bad LL given in Send: {refusal}"
-                        );
-                    }
-                }
-            }
+            (Call::SendData(bytes), Outcome::Called(result)) => self.sides[who].note_given(bytes, result),
             (Call::Read(cells), Outcome::Read(result, buffer)) => {
-                let (one, two) = self.sides.split_at_mut(1);
-                let (reader, giver) = if who == 0 { (&mut one[0], &mut two[0]) } else { (&mut two[0], &mut one[0]) };
                 let copied = result.map_or(0, |answer| answer.copied);
                 assert_eq!(buffer[copied..], cells[copied..], "cells past the bytes copied keep what they had");
-                if let Ok(answer) = result {
-                    for (i, byte) in buffer[..copied].iter().enumerate() {
-                        let next = giver.unread.pop_front();
-                        assert_eq!(Some(*byte), next, "byte {i} read is not the next byte accepted");
-                        let place = walk(reader.read, &[*byte]).expect("an LL read is in range");
-                        reader.read = place;
-                        let last = i + 1 == copied;
-                        assert!(last || place != Place::Between, "a read went past the end of a record");
-                    }
-                    assert_eq!(answer.complete, copied > 0 && reader.read == Place::Between);
-                    assert_eq!(answer.mark.is_some(), copied == 0);
-                    if answer.complete {
-                        reader.records_read += 1;
-                        seen.records += 1;
-                    }
-                    seen.marks[answer.mark.map_or(0, |mark| mark as usize + 1)] += 1;
-                } else {
-                    assert_eq!(buffer, cells);
-                    assert!(matches!(result, Err(r) if r.reason == Reason::NothingToRead || r.reason == Reason::BadLength));
+                match result {
+                    Ok(answer) => self.note_read(who, answer, &buffer[..copied], seen),
+                    Err(refusal) => assert!([Reason::NothingToRead, Reason::BadLength].contains(&refusal.reason)),
                 }
             }
             (Call::Take, Outcome::Called(Ok(answer))) if answer.unit > 0 => match self.sides[who].unit[2] {
@@ -262,6 +251,25 @@ impl Pair {
             },
             _ => {}
         }
+    }
+
+    // An accepted read: its bytes are the next of those accepted at the other end, none past the end of a record.
+    fn note_read(&mut self, who: usize, answer: &ReadAnswer, bytes: &[u8], seen: &mut Seen) {
+        let (one, two) = self.sides.split_at_mut(1);
+        let (reader, giver) = if who == 0 { (&mut one[0], &mut two[0]) } else { (&mut two[0], &mut one[0]) };
+        for (i, byte) in bytes.iter().enumerate() {
+            assert_eq!(Some(*byte), giver.unread.pop_front(), "byte {i} read is not the next byte accepted");
+            reader.read = walk(reader.read, &[*byte]).expect("an LL read is in range");
+            let last = i + 1 == bytes.len();
+            assert!(last || reader.read != Place::Between, "a read went past the end of a record");
+        }
+        assert_eq!(answer.complete, !bytes.is_empty() && reader.read == Place::Between);
+        assert_eq!(answer.mark.is_some(), bytes.is_empty());
+        if answer.complete {
+            reader.records_read += 1;
+            seen.records += 1;
+        }
+        seen.marks[answer.mark.map_or(0, |mark| mark as usize + 1)] += 1;
     }
 
     // What must hold after every call. The bytes themselves are compared where `whole` says so, their number always.
@@ -486,14 +494,14 @@ fn same_outcome(first: &Pair, second: &Pair, answers: &[Vec<Outcome>; 2], others
 }
 
 // The pair after a row of calls, the answers of each end, and which end was called at each.
-struct Replayed {
+struct Made {
     pair: Pair,
     answers: [Vec<Outcome>; 2],
     order: Vec<usize>,
 }
 
 // The same calls of each end in an order of their own between the ends. A take waits until there is a unit.
-fn replay(random: &mut Random, sizes: &Sizes, cells: u64, calls: &[Vec<Call>; 2], stay: usize) -> Replayed {
+fn replay(random: &mut Random, sizes: &Sizes, cells: u64, calls: &[Vec<Call>; 2], stay: usize) -> Made {
     let mut pair = Pair::open(sizes, cells);
     let mut answers = [Vec::new(), Vec::new()];
     let mut order = Vec::new();
@@ -520,44 +528,24 @@ fn replay(random: &mut Random, sizes: &Sizes, cells: u64, calls: &[Vec<Call>; 2]
     for w in 0..2 {
         assert_eq!(answers[w].len(), calls[w].len(), "another order of the same calls stands still");
     }
-    Replayed { pair, answers, order }
+    Made { pair, answers, order }
 }
 
-fn run(random: &mut Random, sizes: &Sizes, habits: &Habits, calls: usize, compare: bool, seen: &mut Seen) {
-    let cells = random.next();
-    let mut pair = Pair::open(sizes, cells);
-    let mut lists: [Vec<Call>; 2] = [Vec::new(), Vec::new()];
-    let mut answers: [Vec<Outcome>; 2] = [Vec::new(), Vec::new()];
-    let mut order = Vec::new();
-    let mut who = 0;
-    let mut until_whole = 0;
-    for _ in 0..calls {
-        if !random.chance(habits.stay, 16) {
-            who = 1 - who;
-        }
-        let call = choose(random, &pair.sides[who], sizes.max[who] as usize, habits);
-        // A take with nothing waiting is no call of the end.
-        if call == Call::Take && pair.sides[who].line.is_empty() {
-            continue;
-        }
-        let outcome = pair.call(who, &call);
-        pair.note(who, &call, &outcome, seen);
-        let whole = until_whole == 0;
-        pair.check(sizes, whole);
-        if whole {
-            seen.whole_checks += 1;
-            // Comparing all bytes after every call would make runs with large inboxes slow.
-            until_whole = (pair.sides[0].unread.len() + pair.sides[1].unread.len()) / 256;
-        } else {
-            until_whole -= 1;
-        }
-        if compare {
-            lists[who].push(call);
-            answers[who].push(outcome);
-            order.push(who);
-        }
+// Checks the pair after a call, and counts the calls until all bytes are compared again: comparing them after every call would make
+// runs with large inboxes slow.
+fn check_after(pair: &Pair, sizes: &Sizes, until_whole: &mut usize, seen: &mut Seen) {
+    let whole = *until_whole == 0;
+    pair.check(sizes, whole);
+    if whole {
+        seen.whole_checks += 1;
+        *until_whole = (pair.sides[0].unread.len() + pair.sides[1].unread.len()) / 256;
+    } else {
+        *until_whole -= 1;
     }
-    pair.check(sizes, true);
+}
+
+// What the whole run came to.
+fn note_run(pair: &Pair, seen: &mut Seen) {
     for (side, other) in [(0, 1), (1, 0)] {
         let units = pair.sides[side].requests.checked_div(pair.sides[other].records_read);
         seen.units_a_record = seen.units_a_record.max(units.unwrap_or(0));
@@ -565,16 +553,49 @@ fn run(random: &mut Random, sizes: &Sizes, habits: &Habits, calls: usize, compar
             seen.wrapped += 1;
         }
     }
-    if compare {
-        for stay in [15, 2, 9] {
-            let other = replay(random, sizes, cells, &lists, stay);
-            same_outcome(&pair, &other.pair, &answers, &other.answers);
-            if other.order == order {
-                seen.alike += 1;
-            } else {
-                seen.compared += 1;
-            }
+}
+
+// Makes each end's calls again in other orders between the ends.
+fn compare_orders(random: &mut Random, sizes: &Sizes, cells: u64, lists: &[Vec<Call>; 2], first: &Made, seen: &mut Seen) {
+    for stay in [15, 2, 9] {
+        let other = replay(random, sizes, cells, lists, stay);
+        same_outcome(&first.pair, &other.pair, &first.answers, &other.answers);
+        if other.order == first.order {
+            seen.alike += 1;
+        } else {
+            seen.compared += 1;
         }
+    }
+}
+
+fn run(random: &mut Random, sizes: &Sizes, habits: &Habits, calls: usize, compare: bool, seen: &mut Seen) {
+    let cells = random.next();
+    let mut made = Made { pair: Pair::open(sizes, cells), answers: [Vec::new(), Vec::new()], order: Vec::new() };
+    let mut lists: [Vec<Call>; 2] = [Vec::new(), Vec::new()];
+    let mut who = 0;
+    let mut until_whole = 0;
+    for _ in 0..calls {
+        if !random.chance(habits.stay, 16) {
+            who = 1 - who;
+        }
+        let call = choose(random, &made.pair.sides[who], sizes.max[who] as usize, habits);
+        // A take with nothing waiting is no call of the end.
+        if call == Call::Take && made.pair.sides[who].line.is_empty() {
+            continue;
+        }
+        let outcome = made.pair.call(who, &call);
+        made.pair.note(who, &call, &outcome, seen);
+        check_after(&made.pair, sizes, &mut until_whole, seen);
+        if compare {
+            lists[who].push(call);
+            made.answers[who].push(outcome);
+            made.order.push(who);
+        }
+    }
+    made.pair.check(sizes, true);
+    note_run(&made.pair, seen);
+    if compare {
+        compare_orders(random, sizes, cells, &lists, &made, seen);
     }
 }
 

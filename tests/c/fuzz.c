@@ -1,7 +1,8 @@
 /* Laboratory and blender with one fault on the line between them, run after run: a byte of a number, header or length is changed, or
  * a unit is dropped, doubled, cut, exchanged with the next or held back. The blender must print a correct front part of its table
- * and stop with a message, or print the whole table; never a wrong figure, and never later than its time limit allows. (Units carry
- * no checksum; that a changed byte of data is found too, the ninth kind of fault, is the records' own.)
+ * and stop with a message, or print the whole table; never a wrong figure, and never later than its time limit allows: MOST_MS has
+ * room for a unit held back, for both programs' limits one after the other, and for a machine that does other work. (Units carry no
+ * checksum; that a changed byte of data is found too, the ninth kind of fault, is the records' own.)
  *
  *   fuzz EXPECTED SEED RUNS     EXPECTED is the file with the whole table; RUNS for each kind of fault
  *
@@ -20,11 +21,13 @@
 
 enum {
     LIMIT_MS = 250,
-    /* How much longer than the time limit a run may take on a machine that does other work. */
-    SLACK_MS = 5000,
+    /* The limit of the run without a fault, which must not reach it. */
+    LONG_LIMIT_MS = 5000,
     /* A unit held back comes before the time limit, or after it. */
     SHORT_HOLD_MS = 50,
     LONG_HOLD_MS = 2 * LIMIT_MS,
+    SLACK_MS = 1000,
+    MOST_MS = LONG_HOLD_MS + 2 * LIMIT_MS + SLACK_MS,
     HEADER_AT = 2,
     RU_AT = 5
 };
@@ -131,10 +134,10 @@ static void pass(struct way *way, const struct line_fault *fault, size_t directi
     }
 }
 
-/* Carries units both ways until both programs have closed their ends. */
+/* Carries units both ways until both programs have closed their ends, but not for longer than a run may take. */
 static void relay(struct way *ways, const struct line_fault *fault)
 {
-    int64_t until = clock_ms() + LIMIT_MS + SLACK_MS;
+    int64_t until = clock_ms() + MOST_MS;
     while (!(ways[0].shut && ways[1].shut) && clock_ms() < until) {
         struct pollfd both[2];
         for (size_t i = 0; i < 2; i++) {
@@ -152,7 +155,7 @@ static void run(const struct line_fault *fault, struct child *lab, struct child 
 {
     static struct line lines[2];
     static struct way ways[2];
-    struct options options = {.limit_ms = fault->kind == NO_FAULT ? SLACK_MS : LIMIT_MS, .pause_ms = 10};
+    struct options options = {.limit_ms = fault->kind == NO_FAULT ? LONG_LIMIT_MS : LIMIT_MS, .pause_ms = 10};
     int one[2], two[2];
     memset(ways, 0, sizeof ways);
     if (socketpair(AF_UNIX, SOCK_STREAM, 0, one) < 0 || socketpair(AF_UNIX, SOCK_STREAM, 0, two) < 0)
@@ -172,8 +175,8 @@ static void run(const struct line_fault *fault, struct child *lab, struct child 
         units[i] = ways[i].units;
     (void)close(one[1]);
     (void)close(two[1]);
-    child_wait(blend, LIMIT_MS + SLACK_MS);
-    child_wait(lab, LIMIT_MS + SLACK_MS);
+    child_wait(blend, MOST_MS);
+    child_wait(lab, MOST_MS);
 }
 
 static bool one_message(const char *said, const char *front)
@@ -224,7 +227,7 @@ static void try_fault(const struct line_fault *fault, const char *expected, stru
     run(fault, &lab, &blend, units);
     int64_t took = clock_ms() - start;
     const char *what = wrong(&lab, &blend, expected);
-    if (what == NULL && took > LONG_HOLD_MS + 2 * LIMIT_MS + SLACK_MS)
+    if (what == NULL && took >= MOST_MS)
         what = "it took too long";
     if (what == NULL && fault->kind == NO_FAULT && blend.status != EXIT_SUCCESS)
         what = "it stopped though there was no fault";

@@ -9,7 +9,17 @@
 #include <sys/wait.h>
 #include <unistd.h>
 
-enum { MAXIMUM = 8, WINDOW = 2, SEND = MAXIMUM, UNIT = LU62_UNIT(MAXIMUM), INBOX = LU62_INBOX(WINDOW, MAXIMUM) };
+enum {
+    MAXIMUM = 8,
+    WINDOW = 2,
+    SEND = MAXIMUM,
+    UNIT = LU62_UNIT(MAXIMUM),
+    INBOX = LU62_INBOX(WINDOW, MAXIMUM),
+    BUFFER = 8,
+    /* Places that are not in the block. */
+    NULL_POINTER = -1,
+    IN_IMAGE = -2
+};
 
 /* An end, and a block in which its buffers are placed. */
 struct room {
@@ -20,40 +30,76 @@ struct room {
 static const struct lu62_session session = {LU62_FIRST_SPEAKER, WINDOW, WINDOW, MAXIMUM, MAXIMUM};
 static const uint8_t record[] = {0x00, 0x04, 0x41, 0x42};
 
-/* Where the buffers of a case lie in the block, and the bytes given; whether the calls are to be stopped. */
+/* What the partner sends: a bid, and the record with the end of the conversation. */
+static const uint8_t bid[] = {0x00, 0x01, 0x4B, 0x81, 0x80, 0x04, 0x00, 0x06, 0x00, 0x00};
+static const uint8_t data[] = {0x00, 0x02, 0x03, 0x90, 0x01, 0x00, 0x04, 0x41, 0x42};
+
+/* Where the buffers of a case lie: those of the end, the bytes given, the units taken, and what is read into; whether the calls are
+ * to be stopped. */
 static const struct placed {
     const char *name;
-    int send, unit, inbox, bytes;
+    int send, unit, inbox, bytes, taken, buffer;
     int stopped;
 } cases[] = {
-    {"one right behind the other", 0, SEND, SEND + UNIT, SEND + UNIT + INBOX, 0},
-    {"in another order", INBOX + UNIT, INBOX, 0, INBOX + UNIT + SEND, 0},
-    {"send is unit", 0, 0, 100, 200, 1},
-    {"unit begins in send", 0, SEND - 1, 100, 200, 1},
-    {"inbox begins in unit", 0, 20, 20 + UNIT - 1, 200, 1},
-    {"send ends in inbox", 100, 0, 100 + SEND - 1, 200, 1},
-    {"the bytes given lie in send", 0, 20, 100, SEND - 1, 1},
-    {"the bytes given lie in unit", 0, 20, 100, 20 + UNIT - 1, 1},
-    {"send is null", -1, 20, 100, 200, 1},
+    {"one right behind the other", 0, 8, 21, 37, 41, 51, 0},
+    {"in another order", 51, 38, 22, 18, 8, 0, 0},
+    {"send is unit", 0, 0, 100, 200, 210, 230, 1},
+    {"unit begins in send", 0, SEND - 1, 100, 200, 210, 230, 1},
+    {"inbox begins in unit", 0, 20, 20 + UNIT - 1, 200, 210, 230, 1},
+    {"send ends in inbox", 100, 0, 100 + SEND - 1, 200, 210, 230, 1},
+    {"the bytes given lie in send", 0, 20, 100, SEND - 1, 210, 230, 1},
+    {"the bytes given lie in unit", 0, 20, 100, 20 + UNIT - 1, 210, 230, 1},
+    {"the unit taken lies in unit", 0, 20, 100, 200, 20 + UNIT - 1, 230, 1},
+    {"the unit taken lies in inbox", 0, 20, 100, 200, 100 + INBOX - 1, 230, 1},
+    {"the buffer read into lies in inbox", 0, 20, 100, 200, 210, 100 + INBOX - 1, 1},
+    {"the buffer read into ends in inbox", 0, 20, 100, 200, 210, 100 - BUFFER + 1, 1},
+    {"the buffer read into lies in the struct", 0, 20, 100, 200, 210, IN_IMAGE, 1},
+    {"send lies in the struct", IN_IMAGE, 20, 100, 200, 210, 230, 1},
+    {"send is null", NULL_POINTER, 20, 100, 200, 210, 230, 1},
+    {"the buffer read into is null", 0, 20, 100, 200, 210, NULL_POINTER, 1},
 };
 
 static uint8_t *at(struct room *room, int place)
 {
-    return place < 0 ? NULL : room->block + place;
+    return place == NULL_POINTER ? NULL : place == IN_IMAGE ? room->end.image : room->block + place;
+}
+
+/* Sends the record. True if the unit carries it, behind number and header. */
+static int sends(struct room *room, const struct placed *the)
+{
+    struct lu62_end *end = &room->end;
+    uint8_t *bytes = at(room, the->bytes);
+    memcpy(bytes, record, sizeof record);
+    return lu62_end_open(end, &session) == LU62_ACCEPTED && lu62_end_allocate(end) == LU62_ACCEPTED &&
+           lu62_end_send_data(end, bytes, sizeof record) == LU62_ACCEPTED && lu62_end_deallocate(end, 0) == LU62_ACCEPTED &&
+           end->answer.unit == LU62_UNIT(sizeof record) && memcmp(end->unit + LU62_UNIT(0), record, sizeof record) == 0;
+}
+
+static int takes(struct room *room, const struct placed *the, const uint8_t *unit, size_t length)
+{
+    uint8_t *taken = at(room, the->taken);
+    memcpy(taken, unit, length);
+    return lu62_end_receive_unit(&room->end, taken, length) == LU62_ACCEPTED;
+}
+
+/* True if the record is read as it was sent. */
+static int reads(struct room *room, const struct placed *the)
+{
+    uint8_t *buffer = at(room, the->buffer);
+    return lu62_end_receive(&room->end, buffer, BUFFER) == LU62_ACCEPTED && room->end.answer.complete == 1 &&
+           room->end.answer.copied == sizeof record && memcmp(buffer, record, sizeof record) == 0;
 }
 
 static void make_calls(const struct placed *the)
 {
     struct room room;
     memset(&room, 0, sizeof room);
-    memcpy(at(&room, the->bytes), record, sizeof record);
     lu62_end_lend(&room.end, at(&room, the->send), SEND, at(&room, the->unit), UNIT, at(&room, the->inbox), INBOX);
-    if (lu62_end_open(&room.end, &session) != LU62_ACCEPTED || lu62_end_allocate(&room.end) != LU62_ACCEPTED ||
-        lu62_end_send_data(&room.end, at(&room, the->bytes), sizeof record) != LU62_ACCEPTED ||
-        lu62_end_deallocate(&room.end, 0) != LU62_ACCEPTED)
+    if (!sends(&room, the))
         _exit(2);
-    /* The record stands behind number and header. */
-    _exit(room.end.answer.unit == LU62_UNIT(sizeof record) && memcmp(room.end.unit + 5, record, sizeof record) == 0 ? 0 : 3);
+    if (!takes(&room, the, bid, sizeof bid) || !takes(&room, the, data, sizeof data))
+        _exit(3);
+    _exit(reads(&room, the) ? 0 : 4);
 }
 
 /* Makes the calls in a process of their own. True if they end as the case says. */
@@ -66,7 +112,7 @@ static int as_said(const struct placed *the)
     if (process == 0) {
         /* What assert has to say is not wanted here. */
         if (freopen("/dev/null", "w", stderr) == NULL)
-            _exit(4);
+            _exit(5);
         make_calls(the);
     }
     if (process < 0 || waitpid(process, &status, 0) != process)

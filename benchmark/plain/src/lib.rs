@@ -232,6 +232,17 @@ fn kind(header: [u8; 3]) -> Result<Kind, u32> {
     })
 }
 
+fn mark_of(confirm: bool, follow: Follow) -> Mark {
+    match (confirm, follow) {
+        (false, Follow::Stay) => Mark::None,
+        (false, Follow::Turn) => Mark::Turn,
+        (false, Follow::End) => Mark::End,
+        (true, Follow::Stay) => Mark::Confirm,
+        (true, Follow::Turn) => Mark::ConfirmTurn,
+        (true, Follow::End) => Mark::ConfirmEnd,
+    }
+}
+
 fn write_head(unit: &mut [u8], number: u16, header: [u8; 3]) {
     unit[..2].copy_from_slice(&number.to_be_bytes());
     unit[2..5].copy_from_slice(&header);
@@ -559,16 +570,7 @@ impl End {
             return refused(24);
         }
         let Kind::Data { last, confirm, begin, follow, .. } = kind else {
-            if self.bidder {
-                return refused(25);
-            }
-            self.into.step();
-            self.in_number = number;
-            if self.state == State::Reset {
-                self.state = State::Receive;
-                return write_unit(unit, number, [0xCB, 0x80, 0x00], &GRANT);
-            }
-            return write_unit(unit, number, [0xCF, 0x90, 0x00], &BID_REFUSAL);
+            return self.take_bid(number, unit);
         };
         if begin != (self.bidder && self.state == State::Reset) {
             return refused(25);
@@ -576,14 +578,7 @@ impl End {
         if !begin && self.state != State::Receive {
             return refused(26);
         }
-        let mark = match (confirm, follow) {
-            (false, Follow::Stay) => Mark::None,
-            (false, Follow::Turn) => Mark::Turn,
-            (false, Follow::End) => Mark::End,
-            (true, Follow::Stay) => Mark::Confirm,
-            (true, Follow::Turn) => Mark::ConfirmTurn,
-            (true, Follow::End) => Mark::ConfirmEnd,
-        };
+        let mark = mark_of(confirm, follow);
         let taken = match walk(self.taken, ru) {
             Some(place) if mark == Mark::None || place == Place::Between => place,
             _ => return refused(29),
@@ -601,6 +596,19 @@ impl End {
         inbox[held..held + ru.len()].copy_from_slice(ru);
         self.in_held += ru.len() as u16;
         made(0)
+    }
+
+    fn take_bid(&mut self, number: u16, unit: &mut [u8]) -> Answer {
+        if self.bidder {
+            return refused(25);
+        }
+        self.into.step();
+        self.in_number = number;
+        if self.state == State::Reset {
+            self.state = State::Receive;
+            return write_unit(unit, number, [0xCB, 0x80, 0x00], &GRANT);
+        }
+        write_unit(unit, number, [0xCF, 0x90, 0x00], &BID_REFUSAL)
     }
 
     fn take_response(&mut self, number: u16, kind: Kind) -> Answer {

@@ -18,10 +18,8 @@ use script::line_forms::first_line;
 use script::text::line_end;
 use script::text::passed_over;
 use script::text::text_length;
+use script::text::too_long;
 use unit_lines::Line;
-
-// A script has at most 1 MiB; a program that reads one has room for a byte more, so that it sees a longer one.
-pub const SCRIPT_MOST: usize = 1048576;
 
 // Both ends within a script, and where the next line begins, with its number.
 struct Ran {
@@ -252,7 +250,7 @@ fn run(print: bool, expected: &[u8], script: &[u8]) -> Met {
         at: 0,
         same: true,
     };
-    if SCRIPT_MOST < script.len() {
+    if too_long(script.len()) {
         return hand_out(expected, start, b"input too long\n");
     }
     let place = first_place(script);

@@ -48,7 +48,8 @@ abbrev pub session : ℕ → ℕ → ℕ → ℕ → ℕ → Session
 session role outwindow inwindow outmax inmax =
     record { role = role; outwindow = outwindow; inwindow = inwindow; outmax = outmax; inmax = inmax }
 
--- opening goes by the image's length alone; refused, it leaves the image of a record of zeros
+-- of the image opening asks the length alone, and leaves one of a wrong length as it was; refused for anything else, it leaves the image
+-- of a record of zeros
 unfoldable pub openedOn : Session → ℕ → ℕ → ℕ → List ℕ → Handed
 openedOn s send unit inbox image = cond (eqb (length image) IMAGE) (doneOut (opened s send unit inbox)) (handedBack BAD-BUFFER image)
 

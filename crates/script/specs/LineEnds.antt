@@ -1,4 +1,4 @@
--- Where a line of a text ends, what of it is read, and which lines are passed over.
+-- How long a script may be, where a line of it ends, what of a line is read, and which lines are passed over.
 -- Assumes nothing.
 use Prim.Native.Nat.{ℕ, _+_, _-_}
 use mathlib.Core.Bool.{Bool, cond, _||_}
@@ -6,6 +6,14 @@ use mathlib.Core.List.{List}
 use lib.Dec.{eqb, ltb}
 use lib.ListN.{length, getD}
 use Rattle.bytes.specs.Bytes.{slice, indexOf}
+
+-- the bytes of the longest script
+abbrev pub SCRIPT-MOST : ℕ
+SCRIPT-MOST = 1048576
+
+-- of a script of more bytes no line is read
+abbrev pub tooLong : ℕ → Bool
+tooLong bytes = ltb SCRIPT-MOST bytes
 
 -- at the next byte 0A, or at the end of the text
 unfoldable pub lineEnd : ℕ → List ℕ → ℕ

@@ -8,6 +8,7 @@ use Rattle.cells.specs.Equal.{sameBytes}
 use Rattle.script.specs.TextParts.{begins, wordOf, behindWord}
 use Rattle.digits.specs.DecimalRead.{readOn, numberOf}
 use Rattle.digits.specs.HexadecimalRead.{arePairs, bytesOf, bytesRead}
+use Rattle.script.specs.LineEnds.{tooLong}
 use Rattle.script.specs.FirstLine.{sizesOf, firstLineOf}
 use Rattle.script.specs.WordsAsked.{noBytes, plain, givenOf, offerOf, readOf}
 use Rattle.script.specs.CallLine.{requestOf, callOf}
@@ -16,6 +17,14 @@ use Rattle.script.specs.declared.Verb.the-variants.{Allocate, SendData, 
 use Rattle.script.specs.Closing.{prepareToReceive, deallocate}
 use Rattle.script.specs.declared.Request.the-variants.{Call, Take, Offer}
 use Rattle.script.specs.declared.Parsed.the-variants as parsed
+
+-- ---- the length of a script
+
+longest-read : tooLong 1048576 ≡ false
+longest-read = refl
+
+one-more-not-read : tooLong 1048577 ≡ true
+one-more-not-read = refl
 
 -- ---- first lines
 

@@ -1,8 +1,19 @@
-// Lines of a text.
+// A script's length, and its lines.
 ghost use Prim.Native.Nat.{_≤_};
 ghost use mathlib.Core.Path.{_≡_};
 ghost use lib.ListN.{length};
-ghost use Rattle.script.specs.LineEnds.{lineEnd, textLength, passedOver};
+ghost use Rattle.script.specs.LineEnds.{tooLong, lineEnd, textLength, passedOver};
+
+// 1 MiB.
+const SCRIPT_MOST: usize = 1048576;
+
+// Whether a script of so many bytes is not read. A program that reads one has room for a byte more than the longest, so that it sees a
+// longer one.
+pub fn too_long(bytes: usize) -> bool
+    ensures { λ r. ⌜ r ≡ tooLong bytes ⌝ }
+{
+    SCRIPT_MOST < bytes
+}
 
 // Where the line ends that begins at `from`: at the next byte 0A, or at the end of the text.
 pub fn line_end(text: &[u8], from: usize) -> usize
