@@ -1,10 +1,12 @@
 -- A call that changes the finite part and no more: both chains stay as they were, Send is not left, and question 5 stays answered; checked by computation
 -- at every value of the finite part.
 -- Assumes nothing.
-use Rattle.calls.proofs.CallWords.{Bool, true, false, not, _&&_, _||_, _≡_, refl, sym, ap, join, left, right, or-right, mayAllocate, mayConfirm}
-use Rattle.calls.proofs.CallWords.{positiveResponseFits, negativeResponseFits, confirmationFits, isSend, isNothing, agree, controlGood, Control, within, allocated}
-use Rattle.calls.proofs.CallWords.{confirmationMade, markAnswered, bidReceived, positiveResponseReceived, negativeResponseReceived, confirmationReceived}
+use Rattle.calls.proofs.CallWords.{Bool, true, false, not, _&&_, _||_, _≡_, refl, ap, join, left, right, or-right, mayAllocate, mayConfirm}
+use Rattle.calls.proofs.CallWords.{positiveResponseFits, negativeResponseFits, confirmationFits, isSend, isNothing, agree, controlGood, Control, within}
+use Rattle.calls.proofs.CallWords.{allocated, confirmationMade, markAnswered, bidReceived, positiveResponseReceived, negativeResponseReceived}
+use Rattle.calls.proofs.CallWords.{confirmationReceived}
 use Rattle.bools.proofs.Tests.{off}
+use Rattle.control.proofs.Agree.{agrees}
 use Rattle.control.proofs.FiniteControl.{controls}
 use Rattle.transitions.proofs.KeptWithin.{allocated-keeps, answered-keeps, bid-keeps, confirmation-keeps, confirmed-keeps, grant-keeps, refusal-keeps}
 
@@ -13,12 +15,6 @@ pub record Moved (c d : Control) : Type 0 where
   pub into : d .inchain ≡ c .inchain
   pub send : isSend (d .state) ≡ false → isSend (c .state) ≡ false
   pub keeps : (some none : Bool) → within c some none ≡ true → within d some none ≡ true
-
--- two tests that agree have one outcome
-pub agrees : (a b : Bool) → agree a b ≡ true → a ≡ b
-agrees true b e = sym e
-agrees false true e = e
-agrees false false e = refl
 
 abbrev movesAt : Control → Control → Bool
 movesAt c d = agree (d .outchain) (c .outchain) && (agree (d .inchain) (c .inchain) && (not (isSend (c .state)) || isSend (d .state)))

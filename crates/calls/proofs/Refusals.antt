@@ -4,13 +4,13 @@
 use Rattle.calls.proofs.CallWords.{ℕ, eqb-true, ne-eqb, eqb, length, Bool, true, false, cond, not, _&&_, _||_, List, [], _∷_, _≡_, refl, sym, ap, _∙_}
 use Rattle.calls.proofs.CallWords.{cases, join, left, right, numberIn, isFirstSpeaker, allocated, accepted, refused, refusedNaming, firstNo, keeps}
 use Rattle.calls.proofs.CallWords.{bidMade, allocateRefusal, allocateDecision, allocate, lastMade, nothingGoes, closeRefusal, closeDecision, close}
-use Rattle.calls.proofs.CallWords.{confirmedRefusal, confirmedDecision, confirmed, withControl, Decision, decided, sendPacingResponseRefusal, sendPacingResponseDecision, sendPacingResponse}
-use Rattle.calls.proofs.CallWords.{bytesRead, someHeld, receiveRefusal, markRead, receiveDecision, receive, ruReceived, headerReceived, receiveUnitRefusal, receiveUnitDecision}
-use Rattle.calls.proofs.CallWords.{receiveUnit, recordGood, bytesKept, bytesSpilled, sendRefusal, sendDecision, sendData, End, ReadDone, Called}
-use Rattle.calls.proofs.CallWords.{Station, Verb, called, taken, refusalIn}
+use Rattle.calls.proofs.CallWords.{confirmedRefusal, confirmedDecision, confirmed, withControl, Decision, decided, sendPacingResponseRefusal}
+use Rattle.calls.proofs.CallWords.{sendPacingResponseDecision, sendPacingResponse, bytesRead, someHeld, receiveRefusal, markRead, receiveDecision}
+use Rattle.calls.proofs.CallWords.{receive, ruReceived, headerReceived, receiveUnitRefusal, receiveUnitDecision, receiveUnit, recordGood, bytesKept}
+use Rattle.calls.proofs.CallWords.{bytesSpilled, sendRefusal, sendDecision, sendData, End, ReadDone, Called, Station, Verb, called, taken, refusalIn}
 use Rattle.answers.specs.declared.Answer.{Answer}
 use Rattle.end.specs.Outcome.{nothing, lengthOut, accept, answerOf}
-use Rattle.bools.proofs.Tests.{never}
+use Rattle.bools.proofs.Tests.{never, off}
 use Rattle.calls.proofs.CallCases.{allocate-cases, close-cases, confirmed-cases, pace-cases, read-cases, send-cases, kind-cases, take-cases}
 use Rattle.calls.proofs.CallCases.{kind-accepted, passes}
 use Rattle.calls.specs.Laws.{Refusals, questions, receiveUnitQuestions}
@@ -73,11 +73,7 @@ not-first [] k z p = z
 not-first (q ∷ qs) k z p =
     cases (λ (n : ℕ). eqb n k ≡ false) (q .0)
     (λ y. not-first qs k z (right (not (eqb (q .1) k) || q .0) (passes k qs) p))
-    (λ n. by (eqb (q .1) k) (q .0) n (left (not (eqb (q .1) k) || q .0) (passes k qs) p))
-  where
-    by : (a b : Bool) → b ≡ false → not a || b ≡ true → a ≡ false
-    by true b n e = absurd (never (sym e ∙ n))
-    by false b n e = refl
+    (λ n. off (eqb (q .1) k) (q .0) (left (not (eqb (q .1) k) || q .0) (passes k qs) p) n)
 
 module _ (s : Station) (g : recordGood (s .end) ≡ true) where
   asked-5 : (v : Verb) → passes 5 (questions s v) ≡ true

@@ -1,17 +1,15 @@
 -- The floor: whose turn it is, what is owed and what is waited for, as an automaton over the units that wait for an end.
 -- Assumes nothing.
-use Rattle.joined.proofs.JoinedWords.{ℕ, eq-eqb, eqb, Bool, true, false, not, cond, _&&_, _||_, List, _≡_, refl, sym, ap, arith, never, both, or-right}
-use Rattle.joined.proofs.JoinedWords.{beginsBracket, Continued, First, FirstWithBracket, ChainEnd, Continues, Last, Follows, Stay, ChangeDirection}
-use Rattle.joined.proofs.JoinedWords.{EndBracket, Header, agree, isFirstSpeaker, isBidder, isReset, isReceive, isConfirmAwaited, isNothing, Role}
-use Rattle.joined.proofs.JoinedWords.{FirstSpeaker, Bidder, State, WhatReceived, afterLast, afterOwed, markOf, End}
+use Rattle.joined.proofs.JoinedWords.{ℕ, eq-eqb, eqb, Bool, true, false, not, cond, _&&_, _||_, List, _≡_, refl, sym, arith, never, beginsBracket}
+use Rattle.joined.proofs.JoinedWords.{Continued, First, FirstWithBracket, ChainEnd, Continues, Last, Follows, Stay, ChangeDirection, EndBracket, Header}
+use Rattle.joined.proofs.JoinedWords.{isFirstSpeaker, isBidder, isReset, isReceive, isConfirmAwaited, isNothing, Role, FirstSpeaker, Bidder, State}
+use Rattle.joined.proofs.JoinedWords.{WhatReceived, afterLast, afterOwed, markOf, End}
 use Rattle.header.specs.Header.{confirms}
 use Rattle.header.specs.declared.Header.the-variants.{Data, Bid, PositiveBidResponse, NegativeBidResponse, Confirmation, PacingResponse}
-use Rattle.control.specs.StateTests.{isConfirmOwed}
 use Rattle.control.specs.declared.State.the-variants.{Reset, Send, Receive, ConfirmOwed, ConfirmAwaited}
 use Rattle.control.specs.declared.WhatReceived.the-variants as mark
 use Rattle.joined.proofs.LineAutomaton.{Ran, ok, stuck, ok-is, went}
-use Rattle.bools.proofs.Finite.{pairs, bools}
-use Rattle.control.proofs.FiniteControl.{roles, states}
+use Rattle.control.proofs.States.{nothing-is}
 use Rattle.joined.proofs.TwoLines.{other, other-other, Automaton, Led}
 
 -- ---- floors
@@ -180,30 +178,6 @@ floors =
 abbrev pub Floors : Role → Floor → Floor → List (List ℕ) → List (List ℕ) → Type 0
 Floors = Led floors
 
--- ---- the floor of a state
-
--- the state that a test tells
-pub state-is : (s : State)
-    → (isReset s ≡ true → s ≡ Reset) × (isReceive s ≡ true → s ≡ Receive) × (isConfirmOwed s ≡ true → s ≡ ConfirmOwed)
-    × (isConfirmAwaited s ≡ true → s ≡ ConfirmAwaited)
-state-is Reset = (λ e. refl, λ e. cc, λ e. cc, λ e. cc)
-state-is Send = (λ e. cc, λ e. cc, λ e. cc, λ e. cc)
-state-is Receive = (λ e. cc, λ e. refl, λ e. cc, λ e. cc)
-state-is ConfirmOwed = (λ e. cc, λ e. cc, λ e. refl, λ e. cc)
-state-is ConfirmAwaited = (λ e. cc, λ e. cc, λ e. cc, λ e. refl)
-
-pub bidder-speaks : (r : Role) → isBidder r ≡ true → isFirstSpeaker r ≡ false
-bidder-speaks FirstSpeaker e = sym e
-bidder-speaks Bidder e = refl
-
-pub nothing-mark : (m : WhatReceived) → isNothing m ≡ true → m ≡ mark.Nothing
-nothing-mark mark.Nothing e = refl
-nothing-mark mark.Turn e = never e
-nothing-mark mark.End e = never e
-nothing-mark mark.Confirm e = never e
-nothing-mark mark.ConfirmTurn e = never e
-nothing-mark mark.ConfirmEnd e = never e
-
 -- ---- a data unit is made, in Send
 
 -- the floor of an end that has made the last unit, or one that is not last
@@ -292,7 +266,7 @@ confirmed-moves r f n v p = (afterWait f, (rw (owed-partner r v f n p, eq-eqb n 
 -- the floor after `confirmed`, by its state
 pub confirmed-floor :
     (f : Follows) (m : WhatReceived) (owed sent : ℕ) → isNothing m ≡ true → floorAt (afterOwed f) false f m owed sent ≡ afterOwe f
-confirmed-floor Stay m owed sent e = rw (nothing-mark m e)
+confirmed-floor Stay m owed sent e = rw (nothing-is m e)
 confirmed-floor ChangeDirection m owed sent e = refl
 confirmed-floor EndBracket m owed sent e = refl
 
@@ -300,7 +274,7 @@ confirmed-floor EndBracket m owed sent e = refl
 pub last-floor :
     (f g : Follows) (m : WhatReceived) (owed sent : ℕ) → isNothing m ≡ true → floorAt (afterLast f) false g m owed sent ≡ afterWait f
 last-floor Stay g m owed sent e = refl
-last-floor ChangeDirection g m owed sent e = rw (nothing-mark m e)
+last-floor ChangeDirection g m owed sent e = rw (nothing-is m e)
 last-floor EndBracket g m owed sent e = refl
 
 -- ---- data or a grant is taken, no mark standing
@@ -324,24 +298,9 @@ pub unmarked-floor :
 unmarked-floor Reset due f m owed sent n u = (refl, refl, refl)
 unmarked-floor Send true f m owed sent n u = (refl, refl, refl)
 unmarked-floor Send false f m owed sent n u = (refl, refl, refl)
-unmarked-floor Receive due f m owed sent n u = rw (nothing-mark m u) (refl, refl, refl)
+unmarked-floor Receive due f m owed sent n u = rw (nothing-is m u) (refl, refl, refl)
 unmarked-floor ConfirmOwed due f m owed sent n u = (refl, refl, refl)
 unmarked-floor ConfirmAwaited due f m owed sent n u = (refl, refl, refl)
-
--- data that moves the floor fits role and state, checked by computation
-abbrev dataFits : Role × (State × Bool) → Bool
-dataFits v =
-    let r = v .0 in
-    let s = v .1 .0 in
-    let bb = v .1 .1 in
-    not (cond bb (isReset s && isBidder r) (isReceive s)) || (agree bb (isBidder r && isReset s) && (isReceive s || (isReset s && bb)))
-
-pub data-fits :
-    (r : Role) (s : State) (bb : Bool) → cond bb (isReset s && isBidder r) (isReceive s) ≡ true
-    → (agree bb (isBidder r && isReset s) ≡ true) × (isReceive s || (isReset s && bb) ≡ true)
-data-fits r s bb e =
-    both (agree bb (isBidder r && isReset s)) (isReceive s || (isReset s && bb))
-    (or-right _ _ (pairs roles (pairs states bools) .at dataFits refl (r, (s, bb))) (ap not e))
 
 -- ---- never both in Send
 

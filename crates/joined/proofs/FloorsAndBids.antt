@@ -1,17 +1,16 @@
 -- The order of a conversation at two joined ends: floors and bids fit, whatever is still under way.
 -- Assumes nothing.
-use Rattle.joined.proofs.JoinedWords.{ℕ, eqb, Bool, true, false, not, cond, _&&_, _||_, List, [], _∷_, _≡_, refl, sym, ap, _∙_, subst, never, on, left}
-use Rattle.joined.proofs.JoinedWords.{beginsBracket, DataHeader, Header, numberIn, confirmationFits, isFirstSpeaker, isBidder, isReset, isReceive}
-use Rattle.joined.proofs.JoinedWords.{isConfirmAwaited, isNothing, isSend, Role, FirstSpeaker, Bidder, State, markOf, headerReceived, recordGood, End}
-use Rattle.joined.proofs.JoinedWords.{facts, freshEnd}
+use Rattle.joined.proofs.JoinedWords.{ℕ, eqb, Bool, true, cond, _&&_, List, [], _∷_, _≡_, refl, sym, ap, _∙_, subst, on, left, beginsBracket, DataHeader}
+use Rattle.joined.proofs.JoinedWords.{Header, numberIn, confirmationFits, isBidder, isReset, isReceive, isConfirmAwaited, isNothing, Role, FirstSpeaker}
+use Rattle.joined.proofs.JoinedWords.{Bidder, State, markOf, headerReceived, End, freshEnd}
 use Rattle.header.specs.declared.Header.the-variants.{Data, Bid, PositiveBidResponse, NegativeBidResponse, Confirmation}
 use Rattle.control.specs.Questions.{bracketFits, bidFits, stateFits, positiveResponseFits, negativeResponseFits}
 use Rattle.control.specs.declared.State.the-variants.{Send}
 use Rattle.joined.proofs.LineAutomaton.{ok, stuck}
-use Rattle.bools.proofs.Tests.{or-left}
+use Rattle.control.proofs.DataFits.{data-fits}
 use Rattle.joined.proofs.TwoLines.{other, other-other, led-nowhere, led-flip, led-as, led-goes, led-settled}
 use Rattle.joined.proofs.Floor.{Floor, sendBB, send, afterMarkFloor, floorAt, floorOf, isResetFloor, waitsFor, dataMoves, grantMoves, confirmedFloor}
-use Rattle.joined.proofs.Floor.{Floors, quiet-sending, data-fits, not-both-send, isReceiveFloor, unmarked-floor}
+use Rattle.joined.proofs.Floor.{Floors, quiet-sending, not-both-send, isReceiveFloor, unmarked-floor}
 use Rattle.joined.proofs.Bids.{Pending, none, some, bidOf, bidMoves, answerMoves, bidOn, Bids, bid-speaker, answer-flag}
 
 -- Two joined ends: e has the role r and f the other one, `line` waits for f and `back` for e.
@@ -32,33 +31,6 @@ pub order-fresh :
     → Order FirstSpeaker (freshEnd FirstSpeaker w m w′ m′ inbox) (freshEnd Bidder v k v′ k′ inbox′) [] []
 order-fresh w m w′ m′ inbox v k v′ k′ inbox′ =
     record { role = refl; partner = refl; floors = led-nowhere refl; bids = led-nowhere refl }
-
--- ---- what a good record says of the finite part
-
--- BB-due is off outside Send, and at a bidder
-due-off : (due speaks sends unchained : Bool) → not due || (speaks && (sends && unchained)) ≡ true → speaks && sends ≡ false → due ≡ false
-due-off false a b c e n = refl
-due-off true true true c e n = never (sym n)
-due-off true true false c e n = never e
-due-off true false b c e n = never e
-
-module _ (e : End) (g : recordGood e ≡ true) where
-  no-due : isFirstSpeaker (e .control .role) && isSend (e .control .state) ≡ false → e .control .due ≡ false
-  no-due n = due-off (e .control .due) (isFirstSpeaker (e .control .role)) (isSend (e .control .state)) _ (facts e g .control .due) n
-
-  pub due-outside : isSend (e .control .state) ≡ false → e .control .due ≡ false
-  due-outside n = no-due (rw n (and-false (isFirstSpeaker (e .control .role))))
-    where
-      and-false : (a : Bool) → a && false ≡ false
-      and-false true = refl
-      and-false false = refl
-
-  pub due-speaks : isFirstSpeaker (e .control .role) ≡ false → e .control .due ≡ false
-  due-speaks n = no-due (ap (λ (a : Bool). a && isSend (e .control .state)) n)
-
-  -- no mark stands outside Receive
-  pub no-mark : isReceive (e .control .state) ≡ false → isNothing (e .control .mark) ≡ true
-  no-mark n = or-left (isNothing (e .control .mark)) (isReceive (e .control .state)) (facts e g .control .mark) n
 
 -- the floor of an end whose state is known
 pub floor-in : (e : End) (s : State) → e .control .state ≡ s

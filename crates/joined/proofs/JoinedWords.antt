@@ -9,7 +9,6 @@ pub use mathlib.Core.Bool.{Bool, true, false, not, cond, _&&_, _||_}
 pub use mathlib.Core.HLevel.{Discrete}
 pub use mathlib.Core.List.{List, [], _∷_, _++_, append-nil}
 pub use mathlib.Core.Path.{_≡_, refl, sym, ap, _∙_, subst, fun-ext}
-pub use native.Mathlib.Nat.{le-trans}
 pub use native.Mathlib.Omega.{arith}
 pub use Rattle.bools.proofs.{Cases.never, Cases.cases, Cases.on, Tests.left, Tests.both, Tests.or-right}
 pub use Rattle.cells.specs.{Cells.front, Cells.written}

@@ -1,8 +1,8 @@
 -- The oldest unit of a line is never refused as a breach of protocol: every question from 20 on is answered yes.
 -- Assumes nothing.
-use Rattle.joined.proofs.JoinedWords.{ℕ, eqb, leb, length, Bool, true, false, not, _&&_, List, _∷_, _≡_, refl, ap, _∙_, left, both, isFirst}
-use Rattle.joined.proofs.JoinedWords.{headerGood, Header, ruGood, RU-START, numberIn, headerIn, hasCredit, paced, agree, isNothing, Role, nextNumber}
-use Rattle.joined.proofs.JoinedWords.{headerReceived, ruReceived, receiveUnitRefusal, recordGood, facts, Station, sortOf, isPacing, bitOf, isBreach}
+use Rattle.joined.proofs.JoinedWords.{ℕ, eqb, leb, length, Bool, true, false, not, _&&_, List, _∷_, _≡_, refl, ap, _∙_, left, both, isFirst, headerGood}
+use Rattle.joined.proofs.JoinedWords.{Header, ruGood, RU-START, numberIn, headerIn, hasCredit, paced, agree, isNothing, Role, nextNumber, headerReceived}
+use Rattle.joined.proofs.JoinedWords.{ruReceived, receiveUnitRefusal, recordGood, facts, Station, sortOf, isPacing, bitOf, isBreach}
 use Rattle.header.specs.declared.Header.the-variants.{Data, Bid, PositiveBidResponse, NegativeBidResponse, Confirmation, PacingResponse}
 use Rattle.answers.specs.FirstNo.{firstNo}
 use Rattle.end.specs.Record.{inboxLent, unitLent}
@@ -11,7 +11,7 @@ use Rattle.end.specs.ReceiveUnit.{kindQuestions}
 use Rattle.bools.proofs.Tests.{join}
 use Rattle.pacing.proofs.Windows.{credit-there}
 use Rattle.joined.proofs.FloorsAndBids.{Order, order-fits-data, order-fits-bid, order-fits-grant, order-fits-refusal, order-fits-confirmation}
-use Rattle.calls.proofs.ControlMoved.{agrees}
+use Rattle.control.proofs.Agree.{agrees}
 use Rattle.joined.proofs.PacingFlags.{paces-owed, paces-unanswered}
 use Rattle.joined.proofs.PacingFlagsKept.{PacesOf}
 use Rattle.joined.proofs.RequestStream.{Outside, insideOf, fits, Stream, Heads, stream-take}

@@ -3,6 +3,7 @@
 -- Assumes nothing.
 use Rattle.joined.proofs.JoinedWords.{ℕ, Bool, true, false, not, cond, _||_, List, [], _∷_, _++_, _≡_, refl, sym, subst, never, cases, Header, unitOf}
 use Rattle.joined.proofs.JoinedWords.{agree, headerReceived, Sort, sortOf, isPacing, bitOf}
+use Rattle.control.proofs.Agree.{agrees}
 use Rattle.joined.proofs.LineAutomaton.{Ran, ok, stuck, stuck≢ok, ok-is}
 use Rattle.joined.proofs.TwoLines.{Automaton, Led, led-nowhere, led-flip, led-past, led-took, led-goes, led-moved}
 
@@ -87,14 +88,6 @@ pub record Paces (unanswered owed unanswered′ owed′ : Bool) (line back : Lis
 pub paces-fresh : Paces false false false false [] []
 paces-fresh = record { sending = led-nowhere refl; receiving = led-nowhere refl }
 
-is-on : (x : Bool) → agree x true ≡ true → x ≡ true
-is-on true e = refl
-is-on false e = e
-
-is-off : (x : Bool) → agree x false ≡ true → x ≡ false
-is-off true e = never e
-is-off false e = refl
-
 -- a flag that was off is on after a request with the pacing bit
 raised : (b x : Bool) → (b ≡ true → x ≡ false) → cond b (not x) x ≡ (x || b)
 raised true true f = sym (f refl)
@@ -129,10 +122,10 @@ module _ {x o x′ o′ : Bool} {line back : List (List ℕ)} where
   module _ {u : List ℕ} (p : Paces x o x′ o′ line (u ∷ back)) where
     -- a request with the pacing bit finds no answer owed, and a pacing response a request unanswered
     pub paces-owed : bitOf (sortOf (headerReceived u)) ≡ true → o ≡ false
-    paces-owed e = is-off o (flag-fits (p .receiving) e)
+    paces-owed e = agrees o false (flag-fits (p .receiving) e)
 
     pub paces-unanswered : isPacing (sortOf (headerReceived u)) ≡ true → x ≡ true
-    paces-unanswered e = is-on x (flag-fits (p .sending) e)
+    paces-unanswered e = agrees x true (flag-fits (p .sending) e)
 
     pub paces-took : Paces (cond (isPacing (sortOf (headerReceived u))) (not x) x) (o || bitOf (sortOf (headerReceived u))) x′ o′ line back
     paces-took =

@@ -6,6 +6,7 @@ use Rattle.joined.proofs.JoinedWords.{requestMade, nextNumber, bidMade,
 use Rattle.joined.proofs.JoinedWords.{dataHeader, heldBytes, bytesKept, bytesSpilled, Station, Reply, Verb, allocate-cases, bidNumber, close-cases}
 use Rattle.joined.proofs.JoinedWords.{confirmed-cases, pace-cases, read-cases, send-cases, spilledRu, take-cases, Sort, sortOf, isPacing, bitOf}
 use Rattle.joined.proofs.JoinedWords.{answer-sort, Lane, normal, acts, takes, Acted, Took}
+use mathlib.Core.Bool.{or-false}
 use Rattle.header.specs.declared.Header.the-variants.{Bid, Confirmation, PacingResponse}
 use Rattle.joined.proofs.CallsOnLanes.{Laned, LanedTake}
 use Rattle.pacing.proofs.Windows.{no-flag-at-start}
@@ -20,10 +21,6 @@ owedOf s = s .end .receiving .window .pending
 
 abbrev pub PacesOf : Station → Station → List (List ℕ) → List (List ℕ) → Type 0
 PacesOf e f line back = Paces (unansweredOf e) (owedOf e) (unansweredOf f) (owedOf f) line back
-
-or-false : (b : Bool) → b || false ≡ b
-or-false true = refl
-or-false false = refl
 
 -- a unit that is neither a pacing response nor a request with the pacing bit goes out
 paces-past : {x o x′ o′ : Bool} {line back : List (List ℕ)} (n : ℕ) (h : Header) (ru : List ℕ)
