@@ -41,7 +41,7 @@ use Rattle.end.specs.SendPacingResponse.{sendPacingResponseQuestions}
 use Rattle.answers.proofs.Rows.{numbered, outcomes}
 use Rattle.answers.proofs.TwoRows.{pass-both}
 use Rattle.bools.proofs.Cases.{never}
-use Rattle.calls.proofs.ControlMoved.{Moved, bid-moves, grant-moves, refusal-moves, confirmation-moves}
+use Rattle.calls.proofs.ControlMoved.{Moved, bid-moves, positive-response-moves, negative-response-moves, confirmation-moves}
 use Rattle.calls.proofs.UnitsByHeader.{Sort, brings, asks, answers, paces, sortOf}
 use Rattle.calls.specs.Calls.{copies, makes, plain, sends, unitsOf}
 
@@ -248,9 +248,9 @@ confirmed-cases P s refuses goes =
     decided-cases P s (confirmedQuestions e (length (s .unit))) _ tt refuses
     (λ t. made-unit P s (withControl (confirmationMade (e .control)) e) (e .owed) Confirmation [] (goes (t 1) (t 2)))
 
--- ---- pace
+-- ---- send pacing response
 
-pub pace-cases :
+pub pacing-response-cases :
     (P : Called → Type 0) (s : Station)
     → ((q : ℕ) → eqb q 0 ≡ false → P (refusedAct s q))
     → (recordGood (s .end) ≡ true
@@ -258,7 +258,7 @@ pub pace-cases :
     → P (unitAct s (withReceiving (windowAnswered (s .end .receiving)) (s .end)) 0 PacingResponse []))
     → P (called s Verb.sendPacingResponse)
 unfolding called sendPacingResponse sendPacingResponseDecision sendPacingResponseRefusal
-pace-cases P s refuses goes =
+pacing-response-cases P s refuses goes =
     let e = s .end in
     decided-cases P s (sendPacingResponseQuestions e (length (s .unit))) _ tt refuses
     (λ t. made-unit P s (withReceiving (windowAnswered (e .receiving)) e) 0 PacingResponse [] (goes (t 1) (t 2)))
@@ -491,10 +491,12 @@ take-cases P naming s u refuses joins bids responds raises =
         bids p a (ap sortOf e) (request-asked (s .end .receiving .window) p (t 1)) (bid-moves (s .end .control) (control-within (s .end) (a .good)))
     by PositiveBidResponse e a k =
         let t = yes (kindQuestions (s .end) PositiveBidResponse (numberIn u) (ruReceived u)) tt k in
-        responds _ a (ap sortOf e) (grant-moves (s .end .control) (control-within (s .end) (a .good)) (left (positiveResponseFits (s .end .control)) _ (t 1)))
+        responds _ a (ap sortOf e)
+        (positive-response-moves (s .end .control) (control-within (s .end) (a .good)) (left (positiveResponseFits (s .end .control)) _ (t 1)))
     by NegativeBidResponse e a k =
         let t = yes (kindQuestions (s .end) NegativeBidResponse (numberIn u) (ruReceived u)) tt k in
-        responds _ a (ap sortOf e) (refusal-moves (s .end .control) (control-within (s .end) (a .good)) (left (negativeResponseFits (s .end .control)) _ (t 1)))
+        responds _ a (ap sortOf e)
+        (negative-response-moves (s .end .control) (control-within (s .end) (a .good)) (left (negativeResponseFits (s .end .control)) _ (t 1)))
     by Confirmation e a k =
         let t = yes (kindQuestions (s .end) Confirmation (numberIn u) (ruReceived u)) tt k in
         responds _ a (ap sortOf e)

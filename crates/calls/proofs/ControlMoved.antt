@@ -8,7 +8,8 @@ use Rattle.calls.proofs.CallWords.{confirmationReceived}
 use Rattle.bools.proofs.Tests.{off}
 use Rattle.control.proofs.Agree.{agrees}
 use Rattle.control.proofs.FiniteControl.{controls}
-use Rattle.transitions.proofs.KeptWithin.{allocated-keeps, answered-keeps, bid-keeps, confirmation-keeps, confirmed-keeps, grant-keeps, refusal-keeps}
+use Rattle.transitions.proofs.KeptWithin.{allocated-keeps, answered-keeps, bid-keeps, confirmation-keeps, confirmed-keeps, positive-response-keeps}
+use Rattle.transitions.proofs.KeptWithin.{negative-response-keeps}
 
 pub record Moved (c d : Control) : Type 0 where
   pub out : d .outchain ≡ c .outchain
@@ -56,13 +57,13 @@ module _ (c : Control) (g : controlGood c ≡ true) where
   unfolding moves controlGood bidReceived
   bid-moves = moved (λ x. true) bidReceived refl refl (bid-keeps c)
 
-  pub grant-moves : positiveResponseFits c ≡ true → Moved c (positiveResponseReceived c)
+  pub positive-response-moves : positiveResponseFits c ≡ true → Moved c (positiveResponseReceived c)
   unfolding moves controlGood positiveResponseReceived
-  grant-moves a = moved positiveResponseFits positiveResponseReceived refl a (λ x y. grant-keeps c x y a)
+  positive-response-moves a = moved positiveResponseFits positiveResponseReceived refl a (λ x y. positive-response-keeps c x y a)
 
-  pub refusal-moves : negativeResponseFits c ≡ true → Moved c (negativeResponseReceived c)
+  pub negative-response-moves : negativeResponseFits c ≡ true → Moved c (negativeResponseReceived c)
   unfolding moves controlGood negativeResponseReceived
-  refusal-moves a = moved negativeResponseFits negativeResponseReceived refl a (λ x y. refusal-keeps c x y a)
+  negative-response-moves a = moved negativeResponseFits negativeResponseReceived refl a (λ x y. negative-response-keeps c x y a)
 
   pub confirmation-moves : confirmationFits c ≡ true → Moved c (confirmationReceived c)
   unfolding moves controlGood confirmationReceived

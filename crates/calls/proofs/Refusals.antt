@@ -11,7 +11,7 @@ use Rattle.calls.proofs.CallWords.{bytesSpilled, sendRefusal, sendDecis
 use Rattle.answers.specs.declared.Answer.{Answer}
 use Rattle.end.specs.Outcome.{nothing, lengthOut, accept, answerOf}
 use Rattle.bools.proofs.Tests.{never, off}
-use Rattle.calls.proofs.CallCases.{allocate-cases, close-cases, confirmed-cases, pace-cases, read-cases, send-cases, kind-cases, take-cases}
+use Rattle.calls.proofs.CallCases.{allocate-cases, close-cases, confirmed-cases, pacing-response-cases, read-cases, send-cases, kind-cases, take-cases}
 use Rattle.calls.proofs.CallCases.{kind-accepted, passes}
 use Rattle.calls.specs.Laws.{Refusals, questions, receiveUnitQuestions}
 
@@ -103,7 +103,7 @@ module _ (s : Station) where
   unfolding called bytesRead markRead
   refused-nothing Verb.allocate = allocate-cases Nothing s (λ q n h. (refl, refl)) (λ g a w h. yes h) (λ g a w k h. yes h)
   refused-nothing Verb.confirmed = confirmed-cases Nothing s (λ q n h. (refl, refl)) (λ g a h. yes h)
-  refused-nothing Verb.sendPacingResponse = pace-cases Nothing s (λ q n h. (refl, refl)) (λ g a h. yes h)
+  refused-nothing Verb.sendPacingResponse = pacing-response-cases Nothing s (λ q n h. (refl, refl)) (λ g a h. yes h)
   refused-nothing (Verb.sendData bytes) = send-cases Nothing s bytes (λ q n h. (refl, refl)) (λ a k h. yes h) (λ a k c h. yes h)
   refused-nothing (Verb.close f b) = close-cases Nothing s f b (λ q n h. (refl, refl)) (λ a n h. yes h) (λ a n k h. yes h)
   refused-nothing (Verb.receive buffer) = read-cases Nothing s buffer (λ q w n h. (refl, refl)) (λ a k h. yes h) (λ a k m h. yes h)
@@ -123,7 +123,7 @@ module _ (s : Station) where
   unfolding called bytesRead markRead
   accepted-good Verb.allocate = allocate-cases Asked s (λ q n h. no (eqb q 0) n h) (λ g a w h. g) (λ g a w k h. g)
   accepted-good Verb.confirmed = confirmed-cases Asked s (λ q n h. no (eqb q 0) n h) (λ g a h. g)
-  accepted-good Verb.sendPacingResponse = pace-cases Asked s (λ q n h. no (eqb q 0) n h) (λ g a h. g)
+  accepted-good Verb.sendPacingResponse = pacing-response-cases Asked s (λ q n h. no (eqb q 0) n h) (λ g a h. g)
   accepted-good (Verb.sendData bytes) = send-cases Asked s bytes (λ q n h. no (eqb q 0) n h) (λ a k h. a .good) (λ a k c h. a .good)
   accepted-good (Verb.close f b) = close-cases Asked s f b (λ q n h. no (eqb q 0) n h) (λ a n h. a .good) (λ a n k h. a .good)
   accepted-good (Verb.receive buffer) = read-cases Asked s buffer (λ q w n h. no (eqb q 0) n h) (λ a k h. a .good) (λ a k m h. a .good)

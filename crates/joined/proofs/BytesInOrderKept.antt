@@ -4,9 +4,9 @@ use Rattle.joined.proofs.JoinedWords.{ℕ, _-_, eqb, length, take, drop
 use Rattle.joined.proofs.JoinedWords.{ap, arith, front, Continues, Last, DataHeader, Follows, Header, fixedRu, bidRu, unitOf, numberIn, paced, bidAnswer}
 use Rattle.joined.proofs.JoinedWords.{beginOf, readRefused, requestReceived, requestMade, nextNumber, bidMade, lastMade, bytesRead, headerReceived}
 use Rattle.joined.proofs.JoinedWords.{ruReceived, dataJoined, bidAnswered, creditRaised, dataHeader, heldBytes, bytesKept, bytesSpilled, gone, facts}
-use Rattle.joined.proofs.JoinedWords.{Station, Reply, Verb, allocate-cases, bidNumber, close-cases, confirmed-cases, pace-cases, read-cases, send-cases}
-use Rattle.joined.proofs.JoinedWords.{spilledRu, take-cases, ReadAsked, SendAsked, readCount, spilledUnit, Sort, sortOf, answer-sort, dataOf, Lane}
-use Rattle.joined.proofs.JoinedWords.{normal, acts, takes, onNormal, bytesInSendBuffer, Log, bytesAccepted, bytesInInbox, Acted, Took, took, acted}
+use Rattle.joined.proofs.JoinedWords.{Station, Reply, Verb, allocate-cases, bidNumber, close-cases, confirmed-cases, pacing-response-cases, read-cases}
+use Rattle.joined.proofs.JoinedWords.{send-cases, spilledRu, take-cases, ReadAsked, SendAsked, readCount, spilledUnit, Sort, sortOf, answer-sort, dataOf}
+use Rattle.joined.proofs.JoinedWords.{Lane, normal, acts, takes, onNormal, bytesInSendBuffer, Log, bytesAccepted, bytesInInbox, Acted, Took, took, acted}
 use Rattle.header.specs.declared.Header.the-variants.{Bid, Confirmation, PacingResponse}
 use Rattle.end.specs.Receive.{inboxMoved}
 use Rattle.end.specs.Receive as R
@@ -63,7 +63,8 @@ module _ (s : Station) (xs : Log) (line : List (List ℕ)) (read inbox : List �
       (λ g a w k. other (bidNumber (s .end)) (Bid (paced (s .end .sending .window))) bidRu refl)
   bytes-acts Verb.confirmed =
       confirmed-cases (Laned (After Verb.confirmed)) s (λ q n. refuses Verb.confirmed q [] n) (λ g a. other (s .end .owed) Confirmation [] refl)
-  bytes-acts Verb.sendPacingResponse = pace-cases (Laned (After Verb.sendPacingResponse)) s (λ q n. refuses Verb.sendPacingResponse q [] n) (λ g a. other 0 PacingResponse [] refl)
+  bytes-acts Verb.sendPacingResponse =
+      pacing-response-cases (Laned (After Verb.sendPacingResponse)) s (λ q n. refuses Verb.sendPacingResponse q [] n) (λ g a. other 0 PacingResponse [] refl)
   bytes-acts (Verb.sendData bytes) =
       let o = s .end .sending in
       send-cases (Laned (After (Verb.sendData bytes))) s bytes (λ q n. refuses (Verb.sendData bytes) q [] n)
@@ -112,7 +113,7 @@ module _ (s : Station) (xs : Log) (acc held : List ℕ) (back : List (List ℕ))
     unfolding acts H.bytesRead bytesKept bytesSpilled bytesRead bidMade lastMade R.markRead
     bytes-in-acts Verb.allocate = allocate-cases (Laned (AfterIn Verb.allocate)) s (λ q n. quiet-in) (λ g a w. quiet-in) (λ g a w k. quiet-in)
     bytes-in-acts Verb.confirmed = confirmed-cases (Laned (AfterIn Verb.confirmed)) s (λ q n. quiet-in) (λ g a. quiet-in)
-    bytes-in-acts Verb.sendPacingResponse = pace-cases (Laned (AfterIn Verb.sendPacingResponse)) s (λ q n. quiet-in) (λ g a. quiet-in)
+    bytes-in-acts Verb.sendPacingResponse = pacing-response-cases (Laned (AfterIn Verb.sendPacingResponse)) s (λ q n. quiet-in) (λ g a. quiet-in)
     bytes-in-acts (Verb.sendData bytes) = send-cases (Laned (AfterIn (Verb.sendData bytes))) s bytes (λ q n. quiet-in) (λ a k. quiet-in) (λ a k h. quiet-in)
     bytes-in-acts (Verb.close f b) = close-cases (Laned (AfterIn (Verb.close f b))) s f b (λ q n. quiet-in) (λ a n. quiet-in) (λ a n k. quiet-in)
     bytes-in-acts (Verb.receive buffer) =

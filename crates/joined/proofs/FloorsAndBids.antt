@@ -9,8 +9,8 @@ use Rattle.control.specs.declared.State.the-variants.{Send}
 use Rattle.joined.proofs.LineAutomaton.{ok, stuck}
 use Rattle.control.proofs.DataFits.{data-fits}
 use Rattle.joined.proofs.TwoLines.{other, other-other, led-nowhere, led-flip, led-as, led-goes, led-settled}
-use Rattle.joined.proofs.Floor.{Floor, sendBB, send, afterMarkFloor, floorAt, floorOf, isResetFloor, waitsFor, dataMoves, grantMoves, confirmedFloor}
-use Rattle.joined.proofs.Floor.{Floors, quiet-sending, not-both-send, isReceiveFloor, unmarked-floor}
+use Rattle.joined.proofs.Floor.{Floor, sendBB, send, afterMarkFloor, floorAt, floorOf, isResetFloor, awaitsConfirmation, dataMoves}
+use Rattle.joined.proofs.Floor.{positiveResponseMoves, confirmedFloor, Floors, quiet-sending, not-both-send, isReceiveFloor, unmarked-floor}
 use Rattle.joined.proofs.Bids.{Pending, none, some, bidOf, bidMoves, answerMoves, bidOn, Bids, bid-speaker, answer-flag}
 
 -- Two joined ends: e has the role r and f the other one, `line` waits for f and `back` for e.
@@ -49,23 +49,23 @@ module _ {r : Role} {e f : End} {u : List ℕ} {line back : List (List ℕ)} (i 
   pub bid-moves : (b : Bool) → headerReceived u ≡ Bid b → (bidMoves r (bidOf e) ≡ true) × Bids r (some (numberIn u)) (bidOf f) line back
   bid-moves b h = led-goes (bidMoves r (bidOf e)) (some (numberIn u)) h refl (i .bids)
 
-  pub grant-moves : headerReceived u ≡ PositiveBidResponse → (grantMoves r (floorOf e) ≡ true) × Floors r send (floorOf f) line back
-  grant-moves h = led-goes (grantMoves r (floorOf e)) send h refl (i .floors)
+  pub positive-response-moves : headerReceived u ≡ PositiveBidResponse → (positiveResponseMoves r (floorOf e) ≡ true) × Floors r send (floorOf f) line back
+  positive-response-moves h = led-goes (positiveResponseMoves r (floorOf e)) send h refl (i .floors)
 
-  -- a grant and a bid refusal answer the bid alike
+  -- a positive and a negative bid response answer the bid alike
   pub bid-answered : (h : Header) → ((p : Pending) (n : ℕ) → bidOn r p h n ≡ cond (answerMoves r p n) (ok none) stuck) → headerReceived u ≡ h
       → (answerMoves r (bidOf e) (numberIn u) ≡ true) × Bids r none (bidOf f) line back
   bid-answered h on e′ = led-goes (answerMoves r (bidOf e) (numberIn u)) none e′ (on (bidOf e) (numberIn u)) (i .bids)
 
   pub confirmation-moves :
       headerReceived u ≡ Confirmation
-      → (waitsFor (floorOf e) (numberIn u) ≡ true) × Floors r (confirmedFloor (floorOf e)) (floorOf f) line back
-  confirmation-moves h = led-goes (waitsFor (floorOf e) (numberIn u)) (confirmedFloor (floorOf e)) h refl (i .floors)
+      → (awaitsConfirmation (floorOf e) (numberIn u) ≡ true) × Floors r (confirmedFloor (floorOf e)) (floorOf f) line back
+  confirmation-moves h = led-goes (awaitsConfirmation (floorOf e) (numberIn u)) (confirmedFloor (floorOf e)) h refl (i .floors)
 
   -- what the floor tells of the state, no mark standing
   unmarked : isNothing (e .control .mark) ≡ true
       → (isResetFloor (floorOf e) ≡ isReset (e .control .state)) × (isReceiveFloor (floorOf e) ≡ isReceive (e .control .state))
-      × (waitsFor (floorOf e) (numberIn u) ≡ isConfirmAwaited (e .control .state) && eqb (numberIn u) (e .sending .number))
+      × (awaitsConfirmation (floorOf e) (numberIn u) ≡ isConfirmAwaited (e .control .state) && eqb (numberIn u) (e .sending .number))
   unmarked m =
       let c = e .control in
       unmarked-floor (c .state) (c .due) (c .follows) (c .mark) (e .owed) (e .sending .number) (numberIn u) m
@@ -92,13 +92,14 @@ module _ {r : Role} {e f : End} {u : List ℕ} {line back : List (List ℕ)} (i 
   order-fits-bid b h = rw (i .role) (bid-speaker r (bidOf e) (bid-moves b h .0))
 
   -- 28
-  pub order-fits-grant :
+  pub order-fits-positive-response :
       isNothing (e .control .mark) ≡ true → headerReceived u ≡ PositiveBidResponse → positiveResponseFits (e .control) && eqb (numberIn u) (e .bidding) ≡ true
-  order-fits-grant m h =
-      rw (← unmarked m .0, left (isResetFloor (floorOf e)) (isBidder r) (grant-moves h .0)) (flagged (bid-answered PositiveBidResponse (λ p n. refl) h .0))
+  order-fits-positive-response m h =
+      rw (← unmarked m .0, left (isResetFloor (floorOf e)) (isBidder r) (positive-response-moves h .0))
+      (flagged (bid-answered PositiveBidResponse (λ p n. refl) h .0))
 
-  pub order-fits-refusal : headerReceived u ≡ NegativeBidResponse → negativeResponseFits (e .control) && eqb (numberIn u) (e .bidding) ≡ true
-  order-fits-refusal h = flagged (bid-answered NegativeBidResponse (λ p n. refl) h .0)
+  pub order-fits-negative-response : headerReceived u ≡ NegativeBidResponse → negativeResponseFits (e .control) && eqb (numberIn u) (e .bidding) ≡ true
+  order-fits-negative-response h = flagged (bid-answered NegativeBidResponse (λ p n. refl) h .0)
 
   pub order-fits-confirmation :
       isNothing (e .control .mark) ≡ true → headerReceived u ≡ Confirmation → confirmationFits (e .control) && eqb (numberIn u) (e .sending .number) ≡ true

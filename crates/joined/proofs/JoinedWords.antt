@@ -45,10 +45,10 @@ pub use Rattle.end.specs.{SendData.gone, declared.End.End}
 pub use Rattle.end.proofs.{RecordGood.facts}
 pub use Rattle.calls.specs.{Calls.Station, Calls.Reply, Calls.Verb, UnitCounts.count, UnitCounts.isPacingResponse}
 unfoldable pub use Rattle.calls.specs.{UnitCounts.requestsAmong}
-pub use Rattle.calls.proofs.{CallCases.allocate-cases, CallCases.bidNumber, CallCases.close-cases, CallCases.confirmed-cases, CallCases.pace-cases}
-pub use Rattle.calls.proofs.{CallCases.read-cases, CallCases.send-cases, CallCases.spilledRu, CallCases.take-cases, CallCases.ReadAsked}
-pub use Rattle.calls.proofs.{CallCases.SendAsked, CallCases.readCount, CallCases.spilledUnit, CallCases.control-within, CallCases.TakeAsked}
-pub use Rattle.calls.proofs.{ControlMoved.allocate-moves, ControlMoved.mark-moves, RecordStaysGood.opened-is, UnitsByHeader.Sort}
+pub use Rattle.calls.proofs.{CallCases.allocate-cases, CallCases.bidNumber, CallCases.close-cases, CallCases.confirmed-cases}
+pub use Rattle.calls.proofs.{CallCases.pacing-response-cases, CallCases.read-cases, CallCases.send-cases, CallCases.spilledRu, CallCases.take-cases}
+pub use Rattle.calls.proofs.{CallCases.ReadAsked, CallCases.SendAsked, CallCases.readCount, CallCases.spilledUnit, CallCases.control-within}
+pub use Rattle.calls.proofs.{CallCases.TakeAsked, ControlMoved.allocate-moves, ControlMoved.mark-moves, RecordStaysGood.opened-is, UnitsByHeader.Sort}
 pub use Rattle.calls.proofs.{UnitsByHeader.sortOf, UnitsByHeader.isAsking, UnitsByHeader.taken-header, UnitsByHeader.isPacing, UnitsByHeader.bitOf}
 pub use Rattle.calls.proofs.{UnitsByHeader.answer-sort, UnitsByHeader.dataOf}
 pub use Rattle.joined.specs.{Claim.Pair, Ends.Lane, Ends.normal, Ends.sameLane, Ends.Buffers, Ends.OpeningAccepted, Ends.openedWith}

@@ -10,7 +10,8 @@ use Rattle.receiving.specs.Receiving.{pacingFits}
 use Rattle.end.specs.ReceiveUnit.{kindQuestions}
 use Rattle.bools.proofs.Tests.{join}
 use Rattle.pacing.proofs.Windows.{credit-there}
-use Rattle.joined.proofs.FloorsAndBids.{Order, order-fits-data, order-fits-bid, order-fits-grant, order-fits-refusal, order-fits-confirmation}
+use Rattle.joined.proofs.FloorsAndBids.{Order, order-fits-data, order-fits-bid, order-fits-positive-response, order-fits-negative-response}
+use Rattle.joined.proofs.FloorsAndBids.{order-fits-confirmation}
 use Rattle.control.proofs.Agree.{agrees}
 use Rattle.joined.proofs.PacingFlags.{paces-owed, paces-unanswered}
 use Rattle.joined.proofs.PacingFlagsKept.{PacesOf}
@@ -49,8 +50,10 @@ module _ (r : Role) (s f : Station) (o : Outside) (u : List ℕ) (line back : Li
       let t1 = both (agree p (eqb (r .window .position) 0)) _ (t0 .1) in
       let t2 = both (eqb n (nextNumber (r .number))) (agree true (not (s .end .control .inchain))) (t1 .1) in
       rw (t0 .0, pacing-yes p (ap (λ (h : Header). bitOf (sortOf h)) e) g (t1 .0), t2 .0, t2 .1, order-fits-bid order p e)
-  kind-yes PositiveBidResponse e g m t = rw (left (ruGood (s .end .receiving .max) PositiveBidResponse (ruReceived u)) true t, order-fits-grant order m e)
-  kind-yes NegativeBidResponse e g m t = rw (left (ruGood (s .end .receiving .max) NegativeBidResponse (ruReceived u)) true t, order-fits-refusal order e)
+  kind-yes PositiveBidResponse e g m t =
+      rw (left (ruGood (s .end .receiving .max) PositiveBidResponse (ruReceived u)) true t, order-fits-positive-response order m e)
+  kind-yes NegativeBidResponse e g m t =
+      rw (left (ruGood (s .end .receiving .max) NegativeBidResponse (ruReceived u)) true t, order-fits-negative-response order e)
   kind-yes Confirmation e g m t = rw (left (ruGood (s .end .receiving .max) Confirmation (ruReceived u)) true t, order-fits-confirmation order m e)
   kind-yes PacingResponse e g m t =
       let t0 = both (ruGood (s .end .receiving .max) PacingResponse (ruReceived u)) (eqb (numberIn u) 0) t in

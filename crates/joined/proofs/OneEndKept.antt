@@ -6,10 +6,10 @@ use Rattle.joined.proofs.JoinedWords.{Through, Continues, Last, Follows
 use Rattle.joined.proofs.JoinedWords.{bidAnswer, spilled, dataReceived, readRefused, accepted, requestReceived, requestMade, nextNumber, restBytes}
 use Rattle.joined.proofs.JoinedWords.{bidMade, lastMade, bytesRead, recordRest, copyCount, headerReceived, ruReceived, dataJoined, bidAnswered}
 use Rattle.joined.proofs.JoinedWords.{creditRaised, receiveUnitRefusal, dataHeader, heldBytes, bytesKept, bytesSpilled, facts, Station, Reply, Verb}
-use Rattle.joined.proofs.JoinedWords.{count, isPacingResponse, requestsAmong, allocate-cases, bidNumber, close-cases, confirmed-cases, pace-cases}
-use Rattle.joined.proofs.JoinedWords.{read-cases, send-cases, spilledRu, take-cases, ReadAsked, readCount, control-within, TakeAsked, allocate-moves}
-use Rattle.joined.proofs.JoinedWords.{mark-moves, Sort, sortOf, isAsking, isPacing, answer-sort, Lane, normal, acts, takes, onNormal, Log, bytesInInbox}
-use Rattle.joined.proofs.JoinedWords.{isBreach, Acted, Took, took, acted}
+use Rattle.joined.proofs.JoinedWords.{count, isPacingResponse, requestsAmong, allocate-cases, bidNumber, close-cases, confirmed-cases}
+use Rattle.joined.proofs.JoinedWords.{pacing-response-cases, read-cases, send-cases, spilledRu, take-cases, ReadAsked, readCount, control-within}
+use Rattle.joined.proofs.JoinedWords.{TakeAsked, allocate-moves, mark-moves, Sort, sortOf, isAsking, isPacing, answer-sort, Lane, normal, acts, takes}
+use Rattle.joined.proofs.JoinedWords.{onNormal, Log, bytesInInbox, isBreach, Acted, Took, took, acted}
 use borrow.Author.Tests.{leb-true}
 use Rattle.logical_record.proofs.RecordEnds.{Inside}
 use Rattle.logical_record.proofs.Rests.{rest-some, rest-walks, rest-inside, RestIs}
@@ -146,7 +146,7 @@ module _ (s : Station) (xs : Log) (l : Local (valuesOf s) xs) where
       (λ n. l .whole (confirmed-moves (s .end .control) (control-within (s .end) g) a .send n)) refl
       (other-made (s .end .owed) (credit (s .end .sending .window)) Confirmation [] refl) refl)
   local-acts Verb.sendPacingResponse =
-      pace-cases (Laned (After Verb.sendPacingResponse)) s (refuses Verb.sendPacingResponse (λ q. refl))
+      pacing-response-cases (Laned (After Verb.sendPacingResponse)) s (refuses Verb.sendPacingResponse (λ q. refl))
       (λ g a.
       local-act Verb.sendPacingResponse (accepted 5) mark.Nothing [] (onNormal (unitOf 0 PacingResponse [] ∷ [])) _ l here (l .whole) refl
       (other-made 0 (credit (s .end .sending .window)) PacingResponse [] refl) refl)

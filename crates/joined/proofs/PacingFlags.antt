@@ -13,13 +13,13 @@ use Rattle.joined.proofs.TwoLines.{Automaton, Led, led-nowhere, led-fli
 pub data Way : Type 0 where
   out into : Way
 
-abbrev pub turn : Way → Way
-turn out = into
-turn into = out
+abbrev pub otherEnd : Way → Way
+otherEnd out = into
+otherEnd into = out
 
-pub turn-turn : (w : Way) → turn (turn w) ≡ w
-turn-turn out = refl
-turn-turn into = refl
+pub otherEnd-otherEnd : (w : Way) → otherEnd (otherEnd w) ≡ w
+otherEnd-otherEnd out = refl
+otherEnd-otherEnd into = refl
 
 -- the units that move the flag: a pacing response, and a request with the pacing bit
 abbrev pub moves : Way → Sort → Bool
@@ -36,7 +36,7 @@ flagOn w x h n = cond (moves w (sortOf h)) (cond (agree x (before w)) (ok (not x
 
 -- with nothing unanswered no pacing response is on its way, and with an answer owed no request with the pacing bit
 abbrev pub settled : Way → Bool → Bool
-settled w x = agree x (before (turn w))
+settled w x = agree x (before (otherEnd w))
 
 pub settled-stays : (w : Way) (b x x′ : Bool) → settled w x ≡ true → (t : Bool)
     → cond b (cond (agree x (before w)) (ok (not x)) stuck) (ok x) ≡ ok t
@@ -50,8 +50,8 @@ settled-stays into true false x′ q t e = never q
 abbrev pub flags : Automaton Way Bool
 flags =
     record {
-      partner = turn;
-      partner-partner = turn-turn;
+      partner = otherEnd;
+      partner-partner = otherEnd-otherEnd;
       on = flagOn;
       settled = settled;
       stays = λ w x x′ q h n t e. settled-stays w (moves w (sortOf h)) x x′ q t e;
@@ -63,10 +63,10 @@ flags =
 
 module _ {w : Way} {x y : Bool} {line back : List (List ℕ)} where
   -- a unit is made: one that moves the partner's flag only where the flag here is settled, which it moves too
-  flag-made : (n : ℕ) (h : Header) (ru : List ℕ) → (moves (turn w) (sortOf h) ≡ true → settled w x ≡ true)
-      → Led flags w x y line back → Led flags w (cond (moves (turn w) (sortOf h)) (not x) x) y (line ++ (unitOf n h ru ∷ [])) back
+  flag-made : (n : ℕ) (h : Header) (ru : List ℕ) → (moves (otherEnd w) (sortOf h) ≡ true → settled w x ≡ true)
+      → Led flags w x y line back → Led flags w (cond (moves (otherEnd w) (sortOf h)) (not x) x) y (line ++ (unitOf n h ru ∷ [])) back
   flag-made n h ru f i =
-      cases (λ (z : Bool). Led flags w z y (line ++ (unitOf n h ru ∷ [])) back) (moves (turn w) (sortOf h))
+      cases (λ (z : Bool). Led flags w z y (line ++ (unitOf n h ru ∷ [])) back) (moves (otherEnd w) (sortOf h))
       (λ e. led-moved n h ru (not x) (f e) (λ v p. (not x, (rw (← p, e, f e), refl))) i) (λ e. led-past n h ru (λ v. rw e) i)
 
   -- the oldest unit is taken: one that moves the flag finds it as it must be

@@ -6,8 +6,8 @@ use Rattle.joined.proofs.JoinedWords.{Position, same-position, Continue
 use Rattle.joined.proofs.JoinedWords.{isReset, bidAnswer, beginOf, closed, spilled, confirmationMade, dataReceived, requestReceived, requestMade}
 use Rattle.joined.proofs.JoinedWords.{nextNumber, bidMade, lastMade, bytesRead, headerReceived, ruReceived, dataJoined, bidAnswered, creditRaised}
 use Rattle.joined.proofs.JoinedWords.{dataHeader, heldBytes, bytesKept, bytesSpilled, gone, facts, Station, Reply, Verb, allocate-cases, close-cases}
-use Rattle.joined.proofs.JoinedWords.{confirmed-cases, pace-cases, read-cases, send-cases, spilledRu, take-cases, SendAsked, spilledUnit, control-within}
-use Rattle.joined.proofs.JoinedWords.{allocate-moves, mark-moves, Sort, sortOf, answer-sort, Lane, normal, acts, takes, Acted, Took}
+use Rattle.joined.proofs.JoinedWords.{confirmed-cases, pacing-response-cases, read-cases, send-cases, spilledRu, take-cases, SendAsked, spilledUnit}
+use Rattle.joined.proofs.JoinedWords.{control-within, allocate-moves, mark-moves, Sort, sortOf, answer-sort, Lane, normal, acts, takes, Acted, Took}
 use Rattle.cells.proofs.Fronts.{front-of, written-bytes}
 use Rattle.header.specs.declared.Header.the-variants.{Confirmation, PacingResponse}
 use Rattle.sending.specs.Sending.{keeps}
@@ -91,7 +91,7 @@ module _ (s : Station) (i : Inside) (line : List (List ℕ)) (st : Stream (outsi
       let shut = closed-outside-send c (facts (s .end) g .control) (reset-not-send (c .state) (left (isReset (c .state)) _ a)) in
       same-chain _ (allocate-moves c (control-within (s .end) g) a .out) (stream-bid (paced (s .end .sending .window)) st refl shut))
   stream-acts Verb.confirmed = confirmed-cases (Laned After) s (λ q n. rw append-nil st) (λ g a. stream-response (s .end .owed) Confirmation st refl)
-  stream-acts Verb.sendPacingResponse = pace-cases (Laned After) s (λ q n. rw append-nil st) (λ g a. stream-response 0 PacingResponse st refl)
+  stream-acts Verb.sendPacingResponse = pacing-response-cases (Laned After) s (λ q n. rw append-nil st) (λ g a. stream-response 0 PacingResponse st refl)
   stream-acts (Verb.sendData bytes) =
       let o = s .end .sending in
       send-cases (Laned After) s bytes (λ q n. rw append-nil st)
@@ -131,7 +131,7 @@ module _ (s : Station) (o : Outside) (back : List (List ℕ)) where
       allocate-cases (Laned AfterIn) s (λ q n. st) (λ g a w. same-link _ (allocate-moves c (control-within (s .end) g) a .into) st)
       (λ g a w k. same-link _ (allocate-moves c (control-within (s .end) g) a .into) st)
   stream-in-acts st Verb.confirmed = confirmed-cases (Laned AfterIn) s (λ q n. st) (λ g a. st)
-  stream-in-acts st Verb.sendPacingResponse = pace-cases (Laned AfterIn) s (λ q n. st) (λ g a. st)
+  stream-in-acts st Verb.sendPacingResponse = pacing-response-cases (Laned AfterIn) s (λ q n. st) (λ g a. st)
   stream-in-acts st (Verb.sendData bytes) = send-cases (Laned AfterIn) s bytes (λ q n. st) (λ a k. st) (λ a k h. st)
   stream-in-acts st (Verb.close f c) =
       close-cases (Laned AfterIn) s f c (λ q n. st) (λ a n. st) (λ a n k. same-link _ (closed-in f c (s .end .control)) st)

@@ -50,9 +50,9 @@ pub confirmed-small : (e : End) (unit : List ℕ) → confirmed e unit .done .an
 unfolding called
 confirmed-small e unit = word _ _ (acts-fit (at e [] unit []) Verb.confirmed)
 
-pub pace-small : (e : End) (unit : List ℕ) → sendPacingResponse e unit .done .answer .unit < WORD
+pub pacing-response-small : (e : End) (unit : List ℕ) → sendPacingResponse e unit .done .answer .unit < WORD
 unfolding called
-pace-small e unit = word _ _ (acts-fit (at e [] unit []) Verb.sendPacingResponse)
+pacing-response-small e unit = word _ _ (acts-fit (at e [] unit []) Verb.sendPacingResponse)
 
 pub close-small : (f : Follows) (asked : Bool) (e : End) (send unit : List ℕ) → close f asked e send unit .done .answer .unit < WORD
 unfolding called
@@ -78,4 +78,4 @@ module _ (e : End) (inbox buffer : List ℕ) where
       read-cases (λ (m : Called). m .answer .answer .copied < WORD) (at e [] [] inbox) buffer
       (λ q w n. omega arith) (λ a k. omega (arith, count-held (at e [] [] inbox) buffer, h)) (λ a k m. omega arith)
 
-pub ruleset small = (allocate-small, confirmed-small, pace-small, close-small, send-small, take-small, read-small, count-small)
+pub ruleset small = (allocate-small, confirmed-small, pacing-response-small, close-small, send-small, take-small, read-small, count-small)
