@@ -1,17 +1,18 @@
 -- What each call leaves, refused or accepted, read off its definition: the one view of a call that every proof above goes by.
 -- Assumes nothing.
-use Rattle.calls.proofs.CallWords.{ℕ, _+_, _≤_, eqb-true, leb-true, ne-eqb, eqb, leb, take, drop, length, Bool, true, false, cond, not, _&&_, _||_}
-use Rattle.calls.proofs.CallWords.{List, [], _∷_, _++_, _≡_, refl, sym, ap, _∙_, arith, cases, both, left, or-right, front, written, walk, placeOr}
-use Rattle.calls.proofs.CallWords.{Position, Walked, At, BadLength, headerGood, ChainEnd, Continues, Last, DataHeader, Follows, Header, bidRu, fixedRu}
-use Rattle.calls.proofs.CallWords.{ruGood, RU-START, unitOf, numberIn, headerIn, unit-length, paced, hasCredit, mayAllocate, mayConfirm, positiveResponseFits}
-use Rattle.calls.proofs.CallWords.{negativeResponseFits, confirmationFits, isSend, isNothing, agree, isFirstSpeaker, controlGood, Control, bidAnswer, allocated}
-use Rattle.calls.proofs.CallWords.{confirmationMade, markAnswered, bidReceived, positiveResponseReceived, negativeResponseReceived, confirmationReceived, accepted, refused}
-use Rattle.calls.proofs.CallWords.{refusedNaming, firstNo, yes, windowAnswered, keeps, nextNumber, bidMade, allocateRefusal, allocateDecision}
-use Rattle.calls.proofs.CallWords.{allocate, lastMade, nothingGoes, closeRefusal, closeDecision, close, confirmedRefusal, confirmedDecision, confirmed}
-use Rattle.calls.proofs.CallWords.{withControl, withReceiving, Decision, decided, sendPacingResponseRefusal, sendPacingResponseDecision, sendPacingResponse, bytesRead, inboxMoved, someHeld}
+use Rattle.calls.proofs.CallWords.{ℕ, _+_, _≤_, eqb-true, leb-true, ne-eqb, eqb, leb, take, drop, length, Bool, true, false, cond, not, _&&_, _||_, List}
+use Rattle.calls.proofs.CallWords.{[], _∷_, _++_, _≡_, refl, sym, ap, _∙_, arith, cases, both, left, or-right, front, written, walk, placeOr, Position}
+use Rattle.calls.proofs.CallWords.{Walked, At, BadLength, headerGood, ChainEnd, Continues, Last, DataHeader, Follows, Header, bidRu, fixedRu, ruGood}
+use Rattle.calls.proofs.CallWords.{RU-START, unitOf, numberIn, headerIn, unit-length, paced, hasCredit, mayAllocate, mayConfirm, positiveResponseFits}
+use Rattle.calls.proofs.CallWords.{negativeResponseFits, confirmationFits, isSend, isNothing, agree, isFirstSpeaker, controlGood, Control, bidAnswer}
+use Rattle.calls.proofs.CallWords.{allocated, confirmationMade, markAnswered, bidReceived, positiveResponseReceived, negativeResponseReceived}
+use Rattle.calls.proofs.CallWords.{confirmationReceived, accepted, refused, refusedNaming, firstNo, yes, windowAnswered, keeps, nextNumber, bidMade}
+use Rattle.calls.proofs.CallWords.{allocateRefusal, allocateDecision, allocate, lastMade, nothingGoes, closeRefusal, closeDecision, close}
+use Rattle.calls.proofs.CallWords.{confirmedRefusal, confirmedDecision, confirmed, withControl, withReceiving, Decision, decided}
+use Rattle.calls.proofs.CallWords.{sendPacingResponseRefusal, sendPacingResponseDecision, sendPacingResponse, bytesRead, inboxMoved, someHeld}
 use Rattle.calls.proofs.CallWords.{receiveRefusal, markRead, receiveDecision, receive, ruReceived, dataJoined, bidAnswered, creditRaised, headerReceived}
-use Rattle.calls.proofs.CallWords.{receiveUnitRefusal, receiveUnitDecision, receiveUnit, recordGood, dataHeader, heldBytes, gone, bytesKept, bytesSpilled}
-use Rattle.calls.proofs.CallWords.{sendRefusal, sendDecision, sendData, End, ReadDone, facts, Called, Station, Verb, called, taken}
+use Rattle.calls.proofs.CallWords.{receiveUnitRefusal, receiveUnitDecision, receiveUnit, recordGood, dataHeader, heldBytes, gone, bytesKept}
+use Rattle.calls.proofs.CallWords.{bytesSpilled, sendRefusal, sendDecision, sendData, End, ReadDone, facts, Called, Station, Verb, called, taken}
 use lib.Dec.{T}
 use lib.ListN.{getD}
 use Rattle.cells.proofs.Fronts.{front-bytes}
@@ -19,6 +20,7 @@ use Rattle.logical_record.specs.Positions.{isWhole}
 use Rattle.logical_record.specs.RestOfRecord.{rest}
 use Rattle.unit.specs.Ru.{marks}
 use Rattle.header.specs.declared.Header.the-variants.{Data, Bid, PositiveBidResponse, NegativeBidResponse, Confirmation, PacingResponse}
+use Rattle.control.proofs.Agree.{agrees}
 use Rattle.control.proofs.States.{fits-not-send}
 use Rattle.control.proofs.Within.{control-good}
 use Rattle.pacing.specs.declared.Window.{Window}
@@ -39,7 +41,7 @@ use Rattle.end.specs.SendPacingResponse.{sendPacingResponseQuestions}
 use Rattle.answers.proofs.Rows.{numbered, outcomes}
 use Rattle.answers.proofs.TwoRows.{pass-both}
 use Rattle.bools.proofs.Cases.{never}
-use Rattle.calls.proofs.ControlMoved.{Moved, agrees, bid-moves, grant-moves, refusal-moves, confirmation-moves}
+use Rattle.calls.proofs.ControlMoved.{Moved, bid-moves, positive-response-moves, negative-response-moves, confirmation-moves}
 use Rattle.calls.proofs.UnitsByHeader.{Sort, brings, asks, answers, paces, sortOf}
 use Rattle.calls.specs.Calls.{copies, makes, plain, sends, unitsOf}
 
@@ -246,9 +248,9 @@ confirmed-cases P s refuses goes =
     decided-cases P s (confirmedQuestions e (length (s .unit))) _ tt refuses
     (λ t. made-unit P s (withControl (confirmationMade (e .control)) e) (e .owed) Confirmation [] (goes (t 1) (t 2)))
 
--- ---- pace
+-- ---- send pacing response
 
-pub pace-cases :
+pub pacing-response-cases :
     (P : Called → Type 0) (s : Station)
     → ((q : ℕ) → eqb q 0 ≡ false → P (refusedAct s q))
     → (recordGood (s .end) ≡ true
@@ -256,7 +258,7 @@ pub pace-cases :
     → P (unitAct s (withReceiving (windowAnswered (s .end .receiving)) (s .end)) 0 PacingResponse []))
     → P (called s Verb.sendPacingResponse)
 unfolding called sendPacingResponse sendPacingResponseDecision sendPacingResponseRefusal
-pace-cases P s refuses goes =
+pacing-response-cases P s refuses goes =
     let e = s .end in
     decided-cases P s (sendPacingResponseQuestions e (length (s .unit))) _ tt refuses
     (λ t. made-unit P s (withReceiving (windowAnswered (e .receiving)) e) 0 PacingResponse [] (goes (t 1) (t 2)))
@@ -489,10 +491,12 @@ take-cases P naming s u refuses joins bids responds raises =
         bids p a (ap sortOf e) (request-asked (s .end .receiving .window) p (t 1)) (bid-moves (s .end .control) (control-within (s .end) (a .good)))
     by PositiveBidResponse e a k =
         let t = yes (kindQuestions (s .end) PositiveBidResponse (numberIn u) (ruReceived u)) tt k in
-        responds _ a (ap sortOf e) (grant-moves (s .end .control) (control-within (s .end) (a .good)) (left (positiveResponseFits (s .end .control)) _ (t 1)))
+        responds _ a (ap sortOf e)
+        (positive-response-moves (s .end .control) (control-within (s .end) (a .good)) (left (positiveResponseFits (s .end .control)) _ (t 1)))
     by NegativeBidResponse e a k =
         let t = yes (kindQuestions (s .end) NegativeBidResponse (numberIn u) (ruReceived u)) tt k in
-        responds _ a (ap sortOf e) (refusal-moves (s .end .control) (control-within (s .end) (a .good)) (left (negativeResponseFits (s .end .control)) _ (t 1)))
+        responds _ a (ap sortOf e)
+        (negative-response-moves (s .end .control) (control-within (s .end) (a .good)) (left (negativeResponseFits (s .end .control)) _ (t 1)))
     by Confirmation e a k =
         let t = yes (kindQuestions (s .end) Confirmation (numberIn u) (ruReceived u)) tt k in
         responds _ a (ap sortOf e)

@@ -9,8 +9,8 @@ use Rattle.end.specs.Receive.{inboxBytes}
 use Rattle.calls.proofs.ByteLists.{none-bytes, take-bytes, drop-bytes, append-bytes, front-bytes-all, written-bytes-all, next-small, number-small}
 use Rattle.calls.proofs.ByteLists.{AllUnits}
 use Rattle.calls.proofs.UnitsByHeader.{unit-bytes, fixed-ru}
-use Rattle.calls.proofs.CallCases.{allocate-cases, bidNumber, send-cases, spilledRu, close-cases, confirmed-cases, pace-cases, read-cases, readCount}
-use Rattle.calls.proofs.CallCases.{take-cases}
+use Rattle.calls.proofs.CallCases.{allocate-cases, bidNumber, send-cases, spilledRu, close-cases, confirmed-cases, pacing-response-cases, read-cases}
+use Rattle.calls.proofs.CallCases.{readCount, take-cases}
 
 -- ---- the cells and units are bytes, and the number owed is one of two bytes
 
@@ -78,7 +78,7 @@ module _ (s : Station) (c : Cells s) where
       confirmed-cases After s (λ q n. (c, tt))
       (λ g a. (c, one-unit (s .end .owed) Confirmation [] (c .owed) none-bytes))
   cells-acts Verb.sendPacingResponse b =
-      pace-cases After s (λ q n. (c, tt))
+      pacing-response-cases After s (λ q n. (c, tt))
       (λ g a. (c, one-unit 0 PacingResponse [] (omega arith) none-bytes))
   cells-acts (Verb.sendData bytes) b = gives bytes b
   cells-acts (Verb.close f x) b = closes f x

@@ -1,24 +1,21 @@
 -- A call that changes the finite part and no more: both chains stay as they were, Send is not left, and question 5 stays answered; checked by computation
 -- at every value of the finite part.
 -- Assumes nothing.
-use Rattle.calls.proofs.CallWords.{Bool, true, false, not, _&&_, _||_, _≡_, refl, sym, ap, join, left, right, or-right, mayAllocate, mayConfirm}
-use Rattle.calls.proofs.CallWords.{positiveResponseFits, negativeResponseFits, confirmationFits, isSend, isNothing, agree, controlGood, Control, within, allocated}
-use Rattle.calls.proofs.CallWords.{confirmationMade, markAnswered, bidReceived, positiveResponseReceived, negativeResponseReceived, confirmationReceived}
+use Rattle.calls.proofs.CallWords.{Bool, true, false, not, _&&_, _||_, _≡_, refl, ap, join, left, right, or-right, mayAllocate, mayConfirm}
+use Rattle.calls.proofs.CallWords.{positiveResponseFits, negativeResponseFits, confirmationFits, isSend, isNothing, agree, controlGood, Control, within}
+use Rattle.calls.proofs.CallWords.{allocated, confirmationMade, markAnswered, bidReceived, positiveResponseReceived, negativeResponseReceived}
+use Rattle.calls.proofs.CallWords.{confirmationReceived}
 use Rattle.bools.proofs.Tests.{off}
+use Rattle.control.proofs.Agree.{agrees}
 use Rattle.control.proofs.FiniteControl.{controls}
-use Rattle.transitions.proofs.KeptWithin.{allocated-keeps, answered-keeps, bid-keeps, confirmation-keeps, confirmed-keeps, grant-keeps, refusal-keeps}
+use Rattle.transitions.proofs.KeptWithin.{allocated-keeps, answered-keeps, bid-keeps, confirmation-keeps, confirmed-keeps, positive-response-keeps}
+use Rattle.transitions.proofs.KeptWithin.{negative-response-keeps}
 
 pub record Moved (c d : Control) : Type 0 where
   pub out : d .outchain ≡ c .outchain
   pub into : d .inchain ≡ c .inchain
   pub send : isSend (d .state) ≡ false → isSend (c .state) ≡ false
   pub keeps : (some none : Bool) → within c some none ≡ true → within d some none ≡ true
-
--- two tests that agree have one outcome
-pub agrees : (a b : Bool) → agree a b ≡ true → a ≡ b
-agrees true b e = sym e
-agrees false true e = e
-agrees false false e = refl
 
 abbrev movesAt : Control → Control → Bool
 movesAt c d = agree (d .outchain) (c .outchain) && (agree (d .inchain) (c .inchain) && (not (isSend (c .state)) || isSend (d .state)))
@@ -60,13 +57,13 @@ module _ (c : Control) (g : controlGood c ≡ true) where
   unfolding moves controlGood bidReceived
   bid-moves = moved (λ x. true) bidReceived refl refl (bid-keeps c)
 
-  pub grant-moves : positiveResponseFits c ≡ true → Moved c (positiveResponseReceived c)
+  pub positive-response-moves : positiveResponseFits c ≡ true → Moved c (positiveResponseReceived c)
   unfolding moves controlGood positiveResponseReceived
-  grant-moves a = moved positiveResponseFits positiveResponseReceived refl a (λ x y. grant-keeps c x y a)
+  positive-response-moves a = moved positiveResponseFits positiveResponseReceived refl a (λ x y. positive-response-keeps c x y a)
 
-  pub refusal-moves : negativeResponseFits c ≡ true → Moved c (negativeResponseReceived c)
+  pub negative-response-moves : negativeResponseFits c ≡ true → Moved c (negativeResponseReceived c)
   unfolding moves controlGood negativeResponseReceived
-  refusal-moves a = moved negativeResponseFits negativeResponseReceived refl a (λ x y. refusal-keeps c x y a)
+  negative-response-moves a = moved negativeResponseFits negativeResponseReceived refl a (λ x y. negative-response-keeps c x y a)
 
   pub confirmation-moves : confirmationFits c ≡ true → Moved c (confirmationReceived c)
   unfolding moves controlGood confirmationReceived

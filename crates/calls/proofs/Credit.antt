@@ -1,14 +1,15 @@
--- What each call costs or gives: a request made 1 credit, a pacing response taken W; a request taken 1 of open, pace W.
+-- What each call costs or gives: a request made 1 credit, a pacing response taken W; a request taken 1 of open, a pacing response made W.
 -- Assumes nothing.
-use Rattle.calls.proofs.CallWords.{ℕ, _+_, _*_, eqb, Bool, true, false, _&&_, List, [], _∷_, _≡_, refl, ap, _∙_, arith, left, ChainEnd, Continues}
-use Rattle.calls.proofs.CallWords.{Last, Header, bidRu, unitOf, paced, hasCredit, advanced, answered, requestReceived, requestMade, nextNumber, bidMade}
+use Rattle.calls.proofs.CallWords.{ℕ, _+_, _*_, eqb, Bool, true, false, _&&_, List, [], _∷_, _≡_, refl, ap, _∙_, arith, left, ChainEnd, Continues, Last}
+use Rattle.calls.proofs.CallWords.{Header, bidRu, unitOf, paced, hasCredit, advanced, answered, requestReceived, requestMade, nextNumber, bidMade}
 use Rattle.calls.proofs.CallWords.{lastMade, bytesRead, markRead, dataJoined, bidAnswered, creditRaised, recordGood, dataHeader, heldBytes, bytesKept}
 use Rattle.calls.proofs.CallWords.{bytesSpilled, facts, Called, Station, Verb, called, taken, refusalIn, count, isPacingResponse, isRequest}
 use Rattle.calls.proofs.CallWords.{requestsAmong}
 use Rattle.header.specs.declared.Header.the-variants.{Bid, Confirmation, PacingResponse}
 use Rattle.pacing.specs.Pacing.{credit}
 use Rattle.end.specs.Record.{creditOf, openOf}
-use Rattle.calls.proofs.CallCases.{allocate-cases, bidNumber, close-cases, confirmed-cases, pace-cases, read-cases, send-cases, spilledRu, take-cases}
+use Rattle.calls.proofs.CallCases.{allocate-cases, bidNumber, close-cases, confirmed-cases, pacing-response-cases, read-cases, send-cases, spilledRu}
+use Rattle.calls.proofs.CallCases.{take-cases}
 use Rattle.calls.proofs.UnitsByHeader.{sortOf, isAsking, pacing-taken, request-received, requests-unit}
 use Rattle.calls.specs.Laws.{CreditExact, isSendPacingResponse}
 use Rattle.pacing.proofs.Windows.{request-costs, response-raises}
@@ -61,7 +62,7 @@ module _ (s : Station) where
       (λ g a w k. request-made s (bidNumber (s .end)) (Bid (paced (s .end .sending .window))) bidRu refl g k)
   request-costs-one Verb.confirmed =
       confirmed-cases Costs s (λ q n. free) (λ g a. other-made (s .end .owed) (creditOf (s .end)) Confirmation [] refl)
-  request-costs-one Verb.sendPacingResponse = pace-cases Costs s (λ q n. free) (λ g a. other-made 0 (creditOf (s .end)) PacingResponse [] refl)
+  request-costs-one Verb.sendPacingResponse = pacing-response-cases Costs s (λ q n. free) (λ g a. other-made 0 (creditOf (s .end)) PacingResponse [] refl)
   request-costs-one (Verb.sendData bytes) =
       send-cases Costs s bytes (λ q n. free) (λ a k. free)
       (λ a k h.
@@ -80,16 +81,16 @@ module _ (s : Station) where
   same : openOf (s .end) ≡ openOf (s .end) + s .end .receiving .window .size * 0
   same = as-was (openOf (s .end)) (s .end .receiving .window .size)
 
-  pace-opens : (v : Verb) → Opens v (called s v)
+  pacing-response-opens : (v : Verb) → Opens v (called s v)
   unfolding called bidMade bytesKept bytesSpilled lastMade requestMade bytesRead markRead
-  pace-opens Verb.allocate = allocate-cases (Opens Verb.allocate) s (λ q n. rw n same) (λ g a w. same) (λ g a w k. same)
-  pace-opens Verb.confirmed = confirmed-cases (Opens Verb.confirmed) s (λ q n. rw n same) (λ g a. same)
-  pace-opens Verb.sendPacingResponse =
+  pacing-response-opens Verb.allocate = allocate-cases (Opens Verb.allocate) s (λ q n. rw n same) (λ g a w. same) (λ g a w k. same)
+  pacing-response-opens Verb.confirmed = confirmed-cases (Opens Verb.confirmed) s (λ q n. rw n same) (λ g a. same)
+  pacing-response-opens Verb.sendPacingResponse =
       let w = s .end .receiving .window in
-      pace-cases (Opens Verb.sendPacingResponse) s (λ q n. rw n same) (λ g a. response-raises w (left (w .pending) _ a) ∙ once (credit w) (w .size))
-  pace-opens (Verb.sendData bytes) = send-cases (Opens (Verb.sendData bytes)) s bytes (λ q n. rw n same) (λ a k. same) (λ a k h. same)
-  pace-opens (Verb.close f b) = close-cases (Opens (Verb.close f b)) s f b (λ q n. rw n same) (λ a n. same) (λ a n k. same)
-  pace-opens (Verb.receive buffer) = read-cases (Opens (Verb.receive buffer)) s buffer (λ q w n. rw n same) (λ a h. same) (λ a h m. same)
+      pacing-response-cases (Opens Verb.sendPacingResponse) s (λ q n. rw n same) (λ g a. response-raises w (left (w .pending) _ a) ∙ once (credit w) (w .size))
+  pacing-response-opens (Verb.sendData bytes) = send-cases (Opens (Verb.sendData bytes)) s bytes (λ q n. rw n same) (λ a k. same) (λ a k h. same)
+  pacing-response-opens (Verb.close f b) = close-cases (Opens (Verb.close f b)) s f b (λ q n. rw n same) (λ a n. same) (λ a n k. same)
+  pacing-response-opens (Verb.receive buffer) = read-cases (Opens (Verb.receive buffer)) s buffer (λ q w n. rw n same) (λ a h. same) (λ a h m. same)
 
 -- ---- takes
 
@@ -126,5 +127,5 @@ credit-exact =
       made = λ s v. request-costs-one s v;
       answered = λ naming s u. response-raises-window naming s u;
       received = λ naming s u. request-lowers-one naming s u;
-      paced = λ s v. pace-opens s v;
+      paced = λ s v. pacing-response-opens s v;
     }

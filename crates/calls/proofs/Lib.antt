@@ -3,6 +3,7 @@ pub mod ByteLists
 pub mod UnitsByHeader
 pub mod ControlMoved
 pub mod CallCases
+pub mod CallBytes
 pub mod Refusals
 pub mod RecordStaysGood
 pub mod CellsStayBytes

@@ -1,8 +1,8 @@
 -- Every call keeps question 5: the record that it leaves is within the section 'The end's record'.
 -- Assumes nothing.
 use Rattle.calls.proofs.CallWords.{ℕ, _<_, _+_, _*_, _≤_, eqb-true, leb-true, ne-eqb, eqb, leb, take, length, Bool, true, false, not, List, _≡_, refl}
-use Rattle.calls.proofs.CallWords.{sym, ap, arith, both, join, left, right, walk, placeOr, Position, Walked, At, BadLength, Follows, RU-START}
-use Rattle.calls.proofs.CallWords.{numberIn, controlGood, Control, within, allocated, confirmationMade, markAnswered, firstNo, yes, requestReceived}
+use Rattle.calls.proofs.CallWords.{sym, ap, arith, both, join, left, right, walk, placeOr, Position, Walked, At, BadLength, Follows, RU-START, numberIn}
+use Rattle.calls.proofs.CallWords.{controlGood, Control, within, allocated, confirmationMade, markAnswered, firstNo, yes, requestReceived}
 use Rattle.calls.proofs.CallWords.{windowAnswered, requestMade, bidMade, lastMade, withControl, withReceiving, bytesRead, ruReceived, dataJoined}
 use Rattle.calls.proofs.CallWords.{bidAnswered, creditRaised, recordGood, gone, bytesKept, bytesSpilled, End, facts, Called, Station, Verb, called}
 use Rattle.calls.proofs.CallWords.{taken, AllBytes, BytesOf}
@@ -20,7 +20,7 @@ use Rattle.end.specs.SendData.{given}
 use Rattle.session.specs.declared.Session.{Session}
 use Rattle.bools.proofs.Cases.{split}
 use Rattle.calls.proofs.ByteLists.{drop-bytes, take-bytes}
-use Rattle.calls.proofs.CallCases.{allocate-cases, close-cases, confirmed-cases, pace-cases, read-cases, readCount, send-cases, take-cases}
+use Rattle.calls.proofs.CallCases.{allocate-cases, close-cases, confirmed-cases, pacing-response-cases, read-cases, readCount, send-cases, take-cases}
 use Rattle.calls.proofs.CallCases.{control-within}
 use Rattle.calls.proofs.ControlMoved.{Moved, allocate-moves, confirmed-moves, mark-moves}
 use Rattle.calls.specs.Laws.{StaysGood}
@@ -142,7 +142,7 @@ module _ (s : Station) (g : recordGood (s .end) ≡ true) where
       confirmed-cases After s (λ q x. g) (λ x a. control-kept (confirmationMade c) (confirmed-moves c (control-within (s .end) g) a))
   calls Verb.sendPacingResponse b i =
       let e = s .end in
-      pace-cases After s (λ q x. g)
+      pacing-response-cases After s (λ q x. g)
       (λ x a.
       good-from (withReceiving (windowAnswered (e .receiving)) e) (fits-of e g) (facts e g .sending) (window-answered (e .receiving) a (facts e g .receiving)))
   calls (Verb.sendData bytes) b i = gives bytes b

@@ -4,14 +4,14 @@
 use Rattle.calls.proofs.CallWords.{ℕ, eqb-true, ne-eqb, eqb, length, Bool, true, false, cond, not, _&&_, _||_, List, [], _∷_, _≡_, refl, sym, ap, _∙_}
 use Rattle.calls.proofs.CallWords.{cases, join, left, right, numberIn, isFirstSpeaker, allocated, accepted, refused, refusedNaming, firstNo, keeps}
 use Rattle.calls.proofs.CallWords.{bidMade, allocateRefusal, allocateDecision, allocate, lastMade, nothingGoes, closeRefusal, closeDecision, close}
-use Rattle.calls.proofs.CallWords.{confirmedRefusal, confirmedDecision, confirmed, withControl, Decision, decided, sendPacingResponseRefusal, sendPacingResponseDecision, sendPacingResponse}
-use Rattle.calls.proofs.CallWords.{bytesRead, someHeld, receiveRefusal, markRead, receiveDecision, receive, ruReceived, headerReceived, receiveUnitRefusal, receiveUnitDecision}
-use Rattle.calls.proofs.CallWords.{receiveUnit, recordGood, bytesKept, bytesSpilled, sendRefusal, sendDecision, sendData, End, ReadDone, Called}
-use Rattle.calls.proofs.CallWords.{Station, Verb, called, taken, refusalIn}
+use Rattle.calls.proofs.CallWords.{confirmedRefusal, confirmedDecision, confirmed, withControl, Decision, decided, sendPacingResponseRefusal}
+use Rattle.calls.proofs.CallWords.{sendPacingResponseDecision, sendPacingResponse, bytesRead, someHeld, receiveRefusal, markRead, receiveDecision}
+use Rattle.calls.proofs.CallWords.{receive, ruReceived, headerReceived, receiveUnitRefusal, receiveUnitDecision, receiveUnit, recordGood, bytesKept}
+use Rattle.calls.proofs.CallWords.{bytesSpilled, sendRefusal, sendDecision, sendData, End, ReadDone, Called, Station, Verb, called, taken, refusalIn}
 use Rattle.answers.specs.declared.Answer.{Answer}
 use Rattle.end.specs.Outcome.{nothing, lengthOut, accept, answerOf}
-use Rattle.bools.proofs.Tests.{never}
-use Rattle.calls.proofs.CallCases.{allocate-cases, close-cases, confirmed-cases, pace-cases, read-cases, send-cases, kind-cases, take-cases}
+use Rattle.bools.proofs.Tests.{never, off}
+use Rattle.calls.proofs.CallCases.{allocate-cases, close-cases, confirmed-cases, pacing-response-cases, read-cases, send-cases, kind-cases, take-cases}
 use Rattle.calls.proofs.CallCases.{kind-accepted, passes}
 use Rattle.calls.specs.Laws.{Refusals, questions, receiveUnitQuestions}
 
@@ -73,11 +73,7 @@ not-first [] k z p = z
 not-first (q ∷ qs) k z p =
     cases (λ (n : ℕ). eqb n k ≡ false) (q .0)
     (λ y. not-first qs k z (right (not (eqb (q .1) k) || q .0) (passes k qs) p))
-    (λ n. by (eqb (q .1) k) (q .0) n (left (not (eqb (q .1) k) || q .0) (passes k qs) p))
-  where
-    by : (a b : Bool) → b ≡ false → not a || b ≡ true → a ≡ false
-    by true b n e = absurd (never (sym e ∙ n))
-    by false b n e = refl
+    (λ n. off (eqb (q .1) k) (q .0) (left (not (eqb (q .1) k) || q .0) (passes k qs) p) n)
 
 module _ (s : Station) (g : recordGood (s .end) ≡ true) where
   asked-5 : (v : Verb) → passes 5 (questions s v) ≡ true
@@ -107,7 +103,7 @@ module _ (s : Station) where
   unfolding called bytesRead markRead
   refused-nothing Verb.allocate = allocate-cases Nothing s (λ q n h. (refl, refl)) (λ g a w h. yes h) (λ g a w k h. yes h)
   refused-nothing Verb.confirmed = confirmed-cases Nothing s (λ q n h. (refl, refl)) (λ g a h. yes h)
-  refused-nothing Verb.sendPacingResponse = pace-cases Nothing s (λ q n h. (refl, refl)) (λ g a h. yes h)
+  refused-nothing Verb.sendPacingResponse = pacing-response-cases Nothing s (λ q n h. (refl, refl)) (λ g a h. yes h)
   refused-nothing (Verb.sendData bytes) = send-cases Nothing s bytes (λ q n h. (refl, refl)) (λ a k h. yes h) (λ a k c h. yes h)
   refused-nothing (Verb.close f b) = close-cases Nothing s f b (λ q n h. (refl, refl)) (λ a n h. yes h) (λ a n k h. yes h)
   refused-nothing (Verb.receive buffer) = read-cases Nothing s buffer (λ q w n h. (refl, refl)) (λ a k h. yes h) (λ a k m h. yes h)
@@ -127,7 +123,7 @@ module _ (s : Station) where
   unfolding called bytesRead markRead
   accepted-good Verb.allocate = allocate-cases Asked s (λ q n h. no (eqb q 0) n h) (λ g a w h. g) (λ g a w k h. g)
   accepted-good Verb.confirmed = confirmed-cases Asked s (λ q n h. no (eqb q 0) n h) (λ g a h. g)
-  accepted-good Verb.sendPacingResponse = pace-cases Asked s (λ q n h. no (eqb q 0) n h) (λ g a h. g)
+  accepted-good Verb.sendPacingResponse = pacing-response-cases Asked s (λ q n h. no (eqb q 0) n h) (λ g a h. g)
   accepted-good (Verb.sendData bytes) = send-cases Asked s bytes (λ q n h. no (eqb q 0) n h) (λ a k h. a .good) (λ a k c h. a .good)
   accepted-good (Verb.close f b) = close-cases Asked s f b (λ q n h. no (eqb q 0) n h) (λ a n h. a .good) (λ a n k h. a .good)
   accepted-good (Verb.receive buffer) = read-cases Asked s buffer (λ q w n h. no (eqb q 0) n h) (λ a k h. a .good) (λ a k m h. a .good)

@@ -1,11 +1,11 @@
 -- A unit that a call makes is at most 1,029 bytes long, and stands within the unit buffer.
 -- Assumes nothing.
-use Rattle.calls.proofs.CallWords.{ℕ, _+_, _≤_, length, true, List, _≡_, arith, front, Header, bidRu, fixedRu, unitOf, numberIn, unit-length}
-use Rattle.calls.proofs.CallWords.{bidAnswer, bytesRead, markRead, recordGood, heldBytes, End, facts, Called, Station, Verb, called, taken}
+use Rattle.calls.proofs.CallWords.{ℕ, _+_, _≤_, length, true, List, _≡_, arith, front, Header, bidRu, fixedRu, unitOf, numberIn, unit-length, bidAnswer}
+use Rattle.calls.proofs.CallWords.{bytesRead, markRead, recordGood, heldBytes, End, facts, Called, Station, Verb, called, taken}
 use Prim.Native.Nat.{zero-le}
 use lib.ListN.{length-append, length-take}
 use Rattle.calls.specs.Laws.{UnitsFit}
-use Rattle.calls.proofs.CallCases.{spilledRu, allocate-cases, send-cases, close-cases, confirmed-cases, pace-cases, read-cases, take-cases}
+use Rattle.calls.proofs.CallCases.{spilledRu, allocate-cases, send-cases, close-cases, confirmed-cases, pacing-response-cases, read-cases, take-cases}
 use Rattle.calls.proofs.UnitsByHeader.{fixed-ru}
 
 -- a unit of n bytes at the front of these cells, short enough
@@ -36,7 +36,7 @@ module _ (s : Station) where
   acts-fit Verb.allocate =
       allocate-cases After s (λ q n. none (s .unit)) (λ g a w. none (s .unit)) (λ g a w k. unit-fits _ _ bidRu (s .unit) (omega arith))
   acts-fit Verb.confirmed = confirmed-cases After s (λ q n. none (s .unit)) (λ g a. unit-fits _ _ _ (s .unit) (omega arith))
-  acts-fit Verb.sendPacingResponse = pace-cases After s (λ q n. none (s .unit)) (λ g a. unit-fits _ _ _ (s .unit) (omega arith))
+  acts-fit Verb.sendPacingResponse = pacing-response-cases After s (λ q n. none (s .unit)) (λ g a. unit-fits _ _ _ (s .unit) (omega arith))
   acts-fit (Verb.sendData bytes) =
       send-cases After s bytes (λ q n. none (s .unit)) (λ a k. none (s .unit))
       (λ a k h. unit-fits _ _ (spilledRu s bytes) (s .unit) (spilled-short s bytes (a .good)))

@@ -2,7 +2,7 @@
 -- Assumes nothing.
 use Rattle.calls.proofs.CallWords.{ℕ, List, _≡_, refl, advanced, answered, requestMade, bidMade, lastMade, bytesRead, dataJoined, bidAnswered}
 use Rattle.calls.proofs.CallWords.{creditRaised, bytesKept, bytesSpilled, Called, Station, Verb, called, taken}
-use Rattle.calls.proofs.CallCases.{allocate-cases, close-cases, confirmed-cases, pace-cases, read-cases, send-cases, take-cases}
+use Rattle.calls.proofs.CallCases.{allocate-cases, close-cases, confirmed-cases, pacing-response-cases, read-cases, send-cases, take-cases}
 
 abbrev pub sizeOf : Station → ℕ
 sizeOf s = s .end .sending .window .size
@@ -15,7 +15,7 @@ module _ (s : Station) where
   unfolding called bytesKept bytesSpilled bytesRead bidMade lastMade requestMade advanced
   size-acts Verb.allocate = allocate-cases After s (λ q n. refl) (λ g a w. refl) (λ g a w k. refl)
   size-acts Verb.confirmed = confirmed-cases After s (λ q n. refl) (λ g a. refl)
-  size-acts Verb.sendPacingResponse = pace-cases After s (λ q n. refl) (λ g a. refl)
+  size-acts Verb.sendPacingResponse = pacing-response-cases After s (λ q n. refl) (λ g a. refl)
   size-acts (Verb.sendData bytes) = send-cases After s bytes (λ q n. refl) (λ a k. refl) (λ a k h. refl)
   size-acts (Verb.close f c) = close-cases After s f c (λ q n. refl) (λ a n. refl) (λ a n k. refl)
   size-acts (Verb.receive buffer) = read-cases After s buffer (λ q w n. refl) (λ a h. refl) (λ a h m. refl)

@@ -2,10 +2,10 @@
 -- Assumes nothing.
 use mathlib.Core.Path.{_≡_, refl, sym, ap, _∙_}
 use mathlib.Core.List.{List, [], _++_, append-assoc}
-use Prim.Native.Nat.{ℕ, _+_, _≤_}
+use Prim.Native.Nat.{ℕ, _+_, _-_, _≤_}
 use native.Mathlib.Omega.{arith}
 use lib.ListN.{length, take, drop, length-append, length-drop, length-take, take-append-drop}
-use lib.Seq.{take-append-seam, drop-append-seam, drop-drop, take-append-le, length-take-le, take-all, take-at, drop-at}
+use lib.Seq.{take-append-seam, drop-drop, take-take, length-take-le, take-at}
 use Rattle.cells.specs.Cells.{front, written}
 
 -- a buffer keeps its length
@@ -45,3 +45,20 @@ written-bytes at bs cells h =
     let n : length (take at cells ++ bs) ≡ at + length bs = simp (length-append, length-take-le at cells h) in
     ap (take (at + length bs)) (sym (append-assoc (take at cells) bs (drop (length bs) (drop at cells))))
     ∙ take-at (take at cells ++ bs) (drop (length bs) (drop at cells)) (at + length bs) n
+
+-- ---- bytes copied from the front of cells, and those behind them moved there
+
+pub front-of : (n : ℕ) (bs cells : List ℕ) → n ≡ length bs → take n (front bs cells) ≡ bs
+front-of n bs cells e = rw e (front-bytes bs cells)
+
+pub copied-front : (k : ℕ) (from to : List ℕ) → k ≤ length from → take k (front (take k from) to) ≡ take k from
+copied-front k from to h = front-of k (take k from) to (sym (length-take-le k from h))
+
+-- of the cells held, the first k and the others
+pub held-parts : (k held : ℕ) (cells : List ℕ) → k ≤ held → take held cells ≡ take k cells ++ drop k (take held cells)
+held-parts k held cells h = sym (take-append-drop k (take held cells)) ∙ ap (λ (l : List ℕ). l ++ drop k (take held cells)) (take-take k held cells h)
+
+pub moved-front : (k held : ℕ) (cells : List ℕ) → held ≤ length cells
+    → take (held - k) (front (drop k (take held cells)) cells) ≡ drop k (take held cells)
+moved-front k held cells h =
+    front-of (held - k) (drop k (take held cells)) cells (sym (length-drop k (take held cells) ∙ ap (λ (n : ℕ). n - k) (length-take-le held cells h)))

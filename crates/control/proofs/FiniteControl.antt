@@ -1,7 +1,7 @@
 -- A test at every value of the finite part of a record, which antt computes.
 -- Assumes nothing.
 use mathlib.Core.Path.{_≡_, refl}
-use mathlib.Core.Bool.{Bool, true, false, _&&_}
+use mathlib.Core.Bool.{Bool, true, _&&_}
 use Rattle.bools.proofs.Finite.{Finite, halves, pairs, covered, bools}
 use Rattle.header.specs.declared.Follows.{Follows}
 use Rattle.header.specs.declared.Follows.the-variants.{Stay, ChangeDirection, EndBracket}

@@ -1,3 +1,5 @@
+pub mod Agree
 pub mod FiniteControl
+pub mod DataFits
 pub mod States
 pub mod Within

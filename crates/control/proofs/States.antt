@@ -1,11 +1,17 @@
--- States are apart.
+-- What a test of a state, a role or a mark tells: which it is, and which it is not.
 -- Assumes nothing.
 use mathlib.Core.Path.{_≡_, refl, sym}
 use mathlib.Core.Bool.{Bool, true, false, _&&_, _||_}
 use Rattle.bools.proofs.Tests.{never}
-use Rattle.control.specs.StateTests.{isReset, isSend, isReceive, isConfirmOwed, isConfirmAwaited}
+use Rattle.control.specs.StateTests.{isFirstSpeaker, isBidder, isReset, isSend, isReceive, isConfirmOwed, isConfirmAwaited, isNothing}
+use Rattle.control.specs.declared.Role.{Role}
+use Rattle.control.specs.declared.Role.the-variants.{FirstSpeaker, Bidder}
 use Rattle.control.specs.declared.State.{State}
 use Rattle.control.specs.declared.State.the-variants.{Reset, Send, Receive, ConfirmOwed, ConfirmAwaited}
+use Rattle.control.specs.declared.WhatReceived.{WhatReceived}
+use Rattle.control.specs.declared.WhatReceived.the-variants as mark
+
+-- ---- which it is
 
 pub send-is : (s : State) → isSend s ≡ true → s ≡ Send
 send-is Reset e = absurd (never (sym e))
@@ -13,6 +19,29 @@ send-is Send e = refl
 send-is Receive e = absurd (never (sym e))
 send-is ConfirmOwed e = absurd (never (sym e))
 send-is ConfirmAwaited e = absurd (never (sym e))
+
+pub state-is : (s : State)
+    → (isReset s ≡ true → s ≡ Reset) × (isReceive s ≡ true → s ≡ Receive) × (isConfirmOwed s ≡ true → s ≡ ConfirmOwed)
+    × (isConfirmAwaited s ≡ true → s ≡ ConfirmAwaited)
+state-is Reset = (λ e. refl, λ e. cc, λ e. cc, λ e. cc)
+state-is Send = (λ e. cc, λ e. cc, λ e. cc, λ e. cc)
+state-is Receive = (λ e. cc, λ e. refl, λ e. cc, λ e. cc)
+state-is ConfirmOwed = (λ e. cc, λ e. cc, λ e. refl, λ e. cc)
+state-is ConfirmAwaited = (λ e. cc, λ e. cc, λ e. cc, λ e. refl)
+
+pub nothing-is : (m : WhatReceived) → isNothing m ≡ true → m ≡ mark.Nothing
+nothing-is mark.Nothing e = refl
+nothing-is mark.Turn e = absurd (never (sym e))
+nothing-is mark.End e = absurd (never (sym e))
+nothing-is mark.Confirm e = absurd (never (sym e))
+nothing-is mark.ConfirmTurn e = absurd (never (sym e))
+nothing-is mark.ConfirmEnd e = absurd (never (sym e))
+
+-- ---- which it is not
+
+pub bidder-not-first : (r : Role) → isBidder r ≡ true → isFirstSpeaker r ≡ false
+bidder-not-first FirstSpeaker e = sym e
+bidder-not-first Bidder e = refl
 
 pub reset-not-send : (s : State) → isReset s ≡ true → isSend s ≡ false
 reset-not-send Reset e = refl

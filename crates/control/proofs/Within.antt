@@ -1,9 +1,9 @@
 -- Question 5 of the finite part, as facts: taken apart and put together.
 -- Assumes nothing.
 use mathlib.Core.Path.{_≡_}
-use mathlib.Core.Bool.{Bool, true, false, not, _&&_, _||_}
-use Rattle.bools.proofs.Tests.{both, join, off}
-use Rattle.control.specs.StateTests.{isSend}
+use mathlib.Core.Bool.{Bool, true, false, not, _&&_, _||_, and-false}
+use Rattle.bools.proofs.Tests.{both, join, off, or-left}
+use Rattle.control.specs.StateTests.{isFirstSpeaker, isSend, isReceive, isNothing}
 use Rattle.control.specs.Within.{markInReceive, dueInSend, bidAtBidder, chainInSend, controlGood}
 use Rattle.control.specs.declared.Control.{Control}
 
@@ -25,9 +25,21 @@ pub control-good : (c : Control) → ControlWithin c → controlGood c ≡ true
 unfolding controlGood
 control-good c w = join (markInReceive c) _ (w .mark) (join (dueInSend c) _ (w .due) (join (bidAtBidder c) (chainInSend c) (w .bid) (w .chain)))
 
--- outside Send the sending chain is closed
-pub closed-outside-send : (c : Control) → ControlWithin c → isSend (c .state) ≡ false → c .outchain ≡ false
-closed-outside-send c w s = off (c .outchain) (isSend (c .state)) (w .chain) s
+module _ (c : Control) (w : ControlWithin c) where
+  -- outside Send the sending chain is closed
+  pub closed-outside-send : isSend (c .state) ≡ false → c .outchain ≡ false
+  closed-outside-send s = off (c .outchain) (isSend (c .state)) (w .chain) s
+
+  -- BB-due is off outside Send, and at a bidder
+  pub due-outside-send : isSend (c .state) ≡ false → c .due ≡ false
+  due-outside-send s = off (c .due) _ (w .due) (rw s (and-false (isFirstSpeaker (c .role))))
+
+  pub due-at-bidder : isFirstSpeaker (c .role) ≡ false → c .due ≡ false
+  due-at-bidder s = off (c .due) _ (w .due) (rw s)
+
+  -- no mark stands outside Receive
+  pub unmarked-outside-receive : isReceive (c .state) ≡ false → isNothing (c .mark) ≡ true
+  unmarked-outside-receive s = or-left (isNothing (c .mark)) (isReceive (c .state)) (w .mark) s
 
 -- ---- with the bytes held: `some` is whether there is one at least, `none` whether there is none
 

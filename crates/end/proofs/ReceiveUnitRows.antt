@@ -137,7 +137,8 @@ end-not-21 e inbox unit q = never 21 (endQuestions e inbox unit) refl q
 
 -- ---- accepted
 
-pub record Taking (e : End) (taken : List ℕ) (inbox unit : ℕ) : Type 0 where
+-- what an accepted unit was asked
+pub record UnitAsked (e : End) (taken : List ℕ) (inbox unit : ℕ) : Type 0 where
   pub lent : inboxLent e inbox && unitLent e unit ≡ true
   pub good : recordGood e ≡ true
   pub long : leb RU-START (length taken) ≡ true
@@ -153,7 +154,7 @@ unit-yes true true k h = (refl, h)
 unit-yes true false k h = absurd (omega (arith, h))
 unit-yes false b k h = absurd (omega (arith, h))
 
-pub take-accepted : (e : End) (taken : List ℕ) (inbox unit : ℕ) → receiveUnitRefusal e taken inbox unit ≡ 0 → Taking e taken inbox unit
+pub take-accepted : (e : End) (taken : List ℕ) (inbox unit : ℕ) → receiveUnitRefusal e taken inbox unit ≡ 0 → UnitAsked e taken inbox unit
 unfolding kindRefusal
 take-accepted e taken inbox unit h =
     let q = end-yes (eqb (endRefusal e inbox unit) 0) e taken inbox unit refl h in

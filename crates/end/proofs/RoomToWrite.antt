@@ -31,9 +31,9 @@ pub confirmed-room : (e : End) (n : ℕ) → confirmedRefusal e n ≡ 0 → 10 �
 unfolding confirmedRefusal
 confirmed-room e n h = let t = yes (confirmedQuestions e n) tt h in fixed-room e n (t 0) (t 1)
 
-pub pace-room : (e : End) (n : ℕ) → sendPacingResponseRefusal e n ≡ 0 → 10 ≤ n
+pub pacing-response-room : (e : End) (n : ℕ) → sendPacingResponseRefusal e n ≡ 0 → 10 ≤ n
 unfolding sendPacingResponseRefusal
-pace-room e n h = let t = yes (sendPacingResponseQuestions e n) tt h in fixed-room e n (t 0) (t 1)
+pacing-response-room e n h = let t = yes (sendPacingResponseQuestions e n) tt h in fixed-room e n (t 0) (t 1)
 
 -- the bytes held stand in the send buffer, and a unit of them has room
 pub record HeldRoom (e : End) (send unit : ℕ) : Type 0 where

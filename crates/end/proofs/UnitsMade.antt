@@ -26,7 +26,7 @@ use Rattle.end.specs.Allocate.{allocateRefusal, bidMade, allocateDecisio
 use Rattle.end.specs.Close.{nothingGoes, closeRefusal, lastMade, closeDecision}
 use Rattle.end.specs.Confirmed.{confirmedRefusal, confirmedDecision}
 use Rattle.end.specs.SendPacingResponse.{sendPacingResponseRefusal, sendPacingResponseDecision}
-use Rattle.end.proofs.RoomToWrite.{allocate-room, confirmed-room, pace-room, HeldRoom, close-room}
+use Rattle.end.proofs.RoomToWrite.{allocate-room, confirmed-room, pacing-response-room, HeldRoom, close-room}
 use Rattle.end.proofs.DecisionCells.{Makes, none, one}
 use Rattle.end.specs.declared.End.{End}
 
@@ -57,11 +57,11 @@ confirmed-makes e n =
     always (eqb (confirmedRefusal e n) 0) (confirmedRefusal e n) e _ (e .owed) Confirmation [] n refl
     (λ z. omega (arith, confirmed-room e n z))
 
-pub pace-makes : (e : End) (n : ℕ) → Makes (sendPacingResponseDecision e n) 0 PacingResponse [] n
+pub pacing-response-makes : (e : End) (n : ℕ) → Makes (sendPacingResponseDecision e n) 0 PacingResponse [] n
 unfolding sendPacingResponseDecision
-pace-makes e n =
+pacing-response-makes e n =
     always (eqb (sendPacingResponseRefusal e n) 0) (sendPacingResponseRefusal e n) e _ 0 PacingResponse [] n refl
-    (λ z. omega (arith, pace-room e n z))
+    (λ z. omega (arith, pacing-response-room e n z))
 
 held-room : (e : End) (f : Follows) (confirm : Bool) (send : List ℕ) (unit : ℕ) → closeRefusal e f confirm (length send) unit ≡ 0
     → RU-START + length (heldBytes e send) ≤ unit

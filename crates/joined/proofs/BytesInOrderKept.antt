@@ -1,24 +1,21 @@
 -- Every call conserves the bytes in order, as the sending end and as the receiving end.
 -- Assumes nothing.
-use Rattle.bools.proofs.Cases.{split}
-use Rattle.joined.proofs.JoinedWords.{ℕ, _-_, _≤_, eqb, length, take, drop, length-drop, Bool, true, false, cond, List, [], _∷_, _++_, append-nil}
-use Rattle.joined.proofs.JoinedWords.{_≡_, refl, sym, ap, le-trans, arith, front, Continues, Last, DataHeader, Follows, Header, fixedRu}
-use Rattle.joined.proofs.JoinedWords.{bidRu, unitOf, numberIn, paced, bidAnswer, beginOf, readRefused, requestReceived, requestMade, nextNumber}
-use Rattle.joined.proofs.JoinedWords.{bidMade, lastMade, bytesRead, copyCount, headerReceived, ruReceived, dataJoined, bidAnswered}
-use Rattle.joined.proofs.JoinedWords.{creditRaised, recordGood, dataHeader, heldBytes, bytesKept, bytesSpilled, gone, facts, Station, Reply, Verb}
-use Rattle.joined.proofs.JoinedWords.{allocate-cases, bidNumber, close-cases, confirmed-cases, pace-cases, read-cases, send-cases, spilledRu}
-use Rattle.joined.proofs.JoinedWords.{take-cases, ReadAsked, SendAsked, readCount, spilledUnit, Sort, sortOf, answer-sort, dataOf, Lane, normal, acts}
-use Rattle.joined.proofs.JoinedWords.{takes, onNormal, bytesInSendBuffer, Log, bytesAccepted, bytesInInbox, Acted, Took, took, acted}
-use borrow.Author.Tests.{eqb-true}
+use Rattle.joined.proofs.JoinedWords.{ℕ, _-_, eqb, length, take, drop, length-drop, Bool, false, cond, List, [], _∷_, _++_, append-nil, _≡_, refl, sym}
+use Rattle.joined.proofs.JoinedWords.{ap, arith, front, Continues, Last, DataHeader, Follows, Header, fixedRu, bidRu, unitOf, numberIn, paced, bidAnswer}
+use Rattle.joined.proofs.JoinedWords.{beginOf, readRefused, requestReceived, requestMade, nextNumber, bidMade, lastMade, bytesRead, headerReceived}
+use Rattle.joined.proofs.JoinedWords.{ruReceived, dataJoined, bidAnswered, creditRaised, dataHeader, heldBytes, bytesKept, bytesSpilled, gone, facts}
+use Rattle.joined.proofs.JoinedWords.{Station, Reply, Verb, allocate-cases, bidNumber, close-cases, confirmed-cases, pacing-response-cases, read-cases}
+use Rattle.joined.proofs.JoinedWords.{send-cases, spilledRu, take-cases, ReadAsked, SendAsked, readCount, spilledUnit, Sort, sortOf, answer-sort, dataOf}
+use Rattle.joined.proofs.JoinedWords.{Lane, normal, acts, takes, onNormal, bytesInSendBuffer, Log, bytesAccepted, bytesInInbox, Acted, Took, took, acted}
 use Rattle.header.specs.declared.Header.the-variants.{Bid, Confirmation, PacingResponse}
 use Rattle.end.specs.Receive.{inboxMoved}
 use Rattle.end.specs.Receive as R
 use Rattle.joined.specs.Histories as H
-use Rattle.end.proofs.RecordGood.{held-in-inbox}
+use Rattle.cells.proofs.Fronts.{front-of, written-bytes}
+use Rattle.calls.proofs.CallBytes.{spilled-parts, inbox-room, read-parts, read-copied, moved-left}
 use Rattle.joined.proofs.CallsOnLanes.{Laned, LanedTake}
 use Rattle.joined.proofs.OneEnd.{refused-accepts}
-use Rattle.joined.proofs.BytesInOrder.{Carried, carried-kept, carried-sent, carried-other, carried-read, carried-taken, held-more, held-rest}
-use Rattle.joined.proofs.BytesInOrder.{copied-is, inbox-parts, inbox-left, spilled-parts}
+use Rattle.joined.proofs.BytesInOrder.{Carried, carried-kept, carried-sent, carried-other, carried-read, carried-taken}
 
 -- ---- as the sending end
 
@@ -56,7 +53,7 @@ module _ (s : Station) (xs : Log) (line : List (List ℕ)) (read inbox : List �
       let e = s .end in
       let rest = drop (gone e) bytes in
       let d : DataHeader = record { begins = beginOf (e .control); ends = Continues; pacing = paced (e .sending .window) } in
-      rw (held-rest (length bytes - gone e) rest (s .send) (sym (length-drop (gone e) bytes)))
+      rw (front-of (length bytes - gone e) rest (s .send) (sym (length-drop (gone e) bytes)))
       (carried-sent (nextNumber (e .sending .number)) d (spilledRu s bytes) rest (rw (spilled-parts s bytes) at (carried-kept bytes c)))
 
   pub bytes-acts : (v : Verb) → After v (acts s v)
@@ -66,14 +63,15 @@ module _ (s : Station) (xs : Log) (line : List (List ℕ)) (read inbox : List �
       (λ g a w k. other (bidNumber (s .end)) (Bid (paced (s .end .sending .window))) bidRu refl)
   bytes-acts Verb.confirmed =
       confirmed-cases (Laned (After Verb.confirmed)) s (λ q n. refuses Verb.confirmed q [] n) (λ g a. other (s .end .owed) Confirmation [] refl)
-  bytes-acts Verb.sendPacingResponse = pace-cases (Laned (After Verb.sendPacingResponse)) s (λ q n. refuses Verb.sendPacingResponse q [] n) (λ g a. other 0 PacingResponse [] refl)
+  bytes-acts Verb.sendPacingResponse =
+      pacing-response-cases (Laned (After Verb.sendPacingResponse)) s (λ q n. refuses Verb.sendPacingResponse q [] n) (λ g a. other 0 PacingResponse [] refl)
   bytes-acts (Verb.sendData bytes) =
       let o = s .end .sending in
       send-cases (Laned (After (Verb.sendData bytes))) s bytes (λ q n. refuses (Verb.sendData bytes) q [] n)
       (λ a k.
       let h = facts (s .end) (a .good) .sending .held in
       let b = a .buffer in
-      rw (append-nil line, held-more (o .held) bytes (s .send) (omega arith)) (carried-kept bytes c))
+      rw (append-nil line, written-bytes (o .held) bytes (s .send) (omega arith)) (carried-kept bytes c))
       (λ a k h. spill bytes a)
   bytes-acts (Verb.close f b) =
       close-cases (Laned (After (Verb.close f b))) s f b (λ q n. refuses (Verb.close f b) q [] n) (λ a n. quiet c)
@@ -93,35 +91,6 @@ module _ (s : Station) (xs : Log) (line : List (List ℕ)) (read inbox : List �
       (λ x a e m. rw (append-nil line) c) (λ a e k. rw (append-nil line) c)
 
 -- ---- as the receiving end
-
--- how much a read copies: no more than is held
-pub count-held : (s : Station) (buffer : List ℕ) → readCount s buffer ≤ s .end .receiving .held
-unfolding copyCount
-count-held s buffer = omega arith
-
--- the inbox after a read of k bytes, of which there is at least one
-pub moved-left : (s : Station) (k : ℕ) → s .end .receiving .held ≤ length (s .inbox)
-    → take (s .end .receiving .held - k) (inboxMoved (s .end) k (s .inbox)) ≡ drop k (bytesInInbox s)
-unfolding inboxMoved
-moved-left s k h =
-    split (eqb k 0)
-    (λ e.
-    let z : k ≡ 0 = eqb-true k 0 e in
-    let y : s .end .receiving .held - k ≡ s .end .receiving .held = omega arith in
-    rw (e, y, z))
-    (λ e. rw e (inbox-left k (s .end .receiving .held) (s .inbox) h))
-
--- what a read copies and what it leaves are what was held
-pub read-parts : (s : Station) (buffer : List ℕ) → bytesInInbox s ≡ take (readCount s buffer) (s .inbox) ++ drop (readCount s buffer) (bytesInInbox s)
-read-parts s buffer = inbox-parts (readCount s buffer) (s .end .receiving .held) (s .inbox) (count-held s buffer)
-
--- the bytes held stand in the inbox that is lent
-pub inbox-room : (s : Station) → length (s .inbox) ≡ s .end .receiving .inbox → recordGood (s .end) ≡ true → s .end .receiving .held ≤ length (s .inbox)
-inbox-room s e g = rw e (held-in-inbox (s .end) g)
-
-pub read-copied : (s : Station) (buffer : List ℕ) → ReadAsked s buffer
-    → take (readCount s buffer) (front (take (readCount s buffer) (s .inbox)) buffer) ≡ take (readCount s buffer) (s .inbox)
-read-copied s buffer a = copied-is (readCount s buffer) (s .inbox) buffer (le-trans (count-held s buffer) (inbox-room s (a .inbox) (a .good)))
 
 module _ (s : Station) (xs : Log) (acc held : List ℕ) (back : List (List ℕ)) where
   module _ (c : Carried acc held back (H.bytesRead xs) (bytesInInbox s)) where
@@ -144,7 +113,7 @@ module _ (s : Station) (xs : Log) (acc held : List ℕ) (back : List (List ℕ))
     unfolding acts H.bytesRead bytesKept bytesSpilled bytesRead bidMade lastMade R.markRead
     bytes-in-acts Verb.allocate = allocate-cases (Laned (AfterIn Verb.allocate)) s (λ q n. quiet-in) (λ g a w. quiet-in) (λ g a w k. quiet-in)
     bytes-in-acts Verb.confirmed = confirmed-cases (Laned (AfterIn Verb.confirmed)) s (λ q n. quiet-in) (λ g a. quiet-in)
-    bytes-in-acts Verb.sendPacingResponse = pace-cases (Laned (AfterIn Verb.sendPacingResponse)) s (λ q n. quiet-in) (λ g a. quiet-in)
+    bytes-in-acts Verb.sendPacingResponse = pacing-response-cases (Laned (AfterIn Verb.sendPacingResponse)) s (λ q n. quiet-in) (λ g a. quiet-in)
     bytes-in-acts (Verb.sendData bytes) = send-cases (Laned (AfterIn (Verb.sendData bytes))) s bytes (λ q n. quiet-in) (λ a k. quiet-in) (λ a k h. quiet-in)
     bytes-in-acts (Verb.close f b) = close-cases (Laned (AfterIn (Verb.close f b))) s f b (λ q n. quiet-in) (λ a n. quiet-in) (λ a n k. quiet-in)
     bytes-in-acts (Verb.receive buffer) =
@@ -165,5 +134,5 @@ module _ (s : Station) (xs : Log) (acc held : List ℕ) (back : List (List ℕ))
     unfolding takes H.bytesRead dataJoined bidAnswered creditRaised requestReceived
     bytes-in-takes naming =
         take-cases (LanedTake LeftIn) naming s u (λ q w n. rw n c)
-        (λ d a e k. rw (held-more (s .end .receiving .held) (ruReceived u) (s .inbox) (inbox-room s (a .inbox) (a .good))) (joined-in _ e))
+        (λ d a e k. rw (written-bytes (s .end .receiving .held) (ruReceived u) (s .inbox) (inbox-room s (a .inbox) (a .good))) (joined-in _ e))
         (λ p a e k m. no-data _ e refl) (λ x a e m. no-data _ e refl) (λ a e k. no-data _ e refl)

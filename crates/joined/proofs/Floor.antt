@@ -1,17 +1,15 @@
 -- The floor: whose turn it is, what is owed and what is waited for, as an automaton over the units that wait for an end.
 -- Assumes nothing.
-use Rattle.joined.proofs.JoinedWords.{ℕ, eq-eqb, eqb, Bool, true, false, not, cond, _&&_, _||_, List, _≡_, refl, sym, ap, arith, never, both, or-right}
-use Rattle.joined.proofs.JoinedWords.{beginsBracket, Continued, First, FirstWithBracket, ChainEnd, Continues, Last, Follows, Stay, ChangeDirection}
-use Rattle.joined.proofs.JoinedWords.{EndBracket, Header, agree, isFirstSpeaker, isBidder, isReset, isReceive, isConfirmAwaited, isNothing, Role}
-use Rattle.joined.proofs.JoinedWords.{FirstSpeaker, Bidder, State, WhatReceived, afterLast, afterOwed, markOf, End}
+use Rattle.joined.proofs.JoinedWords.{ℕ, eq-eqb, eqb, Bool, true, false, not, cond, _&&_, _||_, List, _≡_, refl, sym, arith, never, beginsBracket}
+use Rattle.joined.proofs.JoinedWords.{Continued, First, FirstWithBracket, ChainEnd, Continues, Last, Follows, Stay, ChangeDirection, EndBracket, Header}
+use Rattle.joined.proofs.JoinedWords.{isFirstSpeaker, isBidder, isReset, isReceive, isConfirmAwaited, isNothing, Role, FirstSpeaker, Bidder, State}
+use Rattle.joined.proofs.JoinedWords.{WhatReceived, afterLast, afterOwed, markOf, End}
 use Rattle.header.specs.Header.{confirms}
 use Rattle.header.specs.declared.Header.the-variants.{Data, Bid, PositiveBidResponse, NegativeBidResponse, Confirmation, PacingResponse}
-use Rattle.control.specs.StateTests.{isConfirmOwed}
 use Rattle.control.specs.declared.State.the-variants.{Reset, Send, Receive, ConfirmOwed, ConfirmAwaited}
 use Rattle.control.specs.declared.WhatReceived.the-variants as mark
 use Rattle.joined.proofs.LineAutomaton.{Ran, ok, stuck, ok-is, went}
-use Rattle.bools.proofs.Finite.{pairs, bools}
-use Rattle.control.proofs.FiniteControl.{roles, states}
+use Rattle.control.proofs.States.{nothing-is}
 use Rattle.joined.proofs.TwoLines.{other, other-other, Automaton, Led}
 
 -- ---- floors
@@ -20,24 +18,24 @@ use Rattle.joined.proofs.TwoLines.{other, other-other, Automaton, Led}
 -- confirmation of a number, with what follows it
 pub data Floor : Type 0 where
   reset sendBB send receive : Floor
-  owes waits : Follows → ℕ → Floor
+  confirmOwed confirmAwaited : Follows → ℕ → Floor
 
 -- where an end in Receive stands once it has read the mark
 abbrev pub afterMarkFloor : WhatReceived → ℕ → Floor
 afterMarkFloor mark.Nothing n = receive
 afterMarkFloor mark.Turn n = send
 afterMarkFloor mark.End n = reset
-afterMarkFloor mark.Confirm n = owes Stay n
-afterMarkFloor mark.ConfirmTurn n = owes ChangeDirection n
-afterMarkFloor mark.ConfirmEnd n = owes EndBracket n
+afterMarkFloor mark.Confirm n = confirmOwed Stay n
+afterMarkFloor mark.ConfirmTurn n = confirmOwed ChangeDirection n
+afterMarkFloor mark.ConfirmEnd n = confirmOwed EndBracket n
 
 -- by state, BB-due, what follows, mark, number owed and last number sent
 abbrev pub floorAt : State → Bool → Follows → WhatReceived → ℕ → ℕ → Floor
 floorAt Reset due f m owed sent = reset
 floorAt Send due f m owed sent = cond due sendBB send
 floorAt Receive due f m owed sent = afterMarkFloor m owed
-floorAt ConfirmOwed due f m owed sent = owes f owed
-floorAt ConfirmAwaited due f m owed sent = waits f sent
+floorAt ConfirmOwed due f m owed sent = confirmOwed f owed
+floorAt ConfirmAwaited due f m owed sent = confirmAwaited f sent
 
 abbrev pub floorOf : End → Floor
 floorOf e = floorAt (e .control .state) (e .control .due) (e .control .follows) (e .control .mark) (e .owed) (e .sending .number)
@@ -49,65 +47,65 @@ isResetFloor reset = true
 isResetFloor sendBB = false
 isResetFloor send = false
 isResetFloor receive = false
-isResetFloor (owes f n) = false
-isResetFloor (waits f n) = false
+isResetFloor (confirmOwed f n) = false
+isResetFloor (confirmAwaited f n) = false
 
 abbrev pub isReceiveFloor : Floor → Bool
 isReceiveFloor reset = false
 isReceiveFloor sendBB = false
 isReceiveFloor send = false
 isReceiveFloor receive = true
-isReceiveFloor (owes f n) = false
-isReceiveFloor (waits f n) = false
+isReceiveFloor (confirmOwed f n) = false
+isReceiveFloor (confirmAwaited f n) = false
 
-abbrev pub isWaiting : Floor → Bool
-isWaiting reset = false
-isWaiting sendBB = false
-isWaiting send = false
-isWaiting receive = false
-isWaiting (owes f n) = false
-isWaiting (waits f n) = true
+abbrev pub isAwaitedFloor : Floor → Bool
+isAwaitedFloor reset = false
+isAwaitedFloor sendBB = false
+isAwaitedFloor send = false
+isAwaitedFloor receive = false
+isAwaitedFloor (confirmOwed f n) = false
+isAwaitedFloor (confirmAwaited f n) = true
 
-abbrev pub waitNumber : Floor → ℕ
-waitNumber reset = 0
-waitNumber sendBB = 0
-waitNumber send = 0
-waitNumber receive = 0
-waitNumber (owes f n) = n
-waitNumber (waits f n) = n
+abbrev pub confirmNumber : Floor → ℕ
+confirmNumber reset = 0
+confirmNumber sendBB = 0
+confirmNumber send = 0
+confirmNumber receive = 0
+confirmNumber (confirmOwed f n) = n
+confirmNumber (confirmAwaited f n) = n
 
 -- it waits for a confirmation of n
-abbrev pub waitsFor : Floor → ℕ → Bool
-waitsFor x n = isWaiting x && eqb n (waitNumber x)
+abbrev pub awaitsConfirmation : Floor → ℕ → Bool
+awaitsConfirmation x n = isAwaitedFloor x && eqb n (confirmNumber x)
 
 -- data with BB comes to a bidder with no conversation, all other data to an end that receives
 abbrev pub dataMoves : Role → Floor → Bool → Bool
 dataMoves r x bb = cond bb (isResetFloor x && isBidder r) (isReceiveFloor x)
 
-abbrev pub grantMoves : Role → Floor → Bool
-grantMoves r x = isResetFloor x && isBidder r
+abbrev pub positiveResponseMoves : Role → Floor → Bool
+positiveResponseMoves r x = isResetFloor x && isBidder r
 
 -- the floor after a confirmation that was waited for
-abbrev pub afterWait : Follows → Floor
-afterWait Stay = send
-afterWait ChangeDirection = receive
-afterWait EndBracket = reset
+abbrev pub afterAwaitedFloor : Follows → Floor
+afterAwaitedFloor Stay = send
+afterAwaitedFloor ChangeDirection = receive
+afterAwaitedFloor EndBracket = reset
 
 abbrev pub confirmedFloor : Floor → Floor
 confirmedFloor reset = reset
 confirmedFloor sendBB = sendBB
 confirmedFloor send = send
 confirmedFloor receive = receive
-confirmedFloor (owes f m) = owes f m
-confirmedFloor (waits f m) = afterWait f
+confirmedFloor (confirmOwed f m) = confirmOwed f m
+confirmedFloor (confirmAwaited f m) = afterAwaitedFloor f
 
 -- by the header and the number of a unit
 abbrev pub floorOn : Role → Floor → Header → ℕ → Ran Floor
 floorOn r x (Data d) n = cond (dataMoves r x (beginsBracket (d .begins))) (ok (afterMarkFloor (markOf (d .ends)) n)) stuck
 floorOn r x (Bid p) n = ok x
-floorOn r x PositiveBidResponse n = cond (grantMoves r x) (ok send) stuck
+floorOn r x PositiveBidResponse n = cond (positiveResponseMoves r x) (ok send) stuck
 floorOn r x NegativeBidResponse n = ok x
-floorOn r x Confirmation n = cond (waitsFor x n) (ok (confirmedFloor x)) stuck
+floorOn r x Confirmation n = cond (awaitsConfirmation x n) (ok (confirmedFloor x)) stuck
 floorOn r x PacingResponse n = ok x
 
 -- ---- partners
@@ -118,8 +116,8 @@ mirror reset = reset
 mirror sendBB = reset
 mirror send = receive
 mirror receive = send
-mirror (owes f n) = waits f n
-mirror (waits f n) = owes f n
+mirror (confirmOwed f n) = confirmAwaited f n
+mirror (confirmAwaited f n) = confirmOwed f n
 
 -- x is the floor of the end with the role, y its partner's
 abbrev pub Partners : Role → Floor → Floor → Type 0
@@ -134,15 +132,15 @@ partners-turned Bidder x y p = p
 -- ---- floors that no unit leaves
 
 abbrev pub quiet : Role → Floor → Bool
-quiet r x = not (isReceiveFloor x || ((isResetFloor x && isBidder r) || isWaiting x))
+quiet r x = not (isReceiveFloor x || ((isResetFloor x && isBidder r) || isAwaitedFloor x))
 
-quiet-data : {X : Type 0} (receives resets waits bb : Bool) → not (receives || (resets || waits)) ≡ true → cond bb resets receives ≡ true → X
+quiet-data : {X : Type 0} (receives resets awaits bb : Bool) → not (receives || (resets || awaits)) ≡ true → cond bb resets receives ≡ true → X
 quiet-data true b c bb q e = never q
 quiet-data false true c bb q e = never q
 quiet-data false false c true q e = never e
 quiet-data false false c false q e = never e
 
-quiet-confirmation : {X : Type 0} (receives resets waits asked : Bool) → not (receives || (resets || waits)) ≡ true → waits && asked ≡ true → X
+quiet-confirmation : {X : Type 0} (receives resets awaits asked : Bool) → not (receives || (resets || awaits)) ≡ true → awaits && asked ≡ true → X
 quiet-confirmation true b c n q e = never q
 quiet-confirmation false true c n q e = never q
 quiet-confirmation false false true n q e = never q
@@ -152,14 +150,15 @@ pub quiet-on :
     (r : Role) (x x′ : Floor) → quiet r x ≡ true → (h : Header) (n : ℕ) (t : Floor)
     → floorOn r x h n ≡ ok t → (t ≡ x) × (floorOn r x′ h n ≡ ok x′)
 quiet-on r x x′ q (Data d) n t e =
-    quiet-data (isReceiveFloor x) (isResetFloor x && isBidder r) (isWaiting x) (beginsBracket (d .begins)) q
+    quiet-data (isReceiveFloor x) (isResetFloor x && isBidder r) (isAwaitedFloor x) (beginsBracket (d .begins)) q
     (went _ (afterMarkFloor (markOf (d .ends)) n) t e .0)
 quiet-on r x x′ q (Bid p) n t e = (sym (ok-is e), refl)
 quiet-on r x x′ q PositiveBidResponse n t e =
-    quiet-data (isReceiveFloor x) (isResetFloor x && isBidder r) (isWaiting x) true q (went (grantMoves r x) send t e .0)
+    quiet-data (isReceiveFloor x) (isResetFloor x && isBidder r) (isAwaitedFloor x) true q (went (positiveResponseMoves r x) send t e .0)
 quiet-on r x x′ q NegativeBidResponse n t e = (sym (ok-is e), refl)
 quiet-on r x x′ q Confirmation n t e =
-    quiet-confirmation (isReceiveFloor x) (isResetFloor x && isBidder r) (isWaiting x) (eqb n (waitNumber x)) q (went (waitsFor x n) (confirmedFloor x) t e .0)
+    quiet-confirmation (isReceiveFloor x) (isResetFloor x && isBidder r) (isAwaitedFloor x) (eqb n (confirmNumber x)) q
+    (went (awaitsConfirmation x n) (confirmedFloor x) t e .0)
 quiet-on r x x′ q PacingResponse n t e = (sym (ok-is e), refl)
 
 -- ---- the floors of two joined ends
@@ -180,36 +179,12 @@ floors =
 abbrev pub Floors : Role → Floor → Floor → List (List ℕ) → List (List ℕ) → Type 0
 Floors = Led floors
 
--- ---- the floor of a state
-
--- the state that a test tells
-pub state-is : (s : State)
-    → (isReset s ≡ true → s ≡ Reset) × (isReceive s ≡ true → s ≡ Receive) × (isConfirmOwed s ≡ true → s ≡ ConfirmOwed)
-    × (isConfirmAwaited s ≡ true → s ≡ ConfirmAwaited)
-state-is Reset = (λ e. refl, λ e. cc, λ e. cc, λ e. cc)
-state-is Send = (λ e. cc, λ e. cc, λ e. cc, λ e. cc)
-state-is Receive = (λ e. cc, λ e. refl, λ e. cc, λ e. cc)
-state-is ConfirmOwed = (λ e. cc, λ e. cc, λ e. refl, λ e. cc)
-state-is ConfirmAwaited = (λ e. cc, λ e. cc, λ e. cc, λ e. refl)
-
-pub bidder-speaks : (r : Role) → isBidder r ≡ true → isFirstSpeaker r ≡ false
-bidder-speaks FirstSpeaker e = sym e
-bidder-speaks Bidder e = refl
-
-pub nothing-mark : (m : WhatReceived) → isNothing m ≡ true → m ≡ mark.Nothing
-nothing-mark mark.Nothing e = refl
-nothing-mark mark.Turn e = never e
-nothing-mark mark.End e = never e
-nothing-mark mark.Confirm e = never e
-nothing-mark mark.ConfirmTurn e = never e
-nothing-mark mark.ConfirmEnd e = never e
-
 -- ---- a data unit is made, in Send
 
 -- the floor of an end that has made the last unit, or one that is not last
 abbrev pub sentFloor : ChainEnd → ℕ → Floor
 sentFloor Continues n = send
-sentFloor (Last f confirm) n = cond confirm (waits f n) (afterWait f)
+sentFloor (Last f confirm) n = cond confirm (confirmAwaited f n) (afterAwaitedFloor f)
 
 pub quiet-sending : (r : Role) (due : Bool) → quiet r (cond due sendBB send) ≡ true
 quiet-sending r true = refl
@@ -220,8 +195,8 @@ sends-to reset e = cc
 sends-to sendBB e = cc
 sends-to send e = cc
 sends-to receive e = refl
-sends-to (owes f n) e = cc
-sends-to (waits f n) e = cc
+sends-to (confirmOwed f n) e = cc
+sends-to (confirmAwaited f n) e = cc
 
 -- it moves the partner on: with BB from Reset, without from Receive
 pub sent-moves :
@@ -261,49 +236,49 @@ sent-partners r ends n = partners r (sent-mirrored ends n)
 -- ---- a confirmation is made, or taken
 
 -- the floor of an end that has confirmed
-abbrev pub afterOwe : Follows → Floor
-afterOwe Stay = receive
-afterOwe ChangeDirection = send
-afterOwe EndBracket = reset
+abbrev pub afterOwedFloor : Follows → Floor
+afterOwedFloor Stay = receive
+afterOwedFloor ChangeDirection = send
+afterOwedFloor EndBracket = reset
 
-owes-to : (v : Floor) (f : Follows) (n : ℕ) → owes f n ≡ mirror v → v ≡ waits f n
-owes-to reset f n e = cc
-owes-to sendBB f n e = cc
-owes-to send f n e = cc
-owes-to receive f n e = cc
-owes-to (owes g m) f n e = cc
-owes-to (waits g m) f n e = cc
+owed-to : (v : Floor) (f : Follows) (n : ℕ) → confirmOwed f n ≡ mirror v → v ≡ confirmAwaited f n
+owed-to reset f n e = cc
+owed-to sendBB f n e = cc
+owed-to send f n e = cc
+owed-to receive f n e = cc
+owed-to (confirmOwed g m) f n e = cc
+owed-to (confirmAwaited g m) f n e = cc
 
-owed-partner : (r : Role) (v : Floor) (f : Follows) (n : ℕ) → Partners r (owes f n) v → v ≡ waits f n
+owed-partner : (r : Role) (v : Floor) (f : Follows) (n : ℕ) → Partners r (confirmOwed f n) v → v ≡ confirmAwaited f n
 owed-partner FirstSpeaker v f n p = p
-owed-partner Bidder v f n p = owes-to v f n p
+owed-partner Bidder v f n p = owed-to v f n p
 
-confirmed-mirrored : (f : Follows) → Mirrored (afterOwe f) (afterWait f)
+confirmed-mirrored : (f : Follows) → Mirrored (afterOwedFloor f) (afterAwaitedFloor f)
 confirmed-mirrored Stay = (refl, refl)
 confirmed-mirrored ChangeDirection = (refl, refl)
 confirmed-mirrored EndBracket = (refl, refl)
 
 -- it moves the partner, who waits for it, on
 pub confirmed-moves :
-    (r : Role) (f : Follows) (n : ℕ) (v : Floor) → Partners r (owes f n) v
-    → (w : Floor) × ((floorOn (other r) v Confirmation n ≡ ok w) × Partners r (afterOwe f) w)
-confirmed-moves r f n v p = (afterWait f, (rw (owed-partner r v f n p, eq-eqb n n refl), partners r (confirmed-mirrored f)))
+    (r : Role) (f : Follows) (n : ℕ) (v : Floor) → Partners r (confirmOwed f n) v
+    → (w : Floor) × ((floorOn (other r) v Confirmation n ≡ ok w) × Partners r (afterOwedFloor f) w)
+confirmed-moves r f n v p = (afterAwaitedFloor f, (rw (owed-partner r v f n p, eq-eqb n n refl), partners r (confirmed-mirrored f)))
 
 -- the floor after `confirmed`, by its state
 pub confirmed-floor :
-    (f : Follows) (m : WhatReceived) (owed sent : ℕ) → isNothing m ≡ true → floorAt (afterOwed f) false f m owed sent ≡ afterOwe f
-confirmed-floor Stay m owed sent e = rw (nothing-mark m e)
+    (f : Follows) (m : WhatReceived) (owed sent : ℕ) → isNothing m ≡ true → floorAt (afterOwed f) false f m owed sent ≡ afterOwedFloor f
+confirmed-floor Stay m owed sent e = rw (nothing-is m e)
 confirmed-floor ChangeDirection m owed sent e = refl
 confirmed-floor EndBracket m owed sent e = refl
 
 -- the floor in the state after a last unit, or after the confirmation of one
 pub last-floor :
-    (f g : Follows) (m : WhatReceived) (owed sent : ℕ) → isNothing m ≡ true → floorAt (afterLast f) false g m owed sent ≡ afterWait f
+    (f g : Follows) (m : WhatReceived) (owed sent : ℕ) → isNothing m ≡ true → floorAt (afterLast f) false g m owed sent ≡ afterAwaitedFloor f
 last-floor Stay g m owed sent e = refl
-last-floor ChangeDirection g m owed sent e = rw (nothing-mark m e)
+last-floor ChangeDirection g m owed sent e = rw (nothing-is m e)
 last-floor EndBracket g m owed sent e = refl
 
--- ---- data or a grant is taken, no mark standing
+-- ---- data or a positive bid response is taken, no mark standing
 
 -- the number owed matters only where a confirmation is requested
 pub mark-floor :
@@ -320,28 +295,13 @@ mark-floor (Last EndBracket false) n owed = refl
 pub unmarked-floor :
     (s : State) (due : Bool) (f : Follows) (m : WhatReceived) (owed sent n : ℕ) → isNothing m ≡ true
     → let x = floorAt s due f m owed sent in
-    (isResetFloor x ≡ isReset s) × (isReceiveFloor x ≡ isReceive s) × (waitsFor x n ≡ isConfirmAwaited s && eqb n sent)
+    (isResetFloor x ≡ isReset s) × (isReceiveFloor x ≡ isReceive s) × (awaitsConfirmation x n ≡ isConfirmAwaited s && eqb n sent)
 unmarked-floor Reset due f m owed sent n u = (refl, refl, refl)
 unmarked-floor Send true f m owed sent n u = (refl, refl, refl)
 unmarked-floor Send false f m owed sent n u = (refl, refl, refl)
-unmarked-floor Receive due f m owed sent n u = rw (nothing-mark m u) (refl, refl, refl)
+unmarked-floor Receive due f m owed sent n u = rw (nothing-is m u) (refl, refl, refl)
 unmarked-floor ConfirmOwed due f m owed sent n u = (refl, refl, refl)
 unmarked-floor ConfirmAwaited due f m owed sent n u = (refl, refl, refl)
-
--- data that moves the floor fits role and state, checked by computation
-abbrev dataFits : Role × (State × Bool) → Bool
-dataFits v =
-    let r = v .0 in
-    let s = v .1 .0 in
-    let bb = v .1 .1 in
-    not (cond bb (isReset s && isBidder r) (isReceive s)) || (agree bb (isBidder r && isReset s) && (isReceive s || (isReset s && bb)))
-
-pub data-fits :
-    (r : Role) (s : State) (bb : Bool) → cond bb (isReset s && isBidder r) (isReceive s) ≡ true
-    → (agree bb (isBidder r && isReset s) ≡ true) × (isReceive s || (isReset s && bb) ≡ true)
-data-fits r s bb e =
-    both (agree bb (isBidder r && isReset s)) (isReceive s || (isReset s && bb))
-    (or-right _ _ (pairs roles (pairs states bools) .at dataFits refl (r, (s, bb))) (ap not e))
 
 -- ---- never both in Send
 

@@ -1,17 +1,16 @@
 -- The order of a conversation at two joined ends: floors and bids fit, whatever is still under way.
 -- Assumes nothing.
-use Rattle.joined.proofs.JoinedWords.{ℕ, eqb, Bool, true, false, not, cond, _&&_, _||_, List, [], _∷_, _≡_, refl, sym, ap, _∙_, subst, never, on, left}
-use Rattle.joined.proofs.JoinedWords.{beginsBracket, DataHeader, Header, numberIn, confirmationFits, isFirstSpeaker, isBidder, isReset, isReceive}
-use Rattle.joined.proofs.JoinedWords.{isConfirmAwaited, isNothing, isSend, Role, FirstSpeaker, Bidder, State, markOf, headerReceived, recordGood, End}
-use Rattle.joined.proofs.JoinedWords.{facts, freshEnd}
+use Rattle.joined.proofs.JoinedWords.{ℕ, eqb, Bool, true, cond, _&&_, List, [], _∷_, _≡_, refl, sym, ap, _∙_, subst, on, left, beginsBracket, DataHeader}
+use Rattle.joined.proofs.JoinedWords.{Header, numberIn, confirmationFits, isBidder, isReset, isReceive, isConfirmAwaited, isNothing, Role, FirstSpeaker}
+use Rattle.joined.proofs.JoinedWords.{Bidder, State, markOf, headerReceived, End, freshEnd}
 use Rattle.header.specs.declared.Header.the-variants.{Data, Bid, PositiveBidResponse, NegativeBidResponse, Confirmation}
 use Rattle.control.specs.Questions.{bracketFits, bidFits, stateFits, positiveResponseFits, negativeResponseFits}
 use Rattle.control.specs.declared.State.the-variants.{Send}
 use Rattle.joined.proofs.LineAutomaton.{ok, stuck}
-use Rattle.bools.proofs.Tests.{or-left}
+use Rattle.control.proofs.DataFits.{data-fits}
 use Rattle.joined.proofs.TwoLines.{other, other-other, led-nowhere, led-flip, led-as, led-goes, led-settled}
-use Rattle.joined.proofs.Floor.{Floor, sendBB, send, afterMarkFloor, floorAt, floorOf, isResetFloor, waitsFor, dataMoves, grantMoves, confirmedFloor}
-use Rattle.joined.proofs.Floor.{Floors, quiet-sending, data-fits, not-both-send, isReceiveFloor, unmarked-floor}
+use Rattle.joined.proofs.Floor.{Floor, sendBB, send, afterMarkFloor, floorAt, floorOf, isResetFloor, awaitsConfirmation, dataMoves}
+use Rattle.joined.proofs.Floor.{positiveResponseMoves, confirmedFloor, Floors, quiet-sending, not-both-send, isReceiveFloor, unmarked-floor}
 use Rattle.joined.proofs.Bids.{Pending, none, some, bidOf, bidMoves, answerMoves, bidOn, Bids, bid-speaker, answer-flag}
 
 -- Two joined ends: e has the role r and f the other one, `line` waits for f and `back` for e.
@@ -33,33 +32,6 @@ pub order-fresh :
 order-fresh w m w′ m′ inbox v k v′ k′ inbox′ =
     record { role = refl; partner = refl; floors = led-nowhere refl; bids = led-nowhere refl }
 
--- ---- what a good record says of the finite part
-
--- BB-due is off outside Send, and at a bidder
-due-off : (due speaks sends unchained : Bool) → not due || (speaks && (sends && unchained)) ≡ true → speaks && sends ≡ false → due ≡ false
-due-off false a b c e n = refl
-due-off true true true c e n = never (sym n)
-due-off true true false c e n = never e
-due-off true false b c e n = never e
-
-module _ (e : End) (g : recordGood e ≡ true) where
-  no-due : isFirstSpeaker (e .control .role) && isSend (e .control .state) ≡ false → e .control .due ≡ false
-  no-due n = due-off (e .control .due) (isFirstSpeaker (e .control .role)) (isSend (e .control .state)) _ (facts e g .control .due) n
-
-  pub due-outside : isSend (e .control .state) ≡ false → e .control .due ≡ false
-  due-outside n = no-due (rw n (and-false (isFirstSpeaker (e .control .role))))
-    where
-      and-false : (a : Bool) → a && false ≡ false
-      and-false true = refl
-      and-false false = refl
-
-  pub due-speaks : isFirstSpeaker (e .control .role) ≡ false → e .control .due ≡ false
-  due-speaks n = no-due (ap (λ (a : Bool). a && isSend (e .control .state)) n)
-
-  -- no mark stands outside Receive
-  pub no-mark : isReceive (e .control .state) ≡ false → isNothing (e .control .mark) ≡ true
-  no-mark n = or-left (isNothing (e .control .mark)) (isReceive (e .control .state)) (facts e g .control .mark) n
-
 -- the floor of an end whose state is known
 pub floor-in : (e : End) (s : State) → e .control .state ≡ s
     → floorOf e ≡ floorAt s (e .control .due) (e .control .follows) (e .control .mark) (e .owed) (e .sending .number)
@@ -77,23 +49,23 @@ module _ {r : Role} {e f : End} {u : List ℕ} {line back : List (List ℕ)} (i 
   pub bid-moves : (b : Bool) → headerReceived u ≡ Bid b → (bidMoves r (bidOf e) ≡ true) × Bids r (some (numberIn u)) (bidOf f) line back
   bid-moves b h = led-goes (bidMoves r (bidOf e)) (some (numberIn u)) h refl (i .bids)
 
-  pub grant-moves : headerReceived u ≡ PositiveBidResponse → (grantMoves r (floorOf e) ≡ true) × Floors r send (floorOf f) line back
-  grant-moves h = led-goes (grantMoves r (floorOf e)) send h refl (i .floors)
+  pub positive-response-moves : headerReceived u ≡ PositiveBidResponse → (positiveResponseMoves r (floorOf e) ≡ true) × Floors r send (floorOf f) line back
+  positive-response-moves h = led-goes (positiveResponseMoves r (floorOf e)) send h refl (i .floors)
 
-  -- a grant and a bid refusal answer the bid alike
+  -- a positive and a negative bid response answer the bid alike
   pub bid-answered : (h : Header) → ((p : Pending) (n : ℕ) → bidOn r p h n ≡ cond (answerMoves r p n) (ok none) stuck) → headerReceived u ≡ h
       → (answerMoves r (bidOf e) (numberIn u) ≡ true) × Bids r none (bidOf f) line back
   bid-answered h on e′ = led-goes (answerMoves r (bidOf e) (numberIn u)) none e′ (on (bidOf e) (numberIn u)) (i .bids)
 
   pub confirmation-moves :
       headerReceived u ≡ Confirmation
-      → (waitsFor (floorOf e) (numberIn u) ≡ true) × Floors r (confirmedFloor (floorOf e)) (floorOf f) line back
-  confirmation-moves h = led-goes (waitsFor (floorOf e) (numberIn u)) (confirmedFloor (floorOf e)) h refl (i .floors)
+      → (awaitsConfirmation (floorOf e) (numberIn u) ≡ true) × Floors r (confirmedFloor (floorOf e)) (floorOf f) line back
+  confirmation-moves h = led-goes (awaitsConfirmation (floorOf e) (numberIn u)) (confirmedFloor (floorOf e)) h refl (i .floors)
 
   -- what the floor tells of the state, no mark standing
   unmarked : isNothing (e .control .mark) ≡ true
       → (isResetFloor (floorOf e) ≡ isReset (e .control .state)) × (isReceiveFloor (floorOf e) ≡ isReceive (e .control .state))
-      × (waitsFor (floorOf e) (numberIn u) ≡ isConfirmAwaited (e .control .state) && eqb (numberIn u) (e .sending .number))
+      × (awaitsConfirmation (floorOf e) (numberIn u) ≡ isConfirmAwaited (e .control .state) && eqb (numberIn u) (e .sending .number))
   unmarked m =
       let c = e .control in
       unmarked-floor (c .state) (c .due) (c .follows) (c .mark) (e .owed) (e .sending .number) (numberIn u) m
@@ -120,13 +92,14 @@ module _ {r : Role} {e f : End} {u : List ℕ} {line back : List (List ℕ)} (i 
   order-fits-bid b h = rw (i .role) (bid-speaker r (bidOf e) (bid-moves b h .0))
 
   -- 28
-  pub order-fits-grant :
+  pub order-fits-positive-response :
       isNothing (e .control .mark) ≡ true → headerReceived u ≡ PositiveBidResponse → positiveResponseFits (e .control) && eqb (numberIn u) (e .bidding) ≡ true
-  order-fits-grant m h =
-      rw (← unmarked m .0, left (isResetFloor (floorOf e)) (isBidder r) (grant-moves h .0)) (flagged (bid-answered PositiveBidResponse (λ p n. refl) h .0))
+  order-fits-positive-response m h =
+      rw (← unmarked m .0, left (isResetFloor (floorOf e)) (isBidder r) (positive-response-moves h .0))
+      (flagged (bid-answered PositiveBidResponse (λ p n. refl) h .0))
 
-  pub order-fits-refusal : headerReceived u ≡ NegativeBidResponse → negativeResponseFits (e .control) && eqb (numberIn u) (e .bidding) ≡ true
-  order-fits-refusal h = flagged (bid-answered NegativeBidResponse (λ p n. refl) h .0)
+  pub order-fits-negative-response : headerReceived u ≡ NegativeBidResponse → negativeResponseFits (e .control) && eqb (numberIn u) (e .bidding) ≡ true
+  order-fits-negative-response h = flagged (bid-answered NegativeBidResponse (λ p n. refl) h .0)
 
   pub order-fits-confirmation :
       isNothing (e .control .mark) ≡ true → headerReceived u ≡ Confirmation → confirmationFits (e .control) && eqb (numberIn u) (e .sending .number) ≡ true

@@ -1,33 +1,36 @@
 -- Every call at an end keeps the order of a conversation: floors and bids still fit.
 -- Assumes nothing.
-use Rattle.joined.proofs.JoinedWords.{ℕ, eq-eqb, eqb, Bool, true, false, not, cond, List, [], _∷_, _++_, append-nil, _≡_, refl, sym, ap, _∙_, never}
-use Rattle.joined.proofs.JoinedWords.{on, left, or-right, beginsBracket, ChainEnd, Continues, Last, Follows, Header, fixedRu, bidRu, unitOf, numberIn}
-use Rattle.joined.proofs.JoinedWords.{paced, confirmationFits, isFirstSpeaker, isBidder, isReset, isReceive, isNothing, isSend, Control, Role}
-use Rattle.joined.proofs.JoinedWords.{FirstSpeaker, Bidder, WhatReceived, send-is, afterLast, afterOwed, markOf, beginOf, closed, spilled}
-use Rattle.joined.proofs.JoinedWords.{confirmationMade, dataReceived, requestReceived, requestMade, nextNumber, bidMade, lastMade, bytesRead, headerReceived}
-use Rattle.joined.proofs.JoinedWords.{ruReceived, dataJoined, bidAnswered, creditRaised, recordGood, dataHeader, heldBytes, bytesKept, bytesSpilled, End}
-use Rattle.joined.proofs.JoinedWords.{facts, Station, Reply, Verb, allocate-cases, bidNumber, close-cases, confirmed-cases, pace-cases, read-cases}
+use Rattle.joined.proofs.JoinedWords.{ℕ, eq-eqb, eqb, Bool, true, false, not, cond, List, [], _∷_, _++_, append-nil, _≡_, refl, sym, ap, _∙_, never, on}
+use Rattle.joined.proofs.JoinedWords.{left, or-right, beginsBracket, ChainEnd, Continues, Last, Follows, Header, fixedRu, bidRu, unitOf, numberIn, paced}
+use Rattle.joined.proofs.JoinedWords.{confirmationFits, isFirstSpeaker, isBidder, isReset, isReceive, isNothing, isSend, Control, Role, FirstSpeaker}
+use Rattle.joined.proofs.JoinedWords.{Bidder, WhatReceived, send-is, afterLast, afterOwed, markOf, beginOf, closed, spilled, confirmationMade}
+use Rattle.joined.proofs.JoinedWords.{dataReceived, requestReceived, requestMade, nextNumber, bidMade, lastMade, bytesRead, headerReceived, ruReceived}
+use Rattle.joined.proofs.JoinedWords.{dataJoined, bidAnswered, creditRaised, recordGood, dataHeader, heldBytes, bytesKept, bytesSpilled, End, facts}
+use Rattle.joined.proofs.JoinedWords.{Station, Reply, Verb, allocate-cases, bidNumber, close-cases, confirmed-cases, pacing-response-cases, read-cases}
 use Rattle.joined.proofs.JoinedWords.{send-cases, spilledRu, TakeAsked, Lane, normal, acts, takes, Acted, Took}
 use Rattle.unit.specs.Ru.{positiveRu, negativeRu}
 use Rattle.header.specs.declared.Header.the-variants.{Data, Bid, PositiveBidResponse, NegativeBidResponse, Confirmation, PacingResponse}
 use Rattle.control.specs.Questions.{mayAllocate, maySend}
 use Rattle.control.specs.FieldChanged.{setState, setBid, setMark}
-use Rattle.transitions.specs.Transitions.{allocated, afterMark, markAnswered, bidReceived, positiveResponseReceived, negativeResponseReceived, confirmationReceived}
+use Rattle.transitions.specs.Transitions.{allocated, afterMark, markAnswered, bidReceived, positiveResponseReceived, negativeResponseReceived}
+use Rattle.transitions.specs.Transitions.{confirmationReceived}
 use Rattle.control.specs.declared.State.the-variants.{Reset, Send, Receive, ConfirmOwed, ConfirmAwaited}
 use Rattle.control.specs.declared.WhatReceived.the-variants as mark
 use Rattle.end.specs.Outcome.{withControl, withSending, withReceiving, withBidding}
 use Rattle.receiving.specs.declared.Receiving.{Receiving}
 use Rattle.joined.proofs.LineAutomaton.{ok, goes}
 use Rattle.bools.proofs.Tests.{right, not-true}
+use Rattle.control.proofs.States.{state-is, nothing-is, bidder-not-first}
+use Rattle.control.proofs.Within.{due-outside-send, due-at-bidder, unmarked-outside-receive}
 use Rattle.joined.proofs.TwoLines.{other, led-as, led-past, led-took, led-moved, led-still}
-use Rattle.joined.proofs.Floor.{Floor, reset, sendBB, send, receive, afterMarkFloor, floorAt, floorOf, isResetFloor, dataMoves, afterWait}
-use Rattle.joined.proofs.Floor.{confirmedFloor, Floors, nothing-mark, sentFloor, quiet-sending, sent-moves, sent-partners, afterOwe, confirmed-moves}
-use Rattle.joined.proofs.Floor.{confirmed-floor, last-floor, mark-floor, bidder-speaks, state-is}
+use Rattle.joined.proofs.Floor.{Floor, reset, sendBB, send, receive, afterMarkFloor, floorAt, floorOf, isResetFloor, dataMoves, afterAwaitedFloor}
+use Rattle.joined.proofs.Floor.{confirmedFloor, Floors, sentFloor, quiet-sending, sent-moves, sent-partners, afterOwedFloor, confirmed-moves}
+use Rattle.joined.proofs.Floor.{confirmed-floor, last-floor, mark-floor}
 use Rattle.joined.proofs.Bids.{Pending, none, some, bidAt, bidOf, bidMoves, bidOn, Bids, bids-moved, bid-speaker, bid-off}
 use Rattle.calls.proofs.CallCases.{kind-cases, tookKind}
 use Rattle.joined.proofs.CallsOnLanes.{Laned, LanedTake}
-use Rattle.joined.proofs.FloorsAndBids.{Order, floor-in, due-outside, due-speaks, no-mark, data-moves, bid-moves, grant-moves, bid-answered}
-use Rattle.joined.proofs.FloorsAndBids.{confirmation-moves, order-fits-confirmation}
+use Rattle.joined.proofs.FloorsAndBids.{Order, floor-in, data-moves, bid-moves, positive-response-moves, bid-answered, confirmation-moves}
+use Rattle.joined.proofs.FloorsAndBids.{order-fits-confirmation}
 
 -- an end after a call, its role and its partner as they were
 order-with : {r : Role} {e e′ f : End} {line line′ back back′ : List (List ℕ)} → e′ .control .role ≡ e .control .role
@@ -148,16 +151,17 @@ module _ (r : Role) (s : Station) (f : End) (line back : List (List ℕ)) (i : O
       let e = s .end in
       let c = e .control in
       let p = state-is (c .state) .2 a in
+      let w = facts e g .control in
       order-with refl
       (led-as
       (sym
-      (ap (λ (b : Bool). floorAt (afterOwed (c .follows)) b (c .follows) (c .mark) (e .owed) (e .sending .number)) (due-outside e g (rw p))
-      ∙ confirmed-floor (c .follows) (c .mark) (e .owed) (e .sending .number) (no-mark e g (rw p))))
-      (led-moved (e .owed) Confirmation [] (afterOwe (c .follows)) refl (confirmed-moves r (c .follows) (e .owed))
+      (ap (λ (b : Bool). floorAt (afterOwed (c .follows)) b (c .follows) (c .mark) (e .owed) (e .sending .number)) (due-outside-send c w (rw p))
+      ∙ confirmed-floor (c .follows) (c .mark) (e .owed) (e .sending .number) (unmarked-outside-receive c w (rw p))))
+      (led-moved (e .owed) Confirmation [] (afterOwedFloor (c .follows)) refl (confirmed-moves r (c .follows) (e .owed))
       (led-as (floor-in e ConfirmOwed p) (i .floors))))
       (led-past (e .owed) Confirmation [] (λ v. refl) (i .bids)) i)
   order-acts Verb.sendPacingResponse =
-      pace-cases (Laned After) s (λ q n. rw append-nil i)
+      pacing-response-cases (Laned After) s (λ q n. rw append-nil i)
       (λ g a. order-with refl (led-past 0 PacingResponse [] (λ v. refl) (i .floors)) (led-past 0 PacingResponse [] (λ v. refl) (i .bids)) i)
   order-acts (Verb.sendData bytes) =
       send-cases (Laned After) s bytes (λ q n. rw append-nil i) (λ a k. rw append-nil (order-same refl refl refl i))
@@ -169,7 +173,8 @@ module _ (r : Role) (s : Station) (f : End) (line back : List (List ℕ)) (i : O
       (λ a n k.
       let e = s .end in
       let m = nextNumber (e .sending .number) in
-      let q = last-control (e .control) x c (e .owed) m (no-mark e (a .good) (rw (send-is (e .control .state) (a .sending)))) in
+      let u = unmarked-outside-receive (e .control) (facts e (a .good) .control) (rw (send-is (e .control .state) (a .sending))) in
+      let q = last-control (e .control) x c (e .owed) m u in
       sent (lastMade e x c (s .send) .end) (Last x c) m (heldBytes e (s .send)) (a .good) (a .sending) (q .0)
       (same-bid e (closed x c (e .control)) (q .1) (q .2)) (q .1))
   order-acts (Verb.receive buffer) =
@@ -178,7 +183,7 @@ module _ (r : Role) (s : Station) (f : End) (line back : List (List ℕ)) (i : O
       let e = s .end in
       let c = e .control in
       let p = state-is (c .state) .1 (or-right (isNothing (c .mark)) (isReceive (c .state)) (facts e (a .good) .control .mark) (not-true _ m)) in
-      let k = mark-read c (c .mark) (e .owed) (e .sending .number) m (due-outside e (a .good) (rw p)) in
+      let k = mark-read c (c .mark) (e .owed) (e .sending .number) m (due-outside-send c (facts e (a .good) .control) (rw p)) in
       rw append-nil (order-same (k .0 ∙ sym (floor-in e Receive p)) (same-bid e (markAnswered c) (k .1) (k .2)) (k .1) i))
 
 -- ---- takes
@@ -193,14 +198,14 @@ answered-bids FirstSpeaker none n h ru g i = bids-moved n h ru none refl g (i .1
 answered-bids FirstSpeaker (some k) n h ru g i = never (i .0)
 answered-bids Bidder p n h ru g i = never (i .0)
 
--- in Reset it grants, and the partner, in Reset too, will send
-granted-floors :
+-- in Reset the answer is positive, and the partner, in Reset too, will send
+positive-response-floors :
     (r : Role) {y : Floor} {line back : List (List ℕ)} (n : ℕ) (ru : List ℕ)
     → isFirstSpeaker r ≡ true
     → Floors r reset y line back
     → Floors r receive y (line ++ (unitOf n PositiveBidResponse ru ∷ [])) back
-granted-floors FirstSpeaker n ru s i = led-moved {x = reset} n PositiveBidResponse ru receive refl (λ v p. (send, (rw p, refl))) i
-granted-floors Bidder n ru s i = never s
+positive-response-floors FirstSpeaker n ru s i = led-moved {x = reset} n PositiveBidResponse ru receive refl (λ v p. (send, (rw p, refl))) i
+positive-response-floors Bidder n ru s i = never s
 
 module _ (r : Role) (s : Station) (f : End) (u : List ℕ) (line back : List (List ℕ)) (i : Order r (s .end) f line (u ∷ back)) where
   abbrev Left : Took Lane Station Reply (List ℕ) → Type 0
@@ -216,8 +221,8 @@ module _ (r : Role) (s : Station) (f : End) (u : List ℕ) (line back : List (Li
       let e = s .end in
       let n = numberIn u in
       order-with refl
-      (led-as (ap (λ (x : WhatReceived). afterMarkFloor x (e .owed)) (sym (nothing-mark (e .control .mark) m)))
-      (granted-floors r n positiveRu (bid-speaker r (bidOf e) (bid-moves i b h .0))
+      (led-as (ap (λ (x : WhatReceived). afterMarkFloor x (e .owed)) (sym (nothing-is (e .control .mark) m)))
+      (positive-response-floors r n positiveRu (bid-speaker r (bidOf e) (bid-moves i b h .0))
       (led-as (floor-in e Reset (state-is (e .control .state) .0 q)) (led-took (floorOf e) h refl (i .floors)))))
       (answered-bids r (bidOf e) n PositiveBidResponse positiveRu (goes (eqb n n) none (eq-eqb n n refl)) (bid-moves i b h)) i
   took-bid false b v q m h =
@@ -237,8 +242,9 @@ module _ (r : Role) (s : Station) (f : End) (u : List ℕ) (line back : List (Li
       took-bid (isReset (e .control .state)) b (requestReceived (e .receiving .held) (e .receiving .taken) (e .receiving)) refl (a .unmarked) h
   took-kind PositiveBidResponse h a =
       let e = s .end in
-      let p = grant-moves i h in
-      let due = due-speaks e (a .good) (rw (i .role) (bidder-speaks r (right (isResetFloor (floorOf e)) (isBidder r) (p .0)))) in
+      let p = positive-response-moves i h in
+      let due =
+      due-at-bidder (e .control) (facts e (a .good) .control) (rw (i .role) (bidder-not-first r (right (isResetFloor (floorOf e)) (isBidder r) (p .0)))) in
       rw append-nil
       (order-with refl (led-as (ap (λ (x : Bool). cond x sendBB send) (sym due)) (p .1))
       (led-as (sym (bid-off (e .control .role) (e .bidding))) (bid-answered i PositiveBidResponse (λ p n. refl) h .1)) i)
@@ -250,10 +256,11 @@ module _ (r : Role) (s : Station) (f : End) (u : List ℕ) (line back : List (Li
   took-kind Confirmation h a =
       let e = s .end in
       let c = e .control in
+      let k = facts e (a .good) .control in
       let p = state-is (c .state) .3 (left (confirmationFits c) _ (order-fits-confirmation i (a .unmarked) h)) in
-      let after : floorAt (afterLast (c .follows)) (c .due) (c .follows) (c .mark) (e .owed) (e .sending .number) ≡ afterWait (c .follows) =
-      ap (λ (b : Bool). floorAt (afterLast (c .follows)) b (c .follows) (c .mark) (e .owed) (e .sending .number)) (due-outside e (a .good) (rw p))
-      ∙ last-floor (c .follows) (c .follows) (c .mark) (e .owed) (e .sending .number) (no-mark e (a .good) (rw p)) in
+      let after : floorAt (afterLast (c .follows)) (c .due) (c .follows) (c .mark) (e .owed) (e .sending .number) ≡ afterAwaitedFloor (c .follows) =
+      ap (λ (b : Bool). floorAt (afterLast (c .follows)) b (c .follows) (c .mark) (e .owed) (e .sending .number)) (due-outside-send c k (rw p))
+      ∙ last-floor (c .follows) (c .follows) (c .mark) (e .owed) (e .sending .number) (unmarked-outside-receive c k (rw p)) in
       rw append-nil
       (order-with refl (led-as (ap confirmedFloor (floor-in e ConfirmAwaited p) ∙ sym after) (confirmation-moves i h .1))
       (led-took (bidOf e) h refl (i .bids)) i)

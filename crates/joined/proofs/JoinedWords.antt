@@ -9,7 +9,6 @@ pub use mathlib.Core.Bool.{Bool, true, false, not, cond, _&&_, _||_}
 pub use mathlib.Core.HLevel.{Discrete}
 pub use mathlib.Core.List.{List, [], _∷_, _++_, append-nil}
 pub use mathlib.Core.Path.{_≡_, refl, sym, ap, _∙_, subst, fun-ext}
-pub use native.Mathlib.Nat.{le-trans}
 pub use native.Mathlib.Omega.{arith}
 pub use Rattle.bools.proofs.{Cases.never, Cases.cases, Cases.on, Tests.left, Tests.both, Tests.or-right}
 pub use Rattle.cells.specs.{Cells.front, Cells.written}
@@ -46,10 +45,10 @@ pub use Rattle.end.specs.{SendData.gone, declared.End.End}
 pub use Rattle.end.proofs.{RecordGood.facts}
 pub use Rattle.calls.specs.{Calls.Station, Calls.Reply, Calls.Verb, UnitCounts.count, UnitCounts.isPacingResponse}
 unfoldable pub use Rattle.calls.specs.{UnitCounts.requestsAmong}
-pub use Rattle.calls.proofs.{CallCases.allocate-cases, CallCases.bidNumber, CallCases.close-cases, CallCases.confirmed-cases, CallCases.pace-cases}
-pub use Rattle.calls.proofs.{CallCases.read-cases, CallCases.send-cases, CallCases.spilledRu, CallCases.take-cases, CallCases.ReadAsked}
-pub use Rattle.calls.proofs.{CallCases.SendAsked, CallCases.readCount, CallCases.spilledUnit, CallCases.control-within, CallCases.TakeAsked}
-pub use Rattle.calls.proofs.{ControlMoved.allocate-moves, ControlMoved.mark-moves, RecordStaysGood.opened-is, UnitsByHeader.Sort}
+pub use Rattle.calls.proofs.{CallCases.allocate-cases, CallCases.bidNumber, CallCases.close-cases, CallCases.confirmed-cases}
+pub use Rattle.calls.proofs.{CallCases.pacing-response-cases, CallCases.read-cases, CallCases.send-cases, CallCases.spilledRu, CallCases.take-cases}
+pub use Rattle.calls.proofs.{CallCases.ReadAsked, CallCases.SendAsked, CallCases.readCount, CallCases.spilledUnit, CallCases.control-within}
+pub use Rattle.calls.proofs.{CallCases.TakeAsked, ControlMoved.allocate-moves, ControlMoved.mark-moves, RecordStaysGood.opened-is, UnitsByHeader.Sort}
 pub use Rattle.calls.proofs.{UnitsByHeader.sortOf, UnitsByHeader.isAsking, UnitsByHeader.taken-header, UnitsByHeader.isPacing, UnitsByHeader.bitOf}
 pub use Rattle.calls.proofs.{UnitsByHeader.answer-sort, UnitsByHeader.dataOf}
 pub use Rattle.joined.specs.{Claim.Pair, Ends.Lane, Ends.normal, Ends.sameLane, Ends.Buffers, Ends.OpeningAccepted, Ends.openedWith}

@@ -1,16 +1,15 @@
 -- Every call keeps what holds at its end by itself.
 -- Assumes nothing.
-use Rattle.joined.proofs.JoinedWords.{ℕ, _+_, _*_, _≤_, _<_, eqb, length, take, drop, take-take, length-take-le, Bool, true, false, not, _||_}
-use Rattle.joined.proofs.JoinedWords.{List, [], _∷_, _≡_, refl, sym, ap, _∙_, arith, front, isWhole, ended, thenWalk}
-use Rattle.joined.proofs.JoinedWords.{walk, placeOr, Position, Walked, walk-append, walk-prefix, Through, Continues, Last, Follows, Stay}
-use Rattle.joined.proofs.JoinedWords.{ChangeDirection, EndBracket, marks, fixedRu, bidRu, RU-START, unitOf, numberIn, paced, advanced, answered}
-use Rattle.joined.proofs.JoinedWords.{credit, isSend, bidAnswer, closed, spilled, dataReceived, readRefused, accepted, requestReceived, requestMade}
-use Rattle.joined.proofs.JoinedWords.{nextNumber, restBytes, bidMade, lastMade, bytesRead, recordRest, copyCount, headerReceived, ruReceived, dataJoined}
-use Rattle.joined.proofs.JoinedWords.{bidAnswered, creditRaised, receiveUnitRefusal, dataHeader, heldBytes, bytesKept, bytesSpilled, facts, Station, Reply}
-use Rattle.joined.proofs.JoinedWords.{Verb, count, isPacingResponse, requestsAmong, allocate-cases, bidNumber, close-cases, confirmed-cases}
-use Rattle.joined.proofs.JoinedWords.{pace-cases, read-cases, send-cases, spilledRu, take-cases, ReadAsked, readCount, control-within, TakeAsked}
-use Rattle.joined.proofs.JoinedWords.{allocate-moves, mark-moves, Sort, sortOf, isAsking, isPacing, answer-sort, Lane, normal, acts, takes, onNormal}
-use Rattle.joined.proofs.JoinedWords.{Log, bytesInInbox, isBreach, Acted, Took, took, acted}
+use Rattle.joined.proofs.JoinedWords.{ℕ, _+_, _*_, _≤_, _<_, eqb, length, take, drop, take-take, length-take-le, Bool, true, false, List, [], _∷_, _≡_}
+use Rattle.joined.proofs.JoinedWords.{refl, sym, ap, _∙_, arith, front, ended, thenWalk, walk, placeOr, Position, Walked, walk-append, walk-prefix}
+use Rattle.joined.proofs.JoinedWords.{Through, Continues, Last, Follows, fixedRu, bidRu, RU-START, unitOf, numberIn, paced, advanced, answered, credit}
+use Rattle.joined.proofs.JoinedWords.{bidAnswer, spilled, dataReceived, readRefused, accepted, requestReceived, requestMade, nextNumber, restBytes}
+use Rattle.joined.proofs.JoinedWords.{bidMade, lastMade, bytesRead, recordRest, copyCount, headerReceived, ruReceived, dataJoined, bidAnswered}
+use Rattle.joined.proofs.JoinedWords.{creditRaised, receiveUnitRefusal, dataHeader, heldBytes, bytesKept, bytesSpilled, facts, Station, Reply, Verb}
+use Rattle.joined.proofs.JoinedWords.{count, isPacingResponse, requestsAmong, allocate-cases, bidNumber, close-cases, confirmed-cases}
+use Rattle.joined.proofs.JoinedWords.{pacing-response-cases, read-cases, send-cases, spilledRu, take-cases, ReadAsked, readCount, control-within}
+use Rattle.joined.proofs.JoinedWords.{TakeAsked, allocate-moves, mark-moves, Sort, sortOf, isAsking, isPacing, answer-sort, Lane, normal, acts, takes}
+use Rattle.joined.proofs.JoinedWords.{onNormal, Log, bytesInInbox, isBreach, Acted, Took, took, acted}
 use borrow.Author.Tests.{leb-true}
 use Rattle.logical_record.proofs.RecordEnds.{Inside}
 use Rattle.logical_record.proofs.Rests.{rest-some, rest-walks, rest-inside, RestIs}
@@ -29,8 +28,8 @@ use Rattle.calls.proofs.ControlMoved.{confirmed-moves}
 use Rattle.calls.proofs.UnitsByHeader.{pacing-taken}
 use Rattle.joined.proofs.CallsOnLanes.{Laned, LanedTake}
 use Rattle.pacing.proofs.Windows.{response-raises}
-use Rattle.joined.proofs.BytesInOrder.{held-more}
-use Rattle.joined.proofs.BytesInOrderKept.{count-held, moved-left, read-parts, inbox-room, read-copied}
+use Rattle.cells.proofs.Fronts.{written-bytes}
+use Rattle.calls.proofs.CallBytes.{closed-whole, inbox-room, count-held, count-rest, read-parts, read-copied, moved-left}
 use Rattle.joined.proofs.OneEnd.{valuesOf, Local, local-act, local-refused, local-read, local-took, local-take-refused}
 
 -- ---- calls that the end answers by itself
@@ -47,17 +46,6 @@ module _ (s : Station) (xs : Log) (l : Local (valuesOf s) xs) where
       → Local (valuesOf s) (acted v (record { answer = readRefused q; buffer = [] }) (onNormal []) ∷ xs)
   refuses v b q n = local-refused v q [] n (b q) l
 
-  -- the given place is whole unless the state after a last unit is Send
-  closed-whole : (f : Follows) (c : Bool) (p : Position)
-      → not (marks (Last f c)) || isWhole p ≡ true → isSend (closed f c (s .end .control) .state) ≡ false → isWhole p ≡ true
-  unfolding closed
-  closed-whole Stay true p w n = w
-  closed-whole Stay false p w n = absurd (never n)
-  closed-whole ChangeDirection true p w n = w
-  closed-whole ChangeDirection false p w n = w
-  closed-whole EndBracket true p w n = w
-  closed-whole EndBracket false p w n = w
-
   closes : (f : Follows) (c : Bool) → After (Verb.close f c) (acts s (Verb.close f c))
   unfolding acts lastMade requestMade advanced
   closes f c =
@@ -69,7 +57,7 @@ module _ (s : Station) (xs : Log) (l : Local (valuesOf s) xs) where
       let h = dataHeader (s .end) (Last f c) in
       let ru = heldBytes (s .end) (s .send) in
       let u = unitOf (nextNumber (s .end .sending .number)) h ru in
-      local-act v (accepted (RU-START + length ru)) mark.Nothing [] (onNormal (u ∷ [])) _ l here (closed-whole f c (s .end .sending .given) (a .whole)) refl
+      local-act v (accepted (RU-START + length ru)) mark.Nothing [] (onNormal (u ∷ [])) _ l here (closed-whole f c (s .end .control) _ (a .whole)) refl
       (request-made s (nextNumber (s .end .sending .number)) h ru (data-asks s (Last f c)) (a .good) k) refl)
 
   at-place : (g p : Position) (w : Walked) → w ≡ At p → w ≡ At (placeOr g w)
@@ -102,19 +90,14 @@ module _ (s : Station) (xs : Log) (l : Local (valuesOf s) xs) where
       (omega (arith, long, held)) (bytes-of (recordRest (s .end) (s .inbox)) (a .rest)) in
       omega (arith, a .least, held, some)
 
-  -- a read copies no more than the rest of the current record
-  count-rest : (buffer : List ℕ) → readCount s buffer ≤ restBytes (recordRest (s .end) (s .inbox))
-  unfolding copyCount
-  count-rest buffer = omega arith
-
-  -- so that fewer bytes than it copies do not end the record
+  -- fewer bytes than it copies do not end the record
   inside : (buffer : List ℕ) → ReadAsked s buffer → (n : ℕ) → 0 < n → n < readCount s buffer
       → ended (walk (s .end .receiving .read) (take n (front (take (readCount s buffer) (s .inbox)) buffer))) ≡ false
   inside buffer a n some few =
       let k = readCount s buffer in
       let held = s .end .receiving .held in
       let c = count-held s buffer in
-      let r = count-rest buffer in
+      let r = count-rest s buffer in
       let long : length (bytesInInbox s) ≡ held = length-take-le held (s .inbox) (inbox-room s (a .inbox) (a .good)) in
       let i : Inside (s .end .receiving .read) (take n (bytesInInbox s)) =
       rest-inside (s .end .receiving .read) (bytesInInbox s) (restBytes (recordRest (s .end) (s .inbox))) n
@@ -163,7 +146,7 @@ module _ (s : Station) (xs : Log) (l : Local (valuesOf s) xs) where
       (λ n. l .whole (confirmed-moves (s .end .control) (control-within (s .end) g) a .send n)) refl
       (other-made (s .end .owed) (credit (s .end .sending .window)) Confirmation [] refl) refl)
   local-acts Verb.sendPacingResponse =
-      pace-cases (Laned (After Verb.sendPacingResponse)) s (refuses Verb.sendPacingResponse (λ q. refl))
+      pacing-response-cases (Laned (After Verb.sendPacingResponse)) s (refuses Verb.sendPacingResponse (λ q. refl))
       (λ g a.
       local-act Verb.sendPacingResponse (accepted 5) mark.Nothing [] (onNormal (unitOf 0 PacingResponse [] ∷ [])) _ l here (l .whole) refl
       (other-made 0 (credit (s .end .sending .window)) PacingResponse [] refl) refl)
@@ -207,7 +190,7 @@ module _ (s : Station) (xs : Log) (u : List ℕ) (l : Local (valuesOf s) xs) whe
       take-cases (LanedTake Left) naming s u (λ q x n. local-take-refused normal u (naming u) q n (nb q x) l)
       (λ d a e k.
       local-took normal u (accepted 0) (onNormal []) false _ l (counts-pacing _ e a) refl refl (λ m. l .whole (k .away)) refl
-      (ap (walk (r .read)) (held-more (r .held) ru (s .inbox) (inbox-room s (a .inbox) (a .good)))
+      (ap (walk (r .read)) (written-bytes (r .held) ru (s .inbox) (inbox-room s (a .inbox) (a .good)))
       ∙ walk-append (r .read) (bytesInInbox s) ru ∙ ap (λ (x : Walked). thenWalk x ru) (l .inbox) ∙ k .walked) refl same)
       (λ p a e k m.
       local-took normal u (accepted (RU-START + length (fixedRu h))) (onNormal (unitOf (numberIn u) h (fixedRu h) ∷ [])) false _ l

@@ -3,6 +3,7 @@
 -- Assumes nothing.
 use Rattle.joined.proofs.JoinedWords.{ℕ, Bool, true, false, not, cond, _||_, List, [], _∷_, _++_, _≡_, refl, sym, subst, never, cases, Header, unitOf}
 use Rattle.joined.proofs.JoinedWords.{agree, headerReceived, Sort, sortOf, isPacing, bitOf}
+use Rattle.control.proofs.Agree.{agrees}
 use Rattle.joined.proofs.LineAutomaton.{Ran, ok, stuck, stuck≢ok, ok-is}
 use Rattle.joined.proofs.TwoLines.{Automaton, Led, led-nowhere, led-flip, led-past, led-took, led-goes, led-moved}
 
@@ -12,13 +13,13 @@ use Rattle.joined.proofs.TwoLines.{Automaton, Led, led-nowhere, led-fli
 pub data Way : Type 0 where
   out into : Way
 
-abbrev pub turn : Way → Way
-turn out = into
-turn into = out
+abbrev pub otherEnd : Way → Way
+otherEnd out = into
+otherEnd into = out
 
-pub turn-turn : (w : Way) → turn (turn w) ≡ w
-turn-turn out = refl
-turn-turn into = refl
+pub otherEnd-otherEnd : (w : Way) → otherEnd (otherEnd w) ≡ w
+otherEnd-otherEnd out = refl
+otherEnd-otherEnd into = refl
 
 -- the units that move the flag: a pacing response, and a request with the pacing bit
 abbrev pub moves : Way → Sort → Bool
@@ -35,7 +36,7 @@ flagOn w x h n = cond (moves w (sortOf h)) (cond (agree x (before w)) (ok (not x
 
 -- with nothing unanswered no pacing response is on its way, and with an answer owed no request with the pacing bit
 abbrev pub settled : Way → Bool → Bool
-settled w x = agree x (before (turn w))
+settled w x = agree x (before (otherEnd w))
 
 pub settled-stays : (w : Way) (b x x′ : Bool) → settled w x ≡ true → (t : Bool)
     → cond b (cond (agree x (before w)) (ok (not x)) stuck) (ok x) ≡ ok t
@@ -49,8 +50,8 @@ settled-stays into true false x′ q t e = never q
 abbrev pub flags : Automaton Way Bool
 flags =
     record {
-      partner = turn;
-      partner-partner = turn-turn;
+      partner = otherEnd;
+      partner-partner = otherEnd-otherEnd;
       on = flagOn;
       settled = settled;
       stays = λ w x x′ q h n t e. settled-stays w (moves w (sortOf h)) x x′ q t e;
@@ -62,10 +63,10 @@ flags =
 
 module _ {w : Way} {x y : Bool} {line back : List (List ℕ)} where
   -- a unit is made: one that moves the partner's flag only where the flag here is settled, which it moves too
-  flag-made : (n : ℕ) (h : Header) (ru : List ℕ) → (moves (turn w) (sortOf h) ≡ true → settled w x ≡ true)
-      → Led flags w x y line back → Led flags w (cond (moves (turn w) (sortOf h)) (not x) x) y (line ++ (unitOf n h ru ∷ [])) back
+  flag-made : (n : ℕ) (h : Header) (ru : List ℕ) → (moves (otherEnd w) (sortOf h) ≡ true → settled w x ≡ true)
+      → Led flags w x y line back → Led flags w (cond (moves (otherEnd w) (sortOf h)) (not x) x) y (line ++ (unitOf n h ru ∷ [])) back
   flag-made n h ru f i =
-      cases (λ (z : Bool). Led flags w z y (line ++ (unitOf n h ru ∷ [])) back) (moves (turn w) (sortOf h))
+      cases (λ (z : Bool). Led flags w z y (line ++ (unitOf n h ru ∷ [])) back) (moves (otherEnd w) (sortOf h))
       (λ e. led-moved n h ru (not x) (f e) (λ v p. (not x, (rw (← p, e, f e), refl))) i) (λ e. led-past n h ru (λ v. rw e) i)
 
   -- the oldest unit is taken: one that moves the flag finds it as it must be
@@ -86,14 +87,6 @@ pub record Paces (unanswered owed unanswered′ owed′ : Bool) (line back : Lis
 
 pub paces-fresh : Paces false false false false [] []
 paces-fresh = record { sending = led-nowhere refl; receiving = led-nowhere refl }
-
-is-on : (x : Bool) → agree x true ≡ true → x ≡ true
-is-on true e = refl
-is-on false e = e
-
-is-off : (x : Bool) → agree x false ≡ true → x ≡ false
-is-off true e = never e
-is-off false e = refl
 
 -- a flag that was off is on after a request with the pacing bit
 raised : (b x : Bool) → (b ≡ true → x ≡ false) → cond b (not x) x ≡ (x || b)
@@ -129,10 +122,10 @@ module _ {x o x′ o′ : Bool} {line back : List (List ℕ)} where
   module _ {u : List ℕ} (p : Paces x o x′ o′ line (u ∷ back)) where
     -- a request with the pacing bit finds no answer owed, and a pacing response a request unanswered
     pub paces-owed : bitOf (sortOf (headerReceived u)) ≡ true → o ≡ false
-    paces-owed e = is-off o (flag-fits (p .receiving) e)
+    paces-owed e = agrees o false (flag-fits (p .receiving) e)
 
     pub paces-unanswered : isPacing (sortOf (headerReceived u)) ≡ true → x ≡ true
-    paces-unanswered e = is-on x (flag-fits (p .sending) e)
+    paces-unanswered e = agrees x true (flag-fits (p .sending) e)
 
     pub paces-took : Paces (cond (isPacing (sortOf (headerReceived u))) (not x) x) (o || bitOf (sortOf (headerReceived u))) x′ o′ line back
     paces-took =

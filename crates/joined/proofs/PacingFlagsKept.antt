@@ -4,8 +4,9 @@ use Rattle.joined.proofs.JoinedWords.{ℕ, Bool, true, false, not, cond
 use Rattle.joined.proofs.JoinedWords.{Last, Header, fixedRu, bidRu, unitOf, numberIn, hasCredit, paced, advanced, answered, bidAnswer, requestReceived}
 use Rattle.joined.proofs.JoinedWords.{requestMade, nextNumber, bidMade, lastMade, bytesRead, headerReceived, dataJoined, bidAnswered, creditRaised}
 use Rattle.joined.proofs.JoinedWords.{dataHeader, heldBytes, bytesKept, bytesSpilled, Station, Reply, Verb, allocate-cases, bidNumber, close-cases}
-use Rattle.joined.proofs.JoinedWords.{confirmed-cases, pace-cases, read-cases, send-cases, spilledRu, take-cases, Sort, sortOf, isPacing, bitOf}
-use Rattle.joined.proofs.JoinedWords.{answer-sort, Lane, normal, acts, takes, Acted, Took}
+use Rattle.joined.proofs.JoinedWords.{confirmed-cases, pacing-response-cases, read-cases, send-cases, spilledRu, take-cases, Sort, sortOf, isPacing}
+use Rattle.joined.proofs.JoinedWords.{bitOf, answer-sort, Lane, normal, acts, takes, Acted, Took}
+use mathlib.Core.Bool.{or-false}
 use Rattle.header.specs.declared.Header.the-variants.{Bid, Confirmation, PacingResponse}
 use Rattle.joined.proofs.CallsOnLanes.{Laned, LanedTake}
 use Rattle.pacing.proofs.Windows.{no-flag-at-start}
@@ -20,10 +21,6 @@ owedOf s = s .end .receiving .window .pending
 
 abbrev pub PacesOf : Station → Station → List (List ℕ) → List (List ℕ) → Type 0
 PacesOf e f line back = Paces (unansweredOf e) (owedOf e) (unansweredOf f) (owedOf f) line back
-
-or-false : (b : Bool) → b || false ≡ b
-or-false true = refl
-or-false false = refl
 
 -- a unit that is neither a pacing response nor a request with the pacing bit goes out
 paces-past : {x o x′ o′ : Bool} {line back : List (List ℕ)} (n : ℕ) (h : Header) (ru : List ℕ)
@@ -51,7 +48,7 @@ module _ (s f : Station) (line back : List (List ℕ)) (p : PacesOf s f line bac
   paces-acts Verb.confirmed =
       confirmed-cases (Laned After) s (λ q n. rw append-nil p) (λ g a. paces-past (s .end .owed) Confirmation [] refl refl p)
   paces-acts Verb.sendPacingResponse =
-      pace-cases (Laned After) s (λ q n. rw append-nil p) (λ g a. paces-answer 0 PacingResponse [] refl refl (left (owedOf s) _ a) p)
+      pacing-response-cases (Laned After) s (λ q n. rw append-nil p) (λ g a. paces-answer 0 PacingResponse [] refl refl (left (owedOf s) _ a) p)
   paces-acts (Verb.sendData bytes) =
       send-cases (Laned After) s bytes (λ q n. rw append-nil p) (λ a k. rw append-nil p)
       (λ a k h. data-out (nextNumber (s .end .sending .number)) Continues (spilledRu s bytes) h)

@@ -1,11 +1,11 @@
 -- One way between two joined ends, as a stream of requests: numbers, positions in the window, chains and record places. What the receiving end has
 -- taken, led on by the units on the line, is what the sending end has made.
 -- Assumes nothing.
-use Rattle.joined.proofs.JoinedWords.{ℕ, le-leb, eq-eqb, eqb, leb, length, Bool, true, false, not, cond, _&&_, _||_, List, [], _∷_, _++_, _≡_, refl}
-use Rattle.joined.proofs.JoinedWords.{sym, ap, _∙_, subst, arith, never, isWhole, thenWalk, walk, placeOr, Position, Walked, walk-append, walk-prefix}
+use Rattle.joined.proofs.JoinedWords.{ℕ, le-leb, eq-eqb, eqb, leb, length, Bool, true, false, not, cond, _&&_, _||_, List, [], _∷_, _++_, _≡_, refl, sym}
+use Rattle.joined.proofs.JoinedWords.{ap, _∙_, subst, arith, never, isWhole, thenWalk, walk, placeOr, Position, Walked, walk-append, walk-prefix}
 use Rattle.joined.proofs.JoinedWords.{Through, isFirst, headerGood, ChainEnd, DataHeader, Header, marks, fixedRu, ruGood, RU-START, unitOf, numberIn}
-use Rattle.joined.proofs.JoinedWords.{headerIn, unit-number, agree, nextNumber, headerReceived, ruReceived, Station, Sort, sortOf, isAsking, taken-header}
-use Rattle.joined.proofs.JoinedWords.{bytesInSendBuffer}
+use Rattle.joined.proofs.JoinedWords.{headerIn, unit-number, agree, nextNumber, headerReceived, ruReceived, Station, Sort, sortOf, isAsking}
+use Rattle.joined.proofs.JoinedWords.{taken-header, bytesInSendBuffer}
 use Rattle.logical_record.specs.declared.Walked.the-variants.{At}
 use Rattle.header.specs.Header.{isLast}
 use Rattle.cells.specs.Equal.{sameBytes}
@@ -13,6 +13,7 @@ use Rattle.header.specs.declared.Header.the-variants.{Data, Bid}
 use Rattle.header.proofs.RoundTrip.{built-good}
 use Rattle.unit.proofs.UnitLaws.{unit-length, unit-header, unit-ru}
 use Rattle.pacing.specs.Pacing.{nextPosition}
+use Rattle.control.proofs.Agree.{agree-same}
 use Rattle.receiving.specs.Receiving.{recordsFit}
 use Rattle.calls.proofs.UnitsByHeader.{brings, asks, answers, paces, fixed-ru}
 use Rattle.joined.proofs.LineAutomaton.{Ran, ok, stuck, stuck≢ok, ok-is, Leads, leads-nowhere, leads-more, Parted, parted}
@@ -149,11 +150,6 @@ stream-keep {o} new p s e =
 -- a data unit is whole at a mark
 marked : (ends : ChainEnd) (w : Walked) (p : Position) → w ≡ At p → not (marks ends) || isWhole p ≡ true → recordsFit ends w ≡ true
 marked ends w p e h = rw e h
-
-agree-same : (a b : Bool) → a ≡ b → agree a b ≡ true
-agree-same true b e = sym e
-agree-same false true e = e
-agree-same false false e = refl
 
 -- the sending end after a request
 abbrev pub requestOut : Outside → Bool → List ℕ → Outside

@@ -1,24 +1,23 @@
 -- Every call keeps the streams in step, as the sending end and as the receiving end.
 -- Assumes nothing.
-use Rattle.joined.proofs.JoinedWords.{ℕ, _+_, _-_, _≤_, _<_, le-leb, eqb, leb, length, take, drop, length-drop, length-take-le, Bool, true, false, not}
-use Rattle.joined.proofs.JoinedWords.{cond, _&&_, _||_, List, [], _∷_, _++_, append-nil, _≡_, refl, sym, ap, _∙_, subst, arith, left, front, written}
-use Rattle.joined.proofs.JoinedWords.{isWhole, thenWalk, walk, placeOr, Position, same-position, Continues, Last, DataHeader, Follows, marks, ruGood}
-use Rattle.joined.proofs.JoinedWords.{unitOf, numberIn, paced, advanced, answered, isReset, bidAnswer, beginOf, closed, spilled, confirmationMade}
-use Rattle.joined.proofs.JoinedWords.{dataReceived, requestReceived, requestMade, nextNumber, bidMade, lastMade, bytesRead, headerReceived, ruReceived, dataJoined}
-use Rattle.joined.proofs.JoinedWords.{bidAnswered, creditRaised, dataHeader, heldBytes, bytesKept, bytesSpilled, gone, facts, Station, Reply, Verb}
-use Rattle.joined.proofs.JoinedWords.{allocate-cases, close-cases, confirmed-cases, pace-cases, read-cases, send-cases, spilledRu, take-cases}
-use Rattle.joined.proofs.JoinedWords.{SendAsked, spilledUnit, control-within, allocate-moves, mark-moves, Sort, sortOf, answer-sort, Lane, normal}
-use Rattle.joined.proofs.JoinedWords.{acts, takes, Acted, Took, cases, isFirst, Continued, First, FirstWithBracket, Control}
-use borrow.Author.Tests.{leb-false, eqb-false}
-use lib.ListN.{length-append}
-use Rattle.header.specs.declared.Header.the-variants.{Data, Confirmation, PacingResponse}
+use Rattle.joined.proofs.JoinedWords.{ℕ, _+_, _-_, length, take, drop, length-drop, length-take-le, Bool, true, false, not, cond, _||_, List, [], _∷_}
+use Rattle.joined.proofs.JoinedWords.{_++_, append-nil, _≡_, refl, sym, ap, subst, arith, left, front, written, isWhole, thenWalk, walk, placeOr}
+use Rattle.joined.proofs.JoinedWords.{Position, same-position, Continues, Last, DataHeader, Follows, marks, unitOf, numberIn, paced, advanced, answered}
+use Rattle.joined.proofs.JoinedWords.{isReset, bidAnswer, beginOf, closed, spilled, confirmationMade, dataReceived, requestReceived, requestMade}
+use Rattle.joined.proofs.JoinedWords.{nextNumber, bidMade, lastMade, bytesRead, headerReceived, ruReceived, dataJoined, bidAnswered, creditRaised}
+use Rattle.joined.proofs.JoinedWords.{dataHeader, heldBytes, bytesKept, bytesSpilled, gone, facts, Station, Reply, Verb, allocate-cases, close-cases}
+use Rattle.joined.proofs.JoinedWords.{confirmed-cases, pacing-response-cases, read-cases, send-cases, spilledRu, take-cases, SendAsked, spilledUnit}
+use Rattle.joined.proofs.JoinedWords.{control-within, allocate-moves, mark-moves, Sort, sortOf, answer-sort, Lane, normal, acts, takes, Acted, Took}
+use Rattle.cells.proofs.Fronts.{front-of, written-bytes}
+use Rattle.header.specs.declared.Header.the-variants.{Confirmation, PacingResponse}
 use Rattle.sending.specs.Sending.{keeps}
 use Rattle.end.specs.Close.{nothingGoes}
 use Rattle.calls.proofs.CallCases.{CloseAsked}
+use Rattle.unit.proofs.DataRu.{full-good, last-good}
+use Rattle.transitions.proofs.Chains.{begins-first, closed-in}
+use Rattle.calls.proofs.CallBytes.{spilled-parts, spilled-length}
 use Rattle.control.proofs.States.{reset-not-send}
 use Rattle.joined.proofs.CallsOnLanes.{Laned, LanedTake}
-use Rattle.bools.proofs.Cases.{split}
-use Rattle.joined.proofs.BytesInOrder.{held-more, held-rest, spilled-parts}
 use Rattle.joined.proofs.RequestStream.{Outside, Inside, outsideOf, insideOf, Stream, holding, stream-keep, stream-data, stream-bid, stream-response}
 use Rattle.joined.proofs.RequestStream.{taken, stream-take}
 use Rattle.control.proofs.Within.{closed-outside-send}
@@ -44,51 +43,6 @@ module _ {o : Outside} {i : Inside} {line : List (List ℕ)} where
   same-held : (h : List ℕ) (p : Position) → h ≡ o .held → p ≡ o .given → Stream o i line → Stream (holding o h p) i line
   same-held h p e f s = rw (e, f) s
 
--- ---- chains
-
--- a last unit leaves the receiving chain
-closed-in : (f : Follows) (b : Bool) (c : Control) → closed f b c .inchain ≡ c .inchain
-unfolding closed
-closed-in f b c = cases (λ (d : Control). d .inchain ≡ c .inchain) b (λ y. refl) (λ n. refl)
-
--- a unit is first in its chain exactly where no chain is open
-first-of : (open′ due : Bool) → isFirst (cond open′ Continued (cond due FirstWithBracket First)) ≡ not open′
-first-of true due = refl
-first-of false true = refl
-first-of false false = refl
-
-begins-first : (c : Control) → isFirst (beginOf c) ≡ not (c .outchain)
-begins-first c = first-of (c .outchain) (c .due)
-
--- ---- data units that calls make
-
--- the RU of a unit that is not last is as long as it may be
-spilled-length : (s : Station) (bytes : List ℕ) → SendAsked s bytes → keeps (s .end .sending) (length bytes) ≡ false
-    → length (spilledRu s bytes) ≡ s .end .sending .max
-spilled-length s bytes a k =
-    let e = s .end in
-    let h = facts e (a .good) .sending .held in
-    let b = a .buffer in
-    let more : e .sending .max < e .sending .held + length bytes = leb-false (e .sending .held + length bytes) (e .sending .max) k in
-    length-append (heldBytes e (s .send)) (take (gone e) bytes)
-    ∙ ap (λ (n : ℕ). n + length (take (gone e) bytes)) (length-take-le (e .sending .held) (s .send) (omega arith))
-    ∙ ap (λ (n : ℕ). e .sending .held + n) (length-take-le (gone e) bytes (omega arith))
-    ∙ (let z : e .sending .held + gone e ≡ e .sending .max = omega arith in z)
-
-full-good : (m : ℕ) (d : DataHeader) (ru : List ℕ) → length ru ≡ m → 8 ≤ m → ruGood m (Data d) ru ≡ true
-unfolding ruGood
-full-good m d ru e h = rw (e, le-leb m m (omega arith), le-leb 1 m (omega arith))
-
-last-good : (m n : ℕ) (d : DataHeader) (ru : List ℕ) → length ru ≡ n → n ≤ m → not (marks (d .ends)) && eqb n 0 ≡ false → ruGood m (Data d) ru ≡ true
-unfolding ruGood
-last-good m n d ru e h z = rw (e, le-leb n m h) (some (marks (d .ends)) z)
-  where
-    some : (b : Bool) → not b && eqb n 0 ≡ false → leb 1 n || b ≡ true
-    some true w = split (leb 1 n) (λ y. rw y) (λ y. rw y)
-    some false w =
-        let f = eqb-false n 0 w in
-        rw (le-leb 1 n (omega (arith, f)))
-
 -- ---- as the sending end
 
 module _ (s : Station) (i : Inside) (line : List (List ℕ)) (st : Stream (outsideOf s) i line) where
@@ -111,7 +65,7 @@ module _ (s : Station) (i : Inside) (line : List (List ℕ)) (st : Stream (outsi
       (full-good (e .sending .max) d (spilledRu s bytes) (spilled-length s bytes a k) (facts e (a .good) .sending .max .least)) refl
       (begins-first (e .control)) (λ x w. refl) in
       same-held (take (length bytes - gone e) (front rest (s .send))) (placeOr (e .sending .given) (walk (e .sending .given) bytes))
-      (held-rest (length bytes - gone e) rest (s .send) (sym (length-drop (gone e) bytes))) (ap (placeOr (e .sending .given)) (a .walked)) sent
+      (front-of (length bytes - gone e) rest (s .send) (sym (length-drop (gone e) bytes))) (ap (placeOr (e .sending .given)) (a .walked)) sent
 
   last : (f : Follows) (c : Bool) → CloseAsked s f c → nothingGoes (s .end) f c ≡ false
       → Stream (outsideOf (record { end = lastMade (s .end) f c (s .send) .end; send = s .send; unit = s .unit; inbox = s .inbox }))
@@ -137,7 +91,7 @@ module _ (s : Station) (i : Inside) (line : List (List ℕ)) (st : Stream (outsi
       let shut = closed-outside-send c (facts (s .end) g .control) (reset-not-send (c .state) (left (isReset (c .state)) _ a)) in
       same-chain _ (allocate-moves c (control-within (s .end) g) a .out) (stream-bid (paced (s .end .sending .window)) st refl shut))
   stream-acts Verb.confirmed = confirmed-cases (Laned After) s (λ q n. rw append-nil st) (λ g a. stream-response (s .end .owed) Confirmation st refl)
-  stream-acts Verb.sendPacingResponse = pace-cases (Laned After) s (λ q n. rw append-nil st) (λ g a. stream-response 0 PacingResponse st refl)
+  stream-acts Verb.sendPacingResponse = pacing-response-cases (Laned After) s (λ q n. rw append-nil st) (λ g a. stream-response 0 PacingResponse st refl)
   stream-acts (Verb.sendData bytes) =
       let o = s .end .sending in
       send-cases (Laned After) s bytes (λ q n. rw append-nil st)
@@ -146,7 +100,7 @@ module _ (s : Station) (i : Inside) (line : List (List ℕ)) (st : Stream (outsi
       let b = a .buffer in
       rw append-nil
       (same-held (take (o .held + length bytes) (written (o .held) bytes (s .send))) (placeOr (o .given) (walk (o .given) bytes))
-      (held-more (o .held) bytes (s .send) (omega arith)) (ap (placeOr (o .given)) (a .walked)) (stream-keep bytes (a .place) st (a .walked))))
+      (written-bytes (o .held) bytes (s .send) (omega arith)) (ap (placeOr (o .given)) (a .walked)) (stream-keep bytes (a .place) st (a .walked))))
       (λ a k h. spill bytes a k)
   stream-acts (Verb.close f c) = close-cases (Laned After) s f c (λ q n. rw append-nil st) (λ a n. rw append-nil st) (λ a n k. last f c a n)
   stream-acts (Verb.receive buffer) =
@@ -177,7 +131,7 @@ module _ (s : Station) (o : Outside) (back : List (List ℕ)) where
       allocate-cases (Laned AfterIn) s (λ q n. st) (λ g a w. same-link _ (allocate-moves c (control-within (s .end) g) a .into) st)
       (λ g a w k. same-link _ (allocate-moves c (control-within (s .end) g) a .into) st)
   stream-in-acts st Verb.confirmed = confirmed-cases (Laned AfterIn) s (λ q n. st) (λ g a. st)
-  stream-in-acts st Verb.sendPacingResponse = pace-cases (Laned AfterIn) s (λ q n. st) (λ g a. st)
+  stream-in-acts st Verb.sendPacingResponse = pacing-response-cases (Laned AfterIn) s (λ q n. st) (λ g a. st)
   stream-in-acts st (Verb.sendData bytes) = send-cases (Laned AfterIn) s bytes (λ q n. st) (λ a k. st) (λ a k h. st)
   stream-in-acts st (Verb.close f c) =
       close-cases (Laned AfterIn) s f c (λ q n. st) (λ a n. st) (λ a n k. same-link _ (closed-in f c (s .end .control)) st)

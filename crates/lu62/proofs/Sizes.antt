@@ -1,12 +1,10 @@
 -- The lengths in an answer fit 32 bits: a unit made is short, by the law of each call, and a read copies at most what is held.
 -- Assumes nothing.
-use Prim.Native.Nat.{ℕ, _<_, _≤_, min}
+use Prim.Native.Nat.{ℕ, _<_}
 use mathlib.Core.Bool.{Bool, true, false, cond}
 use mathlib.Core.List.{List, []}
-use native.Mathlib.Nat.{min-le-left, min-le-right}
 use native.Mathlib.Omega.{arith}
 use lib.Dec.{eqb}
-use lib.ListN.{length}
 use Rattle.header.specs.declared.Follows.{Follows}
 use Rattle.session.specs.OpeningQuestions.{openingRefusal}
 use Rattle.session.specs.declared.Session.{Session}
@@ -17,12 +15,12 @@ use Rattle.end.specs.Close.{close}
 use Rattle.end.specs.Confirmed.{confirmed}
 use Rattle.end.specs.SendPacingResponse.{sendPacingResponse}
 use Rattle.end.specs.ReceiveUnit.{receiveUnit}
-use Rattle.end.specs.Receive.{recordRest, copyCount, bytesRead, markRead, receive}
-use Rattle.receiving.specs.BytesRead.{restBytes}
+use Rattle.end.specs.Receive.{bytesRead, markRead, receive}
 use Rattle.end.specs.declared.End.{End}
 use Rattle.end.specs.declared.Done.{Done}
 use Rattle.calls.specs.Calls.{Station, Verb, Called, called, taken}
 use Rattle.calls.proofs.CallCases.{read-cases}
+use Rattle.calls.proofs.CallBytes.{count-held}
 use Rattle.calls.proofs.UnitSizes.{Fits, acts-fit, takes-fit}
 
 -- one more than the greatest number of 32 bits
@@ -52,9 +50,9 @@ pub confirmed-small : (e : End) (unit : List ℕ) → confirmed e unit .done .an
 unfolding called
 confirmed-small e unit = word _ _ (acts-fit (at e [] unit []) Verb.confirmed)
 
-pub pace-small : (e : End) (unit : List ℕ) → sendPacingResponse e unit .done .answer .unit < WORD
+pub pacing-response-small : (e : End) (unit : List ℕ) → sendPacingResponse e unit .done .answer .unit < WORD
 unfolding called
-pace-small e unit = word _ _ (acts-fit (at e [] unit []) Verb.sendPacingResponse)
+pacing-response-small e unit = word _ _ (acts-fit (at e [] unit []) Verb.sendPacingResponse)
 
 pub close-small : (f : Follows) (asked : Bool) (e : End) (send unit : List ℕ) → close f asked e send unit .done .answer .unit < WORD
 unfolding called
@@ -74,16 +72,10 @@ module _ (e : End) (inbox buffer : List ℕ) where
   unfolding called
   read-small = word _ _ (acts-fit (at e [] [] inbox) (Verb.receive buffer))
 
-  copies-held : copyCount e inbox (length buffer) ≤ e .receiving .held
-  unfolding copyCount
-  copies-held =
-      let rest = restBytes (recordRest e inbox) in
-      omega (arith, min-le-right (length buffer) (min (e .receiving .held) rest), min-le-left (e .receiving .held) rest)
-
   pub count-small : e .receiving .held < 65536 → receive e inbox buffer .done .answer .copied < WORD
   unfolding called bytesRead markRead
   count-small h =
       read-cases (λ (m : Called). m .answer .answer .copied < WORD) (at e [] [] inbox) buffer
-      (λ q w n. omega arith) (λ a k. omega (arith, copies-held, h)) (λ a k m. omega arith)
+      (λ q w n. omega arith) (λ a k. omega (arith, count-held (at e [] [] inbox) buffer, h)) (λ a k m. omega arith)
 
-pub ruleset small = (allocate-small, confirmed-small, pace-small, close-small, send-small, take-small, read-small, count-small)
+pub ruleset small = (allocate-small, confirmed-small, pacing-response-small, close-small, send-small, take-small, read-small, count-small)

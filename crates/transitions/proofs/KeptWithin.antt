@@ -92,19 +92,21 @@ bid-checked = refl
 pub bid-keeps : (c : Control) (some none : Bool) → within c some none ≡ true → within (bidReceived c) some none ≡ true
 bid-keeps c some none w = kept any bidReceived bid-checked c some none refl w
 
-grant-checked : keeps positiveResponseFits positiveResponseReceived ≡ true
+positive-response-checked : keeps positiveResponseFits positiveResponseReceived ≡ true
 unfolding keeps controlGood positiveResponseReceived
-grant-checked = refl
+positive-response-checked = refl
 
-pub grant-keeps : (c : Control) (some none : Bool) → positiveResponseFits c ≡ true → within c some none ≡ true → within (positiveResponseReceived c) some none ≡ true
-grant-keeps = kept positiveResponseFits positiveResponseReceived grant-checked
+pub positive-response-keeps :
+    (c : Control) (some none : Bool) → positiveResponseFits c ≡ true → within c some none ≡ true → within (positiveResponseReceived c) some none ≡ true
+positive-response-keeps = kept positiveResponseFits positiveResponseReceived positive-response-checked
 
-refusal-checked : keeps negativeResponseFits negativeResponseReceived ≡ true
+negative-response-checked : keeps negativeResponseFits negativeResponseReceived ≡ true
 unfolding keeps controlGood negativeResponseReceived
-refusal-checked = refl
+negative-response-checked = refl
 
-pub refusal-keeps : (c : Control) (some none : Bool) → negativeResponseFits c ≡ true → within c some none ≡ true → within (negativeResponseReceived c) some none ≡ true
-refusal-keeps = kept negativeResponseFits negativeResponseReceived refusal-checked
+pub negative-response-keeps :
+    (c : Control) (some none : Bool) → negativeResponseFits c ≡ true → within c some none ≡ true → within (negativeResponseReceived c) some none ≡ true
+negative-response-keeps = kept negativeResponseFits negativeResponseReceived negative-response-checked
 
 confirmation-checked : keeps confirmationFits confirmationReceived ≡ true
 unfolding keeps controlGood confirmationReceived

@@ -3,4 +3,5 @@ mod ReadByHeader
 mod Writing
 pub mod WrittenIsRead
 pub mod UnitLaws
+pub mod DataRu
 pub mod MaximumFacts

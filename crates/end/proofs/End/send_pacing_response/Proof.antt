@@ -8,7 +8,7 @@ use Rattle.end.specs.Outcome.{doneOf}
 use Rattle.end.specs.Results.{madeBy}
 use Rattle.end.specs.SendPacingResponse.{sendPacingResponseDecision, sendPacingResponse}
 use Rattle.end.proofs.DecisionCells.{wrote}
-use Rattle.end.proofs.UnitsMade.{pace-makes}
+use Rattle.end.proofs.UnitsMade.{pacing-response-makes}
 use borrow.Author.Needs.{needs}
 use Rattle.end.proofs.End.send_pacing_response.Statement.{statement}
 use Rattle.end.proofs.End.send_pacing_response.Tie as tie
@@ -18,7 +18,7 @@ unfolding sendPacingResponse
 returns c = let a = c .before .before .before .before .before .before .args in
     let d = sendPacingResponseDecision (a .self) (length (now (a .unit))) in
     rw (c .before .before .write-made .ensures, c .before .before .before .before .send-pacing-response-decision .ensures)
-    (ap (λ (cells : List ℕ). madeBy (doneOf d) cells) (wrote d (0) PacingResponse [] (now (a .unit)) (pace-makes (a .self) (length (now (a .unit))))))
+    (ap (λ (cells : List ℕ). madeBy (doneOf d) cells) (wrote d (0) PacingResponse [] (now (a .unit)) (pacing-response-makes (a .self) (length (now (a .unit))))))
 
 pub send-pacing-response-spec : {M : Type 1} → statement M
 send-pacing-response-spec = tie.close (tie.spec (search needs) (search needs) (search needs) returns)
