@@ -10,7 +10,7 @@ use Rattle.calls.proofs.CallWords.{receiveUnit, recordGood, bytesKept, 
 use Rattle.calls.proofs.CallWords.{Station, Verb, called, taken, refusalIn}
 use Rattle.answers.specs.declared.Answer.{Answer}
 use Rattle.end.specs.Outcome.{nothing, lengthOut, accept, answerOf}
-use Rattle.bools.proofs.Tests.{never}
+use mathlib.Core.Bool.{true≢false as never}
 use Rattle.calls.proofs.CallCases.{allocate-cases, close-cases, confirmed-cases, pace-cases, read-cases, send-cases, kind-cases, take-cases}
 use Rattle.calls.proofs.CallCases.{kind-accepted, passes}
 use Rattle.calls.specs.Laws.{Refusals, questions, receiveUnitQuestions}
