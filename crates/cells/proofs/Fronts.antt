@@ -5,7 +5,7 @@ use mathlib.Core.List.{List, [], _++_, append-assoc}
 use Prim.Native.Nat.{ℕ, _+_, _≤_}
 use native.Mathlib.Omega.{arith}
 use lib.ListN.{length, take, drop, length-append, length-drop, length-take, take-append-drop}
-use lib.Seq.{take-append-seam, drop-append-seam, drop-drop, take-append-le, length-take-le, take-all, take-at, drop-at}
+use lib.Seq.{take-append-seam, drop-drop, length-take-le, take-at}
 use Rattle.cells.specs.Cells.{front, written}
 
 -- a buffer keeps its length

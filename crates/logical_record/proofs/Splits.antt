@@ -100,11 +100,6 @@ pending-none BadLength part (x ∷ bs) q f e b = absurd (at-not-bad q (sym e))
 pub pending-empty : (bs : List ℕ) → walk start bs ≡ At start → pending bs ≡ []
 pending-empty bs e = pending-none (At start) [] bs start (λ _. refl) e refl
 
-pub whole-stream-bytes : (bs : List ℕ) → walk start bs ≡ At start → joined (wholeRecords bs) ≡ bs
-whole-stream-bytes bs e =
-    sym (append-nil (joined (wholeRecords bs)))
-    ∙ (ap (λ (cs : List ℕ). joined (wholeRecords bs) ++ cs) (sym (pending-empty bs e)) ∙ whole-records-bytes bs)
-
 pub whole-stream-append :
     (a b : List ℕ) → walk start a ≡ At start → wholeRecords (a ++ b) ≡ wholeRecords a ++ wholeRecords b
 whole-stream-append a b e = whole-records-append a b ∙ rw (e, pending-empty a e)
