@@ -19,7 +19,7 @@ use Rattle.logical_record.specs.declared.Walked.the-variants.{At}
 use Rattle.logical_record.specs.declared.Walked.the-variants as walked
 use Rattle.logical_record.specs.declared.Rest.{Rest}
 use Rattle.logical_record.specs.declared.Rest.the-variants.{Bytes, BadLength}
-use Rattle.logical_record.proofs.Facts.{length-bounds, remaining-some, between-remaining, eqb-none}
+use Rattle.logical_record.proofs.BytesLeft.{length-bounds, remaining-some, between-remaining, eqb-none}
 use Rattle.logical_record.proofs.Walks.{walk-bad, at-not-bad}
 use Rattle.logical_record.proofs.RecordEnds.{Inside, walk-data, walk-after-first, walk-front}
 use Rattle.bools.proofs.Tests.{both}

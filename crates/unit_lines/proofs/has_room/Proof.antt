@@ -1,6 +1,6 @@
 use mathlib.Core.Path.{sym}
 use native.Mathlib.Omega.{arith}
-use Rattle.unit_lines.proofs.Held.{room-is, no-room}
+use Rattle.unit_lines.proofs.PutAndRemoved.{room-is, no-room}
 use Rattle.unit_lines.proofs.has_room.Statement.{statement}
 use Rattle.unit_lines.proofs.has_room.Tie as tie
 

@@ -2,7 +2,7 @@ use mathlib.Core.Path.{_≡_, sym, subst}
 use Prim.Native.Nat.{ℕ, _+_, _*_}
 use denote.Ref.{now}
 use Rattle.unit_lines.specs.UnitLine.{oldestEnd, UnitTo}
-use Rattle.unit_lines.proofs.Held.{unit-stands}
+use Rattle.unit_lines.proofs.PutAndRemoved.{unit-stands}
 use borrow.Author.Needs.{needs}
 use Rattle.unit_lines.proofs.oldest_end.Statement.{statement}
 use Rattle.unit_lines.proofs.oldest_end.Tie as tie

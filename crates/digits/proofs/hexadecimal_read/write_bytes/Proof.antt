@@ -9,7 +9,7 @@ use lib.Seq.{paste, paste-zero}
 use denote.Ref.{now}
 use borrow.Author.Needs.{needs}
 use Rattle.digits.specs.HexadecimalRead.{bytesOf}
-use Rattle.digits.proofs.BytesGiven.{half}
+use Rattle.digits.proofs.HexadecimalBytes.{half}
 use Rattle.cells.proofs.Moves.{moved-all}
 use Rattle.digits.proofs.Pairs.{byte-at, written-more}
 use Rattle.digits.proofs.hexadecimal_read.write_bytes.Statement.{statement}

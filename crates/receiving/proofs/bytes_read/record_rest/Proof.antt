@@ -2,7 +2,7 @@ use mathlib.Core.Path.{sym}
 use native.Mathlib.Omega.{arith}
 use lib.Seq.{length-take-le}
 use denote.Ref.{now}
-use Rattle.receiving.proofs.Most.{take-least}
+use Rattle.receiving.proofs.TakeAtMost.{take-least}
 use borrow.Author.Needs.{needs}
 use Rattle.receiving.proofs.bytes_read.record_rest.Statement.{statement}
 use Rattle.receiving.proofs.bytes_read.record_rest.Tie as tie

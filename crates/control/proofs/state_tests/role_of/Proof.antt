@@ -1,6 +1,6 @@
 use borrow.Author.Tests.{eq-eqb, ne-eqb}
-use Rattle.control.proofs.tests.role_of.Statement.{statement}
-use Rattle.control.proofs.tests.role_of.Tie as tie
+use Rattle.control.proofs.state_tests.role_of.Statement.{statement}
+use Rattle.control.proofs.state_tests.role_of.Tie as tie
 
 returns : tie.Need-returns
 returns c = rw (eq-eqb _ _ (c .if1 .taken))

@@ -16,7 +16,7 @@ use Rattle.logical_record.specs.declared.Position.{Position}
 use Rattle.logical_record.specs.declared.Position.the-variants.{Between, AfterFirst, Remaining}
 use Rattle.logical_record.specs.declared.Walked.{Walked}
 use Rattle.logical_record.specs.declared.Walked.the-variants.{At, BadLength}
-use Rattle.logical_record.proofs.Facts.{length-bounds, remaining-some}
+use Rattle.logical_record.proofs.BytesLeft.{length-bounds, remaining-some}
 use Rattle.logical_record.proofs.Walks.{at-not-bad}
 use Rattle.logical_record.proofs.RecordEnds.{record-parts, record-ends}
 use Rattle.bools.proofs.Tests.{both}

@@ -1,4 +1,4 @@
--- Facts of tests, and the record places that a number of bytes left gives.
+-- What a good LL bounds, and the record places that a number of bytes left gives.
 -- Assumes nothing.
 use mathlib.Core.Path.{_≡_, refl}
 use mathlib.Core.Bool.{Bool, true, false}
