@@ -1,3 +1,5 @@
+-- `unit_lines::oldest_end` meets its contract. The two bytes of the length are read, and `stands` says whether a unit ends there.
+-- Assumes nothing.
 use mathlib.Core.Path.{_≡_, sym, subst}
 use Prim.Native.Nat.{ℕ, _+_, _*_}
 use denote.Ref.{now}

@@ -1,3 +1,5 @@
+-- `unit_lines::put` meets its contract. With room the frame stands behind the cells used; without it nothing changes.
+-- Assumes nothing.
 use Prim.Native.Nat.{_+_, _≤_, _<_}
 use mathlib.Core.Path.{refl, sym, _∙_}
 use native.Mathlib.Omega.{arith}

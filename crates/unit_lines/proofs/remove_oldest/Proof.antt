@@ -1,3 +1,5 @@
+-- `unit_lines::remove_oldest` meets its contract. Where no unit stands nothing changes; else the others move to the front.
+-- Assumes nothing.
 use mathlib.Core.Path.{refl, sym, _∙_}
 use native.Mathlib.Omega.{arith}
 use denote.Ref.{now}

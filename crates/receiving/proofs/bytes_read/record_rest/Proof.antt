@@ -1,3 +1,5 @@
+-- `receiving::bytes_read::record_rest` meets its contract. As many bytes are looked at as are held, by `take-least`.
+-- Assumes nothing.
 use mathlib.Core.Path.{sym}
 use native.Mathlib.Omega.{arith}
 use lib.Seq.{length-take-le}
