@@ -4,19 +4,11 @@ use mathlib.Core.Path.{_≡_, refl, subst}
 use mathlib.Core.Bool.{Bool, true, false, not, cond, _&&_}
 use mathlib.Core.List.{List, [], _∷_}
 use Prim.Native.Nat.{ℕ, zero, suc}
-use native.Mathlib.Omega.{arith}
 use lib.ListN.{getD}
 use lib.Dec.{T, eqb}
 use borrow.Author.Tests.{ne-eqb}
+use Rattle.bools.proofs.Tests.{both-tt}
 use Rattle.answers.specs.FirstNo.{firstNo, thenAsk}
-
-pub both-left : (a b : Bool) → T (a && b) → T a
-both-left true b t = tt
-both-left false b t = t
-
-pub both-right : (a b : Bool) → T (a && b) → T b
-both-right true b t = t
-both-right false b t = absurd t
 
 -- no question has the number 0, which says that a call is accepted
 abbrev pub numbered : List (Bool × ℕ) → Bool
@@ -36,9 +28,9 @@ one false rest n t e = absurd (subst (λ (k : ℕ). T (not (eqb k 0))) e t)
 pub yes : (qs : List (Bool × ℕ)) → T (numbered qs) → firstNo qs ≡ 0 → (k : ℕ) → getD (outcomes qs) k true ≡ true
 yes [] t e k = refl
 yes (q ∷ qs) t e k =
-    let l = both-left (not (eqb (q .1) 0)) (numbered qs) t in
-    let o = one (q .0) (firstNo qs) (q .1) l e in
-    at-place (q .0) (outcomes qs) k (o .0) (yes qs (both-right (not (eqb (q .1) 0)) (numbered qs) t) (o .1))
+    let p = both-tt (not (eqb (q .1) 0)) (numbered qs) t in
+    let o = one (q .0) (firstNo qs) (q .1) (p .0) e in
+    at-place (q .0) (outcomes qs) k (o .0) (yes qs (p .1) (o .1))
   where
     at-place : (a : Bool) (bs : List Bool) (k : ℕ) → a ≡ true → ((j : ℕ) → getD bs j true ≡ true) → getD (a ∷ bs) k true ≡ true
     at-place a bs zero h f = h
@@ -65,5 +57,5 @@ first-asked false n qs t h = stands n qs (λ z. subst (λ (k : ℕ). T (not (eqb
 pub in-order : (qs : List (Bool × ℕ)) → T (numbered qs) → asked 0 qs ≡ firstNo qs
 in-order [] t = refl
 in-order (q ∷ qs) t =
-    first-asked (q .0) (q .1) qs (both-left (not (eqb (q .1) 0)) (numbered qs) t)
-    (in-order qs (both-right (not (eqb (q .1) 0)) (numbered qs) t))
+    let p = both-tt (not (eqb (q .1) 0)) (numbered qs) t in
+    first-asked (q .0) (q .1) qs (p .0) (in-order qs (p .1))

@@ -9,8 +9,8 @@ use lib.ListN.{getD}
 use lib.Dec.{T, eqb}
 use borrow.Author.Tests.{eq-eqb}
 use Rattle.answers.specs.FirstNo.{firstNo}
-use Rattle.bools.proofs.Tests.{both}
-use Rattle.answers.proofs.Rows.{both-left, both-right, one, numbered, outcomes}
+use Rattle.bools.proofs.Tests.{both, both-tt}
+use Rattle.answers.proofs.Rows.{one, numbered, outcomes}
 
 -- the first part is passed
 pub pass : (xs ys : List (Bool × ℕ)) → ((k : ℕ) → getD (outcomes xs) k true ≡ true) → firstNo (xs ++ ys) ≡ firstNo ys
@@ -30,8 +30,9 @@ stop (q ∷ xs) ys h = stop-one (q .0) (firstNo xs) (firstNo (xs ++ ys)) (q .1) 
 pub pass-both : (xs ys : List (Bool × ℕ)) → T (numbered xs) → firstNo (xs ++ ys) ≡ 0 → (firstNo xs ≡ 0) × (firstNo ys ≡ 0)
 pass-both [] ys t e = (refl, e)
 pass-both (q ∷ xs) ys t e =
-    let o = one (q .0) (firstNo (xs ++ ys)) (q .1) (both-left (not (eqb (q .1) 0)) (numbered xs) t) e in
-    let p = pass-both xs ys (both-right (not (eqb (q .1) 0)) (numbered xs) t) (o .1) in
+    let n = both-tt (not (eqb (q .1) 0)) (numbered xs) t in
+    let o = one (q .0) (firstNo (xs ++ ys)) (q .1) (n .0) e in
+    let p = pass-both xs ys (n .1) (o .1) in
     (subst (λ (b : Bool). cond b (firstNo xs) (q .1) ≡ 0) (sym (o .0)) (p .0), p .1)
 
 -- no question of a row has the number n

@@ -1,3 +1,3 @@
-pub mod Tests
 pub mod Cases
+pub mod Tests
 pub mod Finite

@@ -9,7 +9,7 @@ use lib.ListN.{length-append, take-append-drop}
 use lib.Seq.{length-take-le}
 use borrow.Author.Tests.{leb-false}
 use Rattle.bools.proofs.Cases.{split}
-use Rattle.bools.proofs.Tests.{never}
+use mathlib.Core.Bool.{true≢false as never}
 use Rattle.cells.proofs.Fronts.{copied-front, held-parts, moved-front}
 use Rattle.header.specs.declared.Follows.the-variants.{Stay, ChangeDirection, EndBracket}
 use Rattle.unit.specs.Ru.{marks}

@@ -10,7 +10,8 @@ use Rattle.calls.proofs.CallWords.{receive, ruReceived, headerReceived,
 use Rattle.calls.proofs.CallWords.{bytesSpilled, sendRefusal, sendDecision, sendData, End, ReadDone, Called, Station, Verb, called, taken, refusalIn}
 use Rattle.answers.specs.declared.Answer.{Answer}
 use Rattle.end.specs.Outcome.{nothing, lengthOut, accept, answerOf}
-use Rattle.bools.proofs.Tests.{never, off}
+use mathlib.Core.Bool.{true≢false as never}
+use Rattle.bools.proofs.Tests.{off}
 use Rattle.calls.proofs.CallCases.{allocate-cases, close-cases, confirmed-cases, pacing-response-cases, read-cases, send-cases, kind-cases, take-cases}
 use Rattle.calls.proofs.CallCases.{kind-accepted, passes}
 use Rattle.calls.specs.Laws.{Refusals, questions, receiveUnitQuestions}

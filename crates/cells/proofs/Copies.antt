@@ -40,8 +40,3 @@ front-within h bs cells after l s e =
       ← drop-append-le (length bs) (take h cells) (drop h cells) (omega arith),
       take-append-drop h cells,
     )
-
--- what stands at the front already
-pub front-same : (h : ℕ) (cells : List ℕ) → h ≤ length cells → front (take h cells) cells ≡ cells
-unfolding front
-front-same h cells l = rw (length-take-le h cells l) (take-append-drop h cells)

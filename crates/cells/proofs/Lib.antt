@@ -1,4 +1,4 @@
-mod Moves
+pub mod Moves
 pub mod Fronts
 pub mod PartLent
 pub mod Copies

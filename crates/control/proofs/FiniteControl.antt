@@ -4,7 +4,7 @@ use mathlib.Core.Path.{_≡_, refl}
 use mathlib.Core.Bool.{Bool, true, _&&_}
 use Rattle.bools.proofs.Finite.{Finite, halves, pairs, covered, bools}
 use Rattle.header.specs.declared.Follows.{Follows}
-use Rattle.header.specs.declared.Follows.the-variants.{Stay, ChangeDirection, EndBracket}
+use Rattle.header.proofs.FiniteHeader.{follows}
 use Rattle.control.specs.declared.Role.{Role}
 use Rattle.control.specs.declared.Role.the-variants.{FirstSpeaker, Bidder}
 use Rattle.control.specs.declared.State.{State}
@@ -32,17 +32,6 @@ at-state f t ConfirmAwaited = search halves
 
 abbrev pub states : Finite State
 states = record { all = allStates; at = at-state }
-
-abbrev pub allFollows : (Follows → Bool) → Bool
-allFollows f = f Stay && (f ChangeDirection && f EndBracket)
-
-pub at-follows : (f : Follows → Bool) → allFollows f ≡ true → (w : Follows) → f w ≡ true
-at-follows f t Stay = search halves
-at-follows f t ChangeDirection = search halves
-at-follows f t EndBracket = search halves
-
-abbrev pub follows : Finite Follows
-follows = record { all = allFollows; at = at-follows }
 
 abbrev pub allMarks : (WhatReceived → Bool) → Bool
 allMarks f = f mark.Nothing && (f mark.Turn && (f mark.End && (f mark.Confirm && (f mark.ConfirmTurn && f mark.ConfirmEnd))))

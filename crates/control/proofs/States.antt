@@ -2,7 +2,7 @@
 -- Assumes nothing.
 use mathlib.Core.Path.{_≡_, refl, sym}
 use mathlib.Core.Bool.{Bool, true, false, _&&_, _||_}
-use Rattle.bools.proofs.Tests.{never}
+use Rattle.bools.proofs.Cases.{never}
 use Rattle.control.specs.StateTests.{isFirstSpeaker, isBidder, isReset, isSend, isReceive, isConfirmOwed, isConfirmAwaited, isNothing}
 use Rattle.control.specs.declared.Role.{Role}
 use Rattle.control.specs.declared.Role.the-variants.{FirstSpeaker, Bidder}
@@ -14,11 +14,11 @@ use Rattle.control.specs.declared.WhatReceived.the-variants as mark
 -- ---- which it is
 
 pub send-is : (s : State) → isSend s ≡ true → s ≡ Send
-send-is Reset e = absurd (never (sym e))
+send-is Reset e = never e
 send-is Send e = refl
-send-is Receive e = absurd (never (sym e))
-send-is ConfirmOwed e = absurd (never (sym e))
-send-is ConfirmAwaited e = absurd (never (sym e))
+send-is Receive e = never e
+send-is ConfirmOwed e = never e
+send-is ConfirmAwaited e = never e
 
 pub state-is : (s : State)
     → (isReset s ≡ true → s ≡ Reset) × (isReceive s ≡ true → s ≡ Receive) × (isConfirmOwed s ≡ true → s ≡ ConfirmOwed)
@@ -31,11 +31,11 @@ state-is ConfirmAwaited = (λ e. cc, λ e. cc, λ e. cc, λ e. refl)
 
 pub nothing-is : (m : WhatReceived) → isNothing m ≡ true → m ≡ mark.Nothing
 nothing-is mark.Nothing e = refl
-nothing-is mark.Turn e = absurd (never (sym e))
-nothing-is mark.End e = absurd (never (sym e))
-nothing-is mark.Confirm e = absurd (never (sym e))
-nothing-is mark.ConfirmTurn e = absurd (never (sym e))
-nothing-is mark.ConfirmEnd e = absurd (never (sym e))
+nothing-is mark.Turn e = never e
+nothing-is mark.End e = never e
+nothing-is mark.Confirm e = never e
+nothing-is mark.ConfirmTurn e = never e
+nothing-is mark.ConfirmEnd e = never e
 
 -- ---- which it is not
 
@@ -45,36 +45,15 @@ bidder-not-first Bidder e = refl
 
 pub reset-not-send : (s : State) → isReset s ≡ true → isSend s ≡ false
 reset-not-send Reset e = refl
-reset-not-send Send e = absurd (never (sym e))
+reset-not-send Send e = never e
 reset-not-send Receive e = refl
 reset-not-send ConfirmOwed e = refl
 reset-not-send ConfirmAwaited e = refl
 
-pub receive-not-send : (s : State) → isReceive s ≡ true → isSend s ≡ false
-receive-not-send Reset e = refl
-receive-not-send Send e = absurd (never (sym e))
-receive-not-send Receive e = refl
-receive-not-send ConfirmOwed e = refl
-receive-not-send ConfirmAwaited e = refl
-
-pub owed-not-send : (s : State) → isConfirmOwed s ≡ true → isSend s ≡ false
-owed-not-send Reset e = refl
-owed-not-send Send e = absurd (never (sym e))
-owed-not-send Receive e = refl
-owed-not-send ConfirmOwed e = refl
-owed-not-send ConfirmAwaited e = refl
-
-pub awaited-not-send : (s : State) → isConfirmAwaited s ≡ true → isSend s ≡ false
-awaited-not-send Reset e = refl
-awaited-not-send Send e = absurd (never (sym e))
-awaited-not-send Receive e = refl
-awaited-not-send ConfirmOwed e = refl
-awaited-not-send ConfirmAwaited e = refl
-
 -- 26: data comes only outside Send
 pub fits-not-send : (s : State) (b : Bool) → isReceive s || (isReset s && b) ≡ true → isSend s ≡ false
 fits-not-send Reset b e = refl
-fits-not-send Send b e = absurd (never (sym e))
+fits-not-send Send b e = never e
 fits-not-send Receive b e = refl
 fits-not-send ConfirmOwed b e = refl
 fits-not-send ConfirmAwaited b e = refl

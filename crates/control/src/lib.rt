@@ -3,7 +3,7 @@
 
 mod field_changed;
 pub mod questions;
-pub mod tests;
+pub mod state_tests;
 
 // Document 01's role.
 pub enum Role {

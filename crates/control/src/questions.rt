@@ -1,14 +1,14 @@
 // What question 5 and the calls ask of the finite part.
 use crate::Control;
-use crate::tests::agree;
-use crate::tests::is_bidder;
-use crate::tests::is_confirm_awaited;
-use crate::tests::is_confirm_owed;
-use crate::tests::is_first_speaker;
-use crate::tests::is_nothing;
-use crate::tests::is_receive;
-use crate::tests::is_reset;
-use crate::tests::is_send;
+use crate::state_tests::agree;
+use crate::state_tests::is_bidder;
+use crate::state_tests::is_confirm_awaited;
+use crate::state_tests::is_confirm_owed;
+use crate::state_tests::is_first_speaker;
+use crate::state_tests::is_nothing;
+use crate::state_tests::is_receive;
+use crate::state_tests::is_reset;
+use crate::state_tests::is_send;
 ghost use mathlib.Core.Path.{_≡_};
 ghost use Rattle.control.specs.StateTests.{isFirstSpeaker, isNothing};
 ghost use Rattle.control.specs.Within.{markInReceive, dueInSend, bidAtBidder, chainInSend, controlGood};

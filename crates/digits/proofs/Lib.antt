@@ -1,5 +1,5 @@
 mod DecimalDigits
-mod BytesGiven
+mod HexadecimalBytes
 pub mod Pairs
 mod PrintedDigits
 pub mod Puts

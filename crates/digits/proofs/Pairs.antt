@@ -9,9 +9,8 @@ use native.Mathlib.Numerals.{add-one}
 use native.Mathlib.Omega.{arith}
 use lib.Dec.{leb}
 use lib.ListN.{length, getD, set, drop, drop-of-length-le}
-use lib.Seq.{drop-cons, paste, paste-suc, take-length}
+use lib.Seq.{drop-cons, paste, paste-suc}
 use borrow.Author.Tests.{leb-true}
-use Rattle.cells.specs.Cells.{front}
 use Rattle.bools.proofs.Tests.{both}
 use Rattle.digits.specs.HexadecimalRead.{isLetter, isPair, byteOf, arePairs, bytesOf}
 
@@ -72,7 +71,3 @@ byte-at (a ∷ b ∷ rest) (suc i) h =
 pub written-more : (cells bs : List ℕ) (i : ℕ) → i < length cells → i < length bs
     → set (paste cells 0 bs i) i (getD bs i 0) ≡ paste cells 0 bs (i + 1)
 written-more cells bs i h l = rw add-one (simp zero-add (simp zero-add at (paste-suc cells 0 bs i 0 (omega arith) l)))
-
-pub written-all : (cells bs : List ℕ) → paste cells 0 bs (length bs) ≡ front bs cells
-unfolding front
-written-all cells bs = simp (take-length, zero-add)

@@ -1,6 +1,6 @@
 -- Question 5, a record within its rules, as facts: taken apart and put together over its parts.
 -- Assumes nothing.
-use Prim.Native.Nat.{_+_, _*_, _≤_}
+use Prim.Native.Nat.{_*_, _≤_}
 use mathlib.Core.Path.{_≡_}
 use mathlib.Core.Bool.{true, _&&_}
 use native.Mathlib.Nat.{le-trans, le-add-right}

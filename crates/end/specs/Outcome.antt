@@ -1,4 +1,4 @@
--- What a call leaves: a pure decision first, and then its cells by one writer.
+-- What a call leaves: a pure decision first, and then the cells of each buffer that it is lent, as the decision has them.
 -- Assumes nothing.
 use Prim.Native.Nat.{ℕ, _+_}
 use mathlib.Core.Bool.{cond}

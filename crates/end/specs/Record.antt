@@ -1,7 +1,7 @@
 -- The end's record: what the paper's section of that name allows (question 5), and what a call may be lent (question 4).
 -- Assumes nothing.
 use Prim.Native.Nat.{ℕ, _+_}
-use mathlib.Core.Bool.{Bool, _&&_, _||_}
+use mathlib.Core.Bool.{Bool, _&&_}
 use lib.Dec.{eqb, leb}
 use Rattle.pacing.specs.Pacing.{credit}
 use Rattle.control.specs.Within.{controlGood}

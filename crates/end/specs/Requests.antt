@@ -1,4 +1,4 @@
--- Requests, made and taken: numbers and windows; and the data units that an end makes.
+-- The header of the data unit that an end makes next.
 -- Assumes nothing.
 use Rattle.header.specs.declared.ChainEnd.{ChainEnd}
 use Rattle.header.specs.declared.Header.{Header}
@@ -7,6 +7,6 @@ use Rattle.pacing.specs.Pacing.{paced}
 use Rattle.transitions.specs.Transitions.{beginOf}
 use Rattle.end.specs.declared.End.{End}
 
--- the header of a data unit that an end makes next
+-- it begins as the finite part says and carries the pacing bit as the window says
 unfoldable pub dataHeader : End → ChainEnd → Header
 dataHeader e ends = Data (record { begins = beginOf (e .control); ends = ends; pacing = paced (e .sending .window) })

@@ -1,7 +1,7 @@
 -- Send data, 1 to M bytes, in Send. If held plus new is at most M they are kept; otherwise one unit of the first M bytes goes out, not last in
 -- its chain, and the rest is kept.
 -- Assumes nothing.
-use Prim.Native.Nat.{ℕ, _+_, _-_}
+use Prim.Native.Nat.{ℕ, _-_}
 use mathlib.Core.Bool.{Bool, cond, _&&_, _||_}
 use mathlib.Core.List.{List, [], _∷_, _++_}
 use lib.Dec.{eqb, leb}

@@ -11,7 +11,7 @@ pub mod results;
 mod send_data;
 mod send_pacing_response;
 mod unit_effects;
-mod unit_questions;
+mod unit_refusals;
 
 pub use answers::Answer;
 pub use answers::ReadAnswer;

@@ -5,13 +5,13 @@ use mathlib.Core.Path.{_≡_, refl, sym, ap, _∙_}
 use mathlib.Core.Bool.{Bool, true, false, not, cond, _&&_, _||_}
 use mathlib.Core.List.{[], _∷_}
 use Prim.Native.Nat.{ℕ, zero, suc, _+_}
-use lib.Dec.{T, leb}
+use lib.Dec.{leb}
 use Rattle.header.specs.Rules.{bytes, oneOf, dataH3, headerGood}
 use Rattle.header.specs.HeaderClaims.{sumBelow, goodHeaders, FortyEight}
 use Rattle.header.specs.declared.HeaderBytes.{HeaderBytes}
-use Rattle.header.proofs.FiniteHeader.{never, holds, follows-from}
 use Rattle.header.proofs.Candidates.{allCandidates, good-at}
-use Rattle.bools.proofs.Tests.{both}
+use Rattle.bools.proofs.Cases.{never}
+use Rattle.bools.proofs.Tests.{both, follows-from}
 
 -- ---- sums
 
@@ -46,14 +46,14 @@ plausible h = head (h .b0) && (answer (h .b0) (h .b1) && bracket (h .b2))
 good-plausible : HeaderBytes → Bool
 good-plausible h = not (headerGood h) || plausible h
 
-all-plausible : T (allCandidates good-plausible)
+all-plausible : allCandidates good-plausible ≡ true
 unfolding good-plausible headerGood head answer bracket
-all-plausible = tt
+all-plausible = refl
 
 plausible-is : (h : HeaderBytes) → headerGood h ≡ true → plausible h ≡ true
 unfolding good-plausible
 plausible-is h g =
-    follows-from (headerGood h) (plausible h) (holds (not (headerGood h) || plausible h) (good-at good-plausible all-plausible h g)) g
+    follows-from (headerGood h) (plausible h) (good-at good-plausible all-plausible h g) g
 
 one : ℕ → ℕ → ℕ → ℕ
 one x y z = cond (headerGood (bytes x y z)) 1 0

@@ -17,6 +17,7 @@ use Rattle.header.specs.declared.HeaderRead.{HeaderRead}
 use Rattle.header.specs.declared.HeaderRead.the-variants.{Good, Breaks}
 use Rattle.header.specs.declared.Rule.{Rule}
 use Rattle.header.specs.declared.Rule.the-variants.{H1, H2, H3, H4, H5, H6}
+use Rattle.bools.proofs.Cases.{split}
 
 -- ---- byte 0 is known
 
@@ -39,10 +40,6 @@ two-rows true true false = refl
 two-rows true false true = refl
 two-rows true false false = refl
 two-rows false b c = or-false (b && c)
-
-split : {P : Type 0} (t : Bool) → (t ≡ true → P) → (t ≡ false → P) → P
-split true f g = f refl
-split false f g = g refl
 
 abbrev goodIf : Header → Bool → HeaderRead
 goodIf f t = cond t (Good f) (Breaks H2)

@@ -11,7 +11,7 @@ use Rattle.header.specs.HeaderClaims.{OnlyH1}
 use Rattle.header.specs.declared.HeaderBytes.{HeaderBytes}
 use Rattle.header.specs.declared.Rule.{Rule}
 use Rattle.header.specs.declared.Rule.the-variants.{H1, H2, H3, H4, H5, H6}
-use Rattle.header.proofs.FiniteHeader.{never}
+use Rattle.bools.proofs.Cases.{never}
 
 -- data keeps H1
 data-head : (x y z : ℕ) → x ≤ 0x03 → keepsH1 (bytes x y z) ≡ true
@@ -21,16 +21,16 @@ data-head (suc (suc zero)) y z h = refl
 data-head (suc (suc (suc zero))) y z h = refl
 data-head (suc (suc (suc (suc n)))) y z h = absurd (omega arith)
 
-or-right : (a b : Bool) → b ≡ true → a || b ≡ true
-or-right true b e = refl
-or-right false b e = e
+or-yes : (a b : Bool) → b ≡ true → a || b ≡ true
+or-yes true b e = refl
+or-yes false b e = e
 
 -- and so does a fixed kind
 fixed-head : (x y z : ℕ) → isFixed (bytes x y z) ≡ true → keepsH1 (bytes x y z) ≡ true
-fixed-head x y z e = or-right (eqb x 0x00) _ (or-right (eqb x 0x01) _ (or-right (eqb x 0x02) _ (or-right (eqb x 0x03) _ e)))
+fixed-head x y z e = or-yes (eqb x 0x00) _ (or-yes (eqb x 0x01) _ (or-yes (eqb x 0x02) _ (or-yes (eqb x 0x03) _ e)))
 
 absent : (a b : Bool) → b ≡ false → (a ≡ true → b ≡ true) → a ≡ false
-absent true b e f = absurd (never (sym e ∙ f refl))
+absent true b e f = never (sym e ∙ f refl)
 absent false b e f = refl
 
 -- a rule of a kind is kept by what is not of the kind

@@ -4,7 +4,7 @@ use mathlib.Core.Path.{_≡_, refl, sym, ap, _∙_}
 use mathlib.Core.Bool.{Bool, true, false, not, cond, _||_}
 use Prim.Native.Nat.{ℕ, _+_}
 use native.Mathlib.Omega.{arith}
-use lib.Dec.{T, leb}
+use lib.Dec.{leb}
 use Rattle.header.specs.Weights.{FIRST, LAST, DR1, DR2, EXCEPTION, PACING, BB, CD, CEB, on, bit}
 use Rattle.header.specs.Rules.{sameHeader, requestsConfirmation, headerGood}
 use Rattle.header.specs.Header.{isFirst, beginsBracket, isLast, confirms, followsOf, turns, endsBracket, dataBytes, headerBytes, beginOf, followOf, endOf, dataFields, fieldsOf, readAs}
@@ -21,18 +21,19 @@ use Rattle.header.specs.declared.Header.the-variants.{Data, Bid, Positiv
 use Rattle.header.specs.declared.HeaderBytes.{HeaderBytes}
 use Rattle.header.specs.declared.HeaderRead.the-variants.{Good, Breaks}
 use Rattle.header.specs.declared.Rule.{Rule}
-use Rattle.header.proofs.FiniteHeader.{holds, follows-from, same-header, allData, at-data}
+use Rattle.bools.proofs.Tests.{follows-from}
+use Rattle.header.proofs.FiniteHeader.{same-header, dataHeaders}
 use Rattle.header.proofs.Candidates.{allCandidates, good-at}
 
 -- ---- the rules hold of every header built
 
-data-good : T (allData (λ d. headerGood (dataBytes d)))
+data-good : dataHeaders .all (λ d. headerGood (dataBytes d)) ≡ true
 unfolding headerGood
-data-good = tt
+data-good = refl
 
 pub built-good : (f : Header) → headerGood (headerBytes f) ≡ true
 unfolding headerBytes headerGood
-built-good (Data d) = holds (headerGood (dataBytes d)) (at-data (λ d. headerGood (dataBytes d)) data-good d)
+built-good (Data d) = dataHeaders .at (λ d. headerGood (dataBytes d)) data-good d
 built-good (Bid true) = refl
 built-good (Bid false) = refl
 built-good PositiveBidResponse = refl
@@ -117,15 +118,15 @@ built-is-read r f = rw (built-good f, built-fields f)
 rebuilt : HeaderBytes → Bool
 rebuilt h = not (headerGood h) || sameHeader (headerBytes (fieldsOf h)) h
 
-every-rebuilt : T (allCandidates rebuilt)
+every-rebuilt : allCandidates rebuilt ≡ true
 unfolding rebuilt headerGood headerBytes fieldsOf
-every-rebuilt = tt
+every-rebuilt = refl
 
 pub read-bytes : (h : HeaderBytes) → headerGood h ≡ true → headerBytes (fieldsOf h) ≡ h
 unfolding rebuilt
 read-bytes h g =
     same-header (headerBytes (fieldsOf h)) h
-    (follows-from (headerGood h) (sameHeader (headerBytes (fieldsOf h)) h) (holds (rebuilt h) (good-at rebuilt every-rebuilt h g)) g)
+    (follows-from (headerGood h) (sameHeader (headerBytes (fieldsOf h)) h) (good-at rebuilt every-rebuilt h g) g)
 
 accepted : (ok : Bool) (f g : Header) (r : Rule) → cond ok (Good g) (Breaks r) ≡ Good f → (ok ≡ true) × (g ≡ f)
 accepted true f g r e = (refl, cc)

@@ -12,7 +12,7 @@ use Rattle.image.specs.ImageParts.{byteAt, flagGood, numberBytes, number
 use Rattle.image.specs.Image.{IMAGE, FORMAT, imageOf, recordIn, controlBytes, controlIn, formatGood, codesGood, flagsGood, placesGood, imageGood, imageRead}
 use Rattle.image.specs.declared.ImageRead.the-variants.{Record}
 use Rattle.image.proofs.BackAndForth.{role-back, state-back, follows-back, mark-back, flag-back, number-back, place-back, role-good, state-good, follows-good, mark-good, flag-good, place-good, role-there, state-there, follows-there, mark-there, flag-there, number-there, place-there}
-use Rattle.image.proofs.Listed.{listed, listed-is, each}
+use Rattle.image.proofs.OneByOne.{listed, listed-is, each}
 use Rattle.image.proofs.WhatIsRead.{record-known}
 
 module _ (e : End) (g : firstByte (e .sending .given) < 256) (t : firstByte (e .receiving .taken) < 256) (r : firstByte (e .receiving .read) < 256) where

@@ -1,5 +1,5 @@
 mod Writes
-mod Listed
+mod OneByOne
 mod KindsFit
 mod BackAndForth
 mod WhatIsRefused

@@ -11,7 +11,7 @@ use Rattle.end.specs.declared.End.{End}
 use Rattle.image.specs.ImageParts.{placeGood}
 use Rattle.image.specs.Image.{IMAGE, formatGood, codesGood, flagsGood, placesGood, recordIn, imageGood, imageRead}
 use Rattle.image.specs.declared.ImageRead.the-variants.{Record, Refused}
-use Rattle.image.proofs.Listed.{one-no}
+use Rattle.image.proofs.OneByOne.{one-no}
 use Rattle.bools.proofs.Tests.{both}
 
 first-no : (f a b d : Bool) → f && (a && b) ≡ false → f && (a && (b && d)) ≡ false

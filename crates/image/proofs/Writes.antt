@@ -6,10 +6,10 @@ use Prim.Native.Nat.{ℕ, suc, _+_, _≤_}
 use native.Mathlib.Numerals.{add-one}
 use native.Mathlib.Nat.{le-of-eq, add-assoc}
 use native.Mathlib.Omega.{arith}
-use lib.ListN.{length, set, take, drop, length-append, take-append-drop, drop-of-length-le}
+use lib.ListN.{length, set, take, drop, length-append, drop-of-length-le}
 use lib.Seq.{sets, sets-eq, drop-drop, length-take-le, take-at, drop-at}
 use Rattle.cells.specs.Cells.{front, written}
-use Rattle.cells.proofs.Fronts.{written-length}
+use Rattle.cells.proofs.Fronts.{written-length, written-none}
 
 pub stored : (vs cells : List ℕ) (at : ℕ) → at + length vs ≤ length cells → sets cells at vs ≡ written at vs cells
 unfolding written front
@@ -24,11 +24,6 @@ pub three-stored : (a b d : ℕ) (cells : List ℕ) (at : ℕ) → at + 3 ≤ le
 three-stored a b d cells at h =
     let e : at + 2 ≡ suc (suc at) = omega arith in
     rw (e, add-one) (stored (a ∷ b ∷ d ∷ []) cells at h)
-
--- nothing written
-written-none : (at : ℕ) (cells : List ℕ) → written at [] cells ≡ cells
-unfolding written front
-written-none at cells = take-append-drop at cells
 
 -- a part right behind another
 behind : (at : ℕ) (a b cells : List ℕ) → at + length a ≤ length cells

@@ -12,7 +12,7 @@ use crate::image_parts::place_good_at;
 use answers::numbers::BAD_BUFFER;
 use answers::numbers::BAD_RECORD;
 use control::Control;
-use control::tests::role_of;
+use control::state_tests::role_of;
 use end::End;
 use end::Receiving;
 use end::Sending;

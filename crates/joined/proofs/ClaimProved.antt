@@ -6,7 +6,7 @@ use Rattle.joined.proofs.JoinedWords.{Bidder, send-is, Session, freshEn
 use Rattle.joined.proofs.JoinedWords.{Buffers, OpeningAccepted, openedWith, openedBoth, bytesInSendBuffer, Log, bytesAccepted, bytesOnLine}
 use Rattle.joined.proofs.JoinedWords.{bytesInInbox, requestsMade, pacingResponsesTaken, breaches, badReads, CompleteIsRight, NoneCrosses, At, Lines}
 use Rattle.logical_record.specs.Records.{wholeRecords}
-use Rattle.logical_record.proofs.Splits.{whole-records-append}
+use Rattle.logical_record.proofs.WholeRecords.{whole-records-append}
 use Rattle.control.specs.StateTests.{roleOf}
 use Rattle.joined.specs.Ends.{JoinedOpenings}
 use Rattle.joined.specs.Histories.{bytesRead}

@@ -21,7 +21,7 @@ use Rattle.control.specs.declared.WhatReceived.the-variants as mark
 use Rattle.end.specs.Receive.{someHeld, receiveQuestions, receiveRefusal, markRead}
 use Rattle.receiving.specs.BytesRead.{restGood}
 use Rattle.joined.specs.Histories as H
-use Rattle.bools.proofs.Tests.{never}
+use mathlib.Core.Bool.{true≢false as never}
 use Rattle.calls.proofs.Credit.{data-asks, none-made, once, other-made, request-made}
 use Rattle.calls.proofs.Refusals.{not-first}
 use Rattle.calls.proofs.ControlMoved.{confirmed-moves}

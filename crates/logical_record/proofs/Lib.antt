@@ -1,6 +1,6 @@
-mod Facts
-mod Turns
+mod BytesLeft
+mod ReadAtIndex
 pub mod Walks
 pub mod RecordEnds
 pub mod Rests
-pub mod Splits
+pub mod WholeRecords

@@ -1,6 +1,6 @@
 -- A walk is between records again exactly at the end of a whole record.
 -- Assumes nothing.
-use mathlib.Core.Path.{_≡_, refl, ap, _∙_}
+use mathlib.Core.Path.{_≡_, ap, _∙_}
 use mathlib.Core.Bool.{true, false}
 use mathlib.Core.List.{List, [], _∷_}
 use Prim.Native.Nat.{ℕ, _-_, _≤_}
@@ -8,32 +8,22 @@ use native.Mathlib.Omega.{arith}
 use lib.ListN.{length}
 use lib.Seq.{drop-length}
 use lib.Dec.{eqb}
-use borrow.Author.Tests.{eqb-true, eq-eqb}
+use borrow.Author.Tests.{eqb-true}
 use Rattle.logical_record.specs.Length.{lengthOf, lengthGood}
 use Rattle.logical_record.specs.Positions.{start, remaining, isBetween}
 use Rattle.logical_record.specs.Walk.{thenWalk, walk}
 use Rattle.logical_record.specs.Records.{isRecord}
 use Rattle.logical_record.specs.declared.Position.{Position}
-use Rattle.logical_record.specs.declared.Position.the-variants.{Between, AfterFirst, Remaining}
+use Rattle.logical_record.specs.declared.Position.the-variants.{AfterFirst}
 use Rattle.logical_record.specs.declared.Walked.the-variants.{At}
 use Rattle.bools.proofs.Tests.{both}
 use Rattle.logical_record.proofs.Walks.{walk-skip}
 
--- the walk ends well
-pub record Reached (p : Position) (bs : List ℕ) : Type 0 where
-  pub position : Position
-  pub reached : walk p bs ≡ At position
-
--- and within a record
+-- the walk ends within a record
 pub record Inside (p : Position) (bs : List ℕ) : Type 0 where
   pub position : Position
   pub reached : walk p bs ≡ At position
   pub inside : isBetween position ≡ false
-
-pub between-is-start : (p : Position) → isBetween p ≡ true → p ≡ start
-between-is-start Between h = refl
-between-is-start (AfterFirst high) h = absurd (let z : _≡_ {A = ℕ} 0 1 = cc in omega arith)
-between-is-start (Remaining n) h = absurd (let z : _≡_ {A = ℕ} 0 1 = cc in omega arith)
 
 -- ---- some of a record's bytes, and how many are then left
 
@@ -59,14 +49,6 @@ unfolding thenWalk
 walk-front high low bs g h = walk-after-first high low bs g h
 
 -- ---- a whole record
-
--- a record is a good LL, and as many bytes as it says
-pub record-of-parts :
-    (high low : ℕ) (bs : List ℕ)
-    → lengthGood (lengthOf high low) ≡ true
-    → length (high ∷ low ∷ bs) ≡ lengthOf high low
-    → isRecord (high ∷ low ∷ bs) ≡ true
-record-of-parts high low bs g l = rw (g, eq-eqb (length (high ∷ low ∷ bs)) (lengthOf high low) l)
 
 pub record-parts :
     (high low : ℕ) (bs : List ℕ)

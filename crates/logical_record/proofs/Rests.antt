@@ -8,9 +8,9 @@ use native.Mathlib.Omega.{arith}
 use lib.ListN.{length, take}
 use lib.Seq.{length-take-le}
 use lib.Dec.{eqb, leb}
-use borrow.Author.Tests.{eq-eqb, ne-eqb, leb-true}
+use borrow.Author.Tests.{ne-eqb, leb-true}
 use Rattle.logical_record.specs.Length.{lengthOf, lengthGood}
-use Rattle.logical_record.specs.Positions.{start, remaining, mostRemaining, isPosition, isBetween}
+use Rattle.logical_record.specs.Positions.{remaining, mostRemaining, isPosition, isBetween}
 use Rattle.logical_record.specs.Walk.{thenWalk, walk}
 use Rattle.logical_record.specs.RestOfRecord.{rest, restGood, lengthMet}
 use Rattle.logical_record.specs.declared.Position.{Position}
@@ -19,9 +19,9 @@ use Rattle.logical_record.specs.declared.Walked.the-variants.{At}
 use Rattle.logical_record.specs.declared.Walked.the-variants as walked
 use Rattle.logical_record.specs.declared.Rest.{Rest}
 use Rattle.logical_record.specs.declared.Rest.the-variants.{Bytes, BadLength}
-use Rattle.logical_record.proofs.Facts.{length-bounds, remaining-some, between-remaining, eqb-none}
+use Rattle.logical_record.proofs.BytesLeft.{length-bounds, remaining-some, between-remaining, eqb-none}
 use Rattle.logical_record.proofs.Walks.{walk-bad, at-not-bad}
-use Rattle.logical_record.proofs.RecordEnds.{Reached, Inside, between-is-start, walk-data, walk-after-first, walk-front}
+use Rattle.logical_record.proofs.RecordEnds.{Inside, walk-data, walk-after-first, walk-front}
 use Rattle.bools.proofs.Tests.{both}
 
 -- what a rest that is a number of bytes says
@@ -85,28 +85,7 @@ read-to (Remaining m) held n k e some h l =
       between = read-data m (length (take k held)) k n (omega arith) h;
     }
 
--- a read is never refused inside
-pub rest-reached :
-    (p : Position) (held : List ℕ) (n k : ℕ) → rest p held ≡ Bytes n → k ≤ n → k ≤ length held → Reached p (take k held)
-unfolding thenWalk
-rest-reached p held n zero e h l = record { position = p; reached = refl }
-rest-reached p held n (suc k) e h l =
-    let t = read-to p held n (suc k) e (omega arith) h l in
-    record { position = t .position; reached = t .reached }
-
--- all of the rest is read, and the record's LL with it: the record ends exactly there
-pub rest-ends :
-    (p : Position) (held : List ℕ) (n : ℕ)
-    → rest p held ≡ Bytes n
-    → lengthMet p held ≡ true
-    → 0 < n
-    → n ≤ length held
-    → walk p (take n held) ≡ At start
-rest-ends p held n e m some l =
-    let t = read-to p held n n e some (omega arith) l in
-    t .reached ∙ ap At (between-is-start (t .position) (t .between ∙ rw (eq-eqb n n refl, m)))
-
--- fewer are read: it does not
+-- with fewer bytes read than the rest has, the record does not end
 pub rest-inside :
     (p : Position) (held : List ℕ) (n k : ℕ)
     → rest p held ≡ Bytes n

@@ -15,7 +15,7 @@ use Rattle.logical_record.specs.declared.Position.{Position}
 use Rattle.logical_record.specs.declared.Position.the-variants.{Between, AfterFirst, Remaining}
 use Rattle.logical_record.specs.declared.Walked.{Walked}
 use Rattle.logical_record.specs.declared.Walked.the-variants.{At, BadLength}
-use Rattle.logical_record.proofs.Facts.{length-bounds, remaining-some, remaining-position}
+use Rattle.logical_record.proofs.BytesLeft.{length-bounds, remaining-some, remaining-position}
 use Rattle.bools.proofs.Tests.{both}
 
 -- ---- two lists, one after the other

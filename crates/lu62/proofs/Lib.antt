@@ -1,3 +1,3 @@
-mod Sizes
-mod Arms
-mod Refused
+mod LengthsFit
+mod CallsOnImage
+mod Untouched

@@ -6,8 +6,8 @@ use mathlib.Core.Bool.{Bool, true, false, cond, _&&_, _||_}
 use native.Mathlib.Omega.{arith}
 use borrow.Author.Tests.{eqb-true, leb-true, leb-false, ltb-true, ne-eqb, le-leb, lt-ltb}
 use lib.Dec.{eqb, leb, ltb}
-use Rattle.bools.proofs.Tests.{never, left, right, join}
-use Rattle.bools.proofs.Cases.{split}
+use Rattle.bools.proofs.Tests.{left, right, join}
+use Rattle.bools.proofs.Cases.{never, split}
 use Rattle.pacing.specs.Pacing as W
 use Rattle.pacing.specs.Pacing.{leastWindow, greatestWindow, sizeGood, windowGood, whole, credit, hasCredit, paced, nextPosition, advanced, answered, freshWindow}
 use Rattle.pacing.specs.declared.Window.{Window}
@@ -117,7 +117,7 @@ request-costs w g h =
 -- a pacing response raises it by the window
 raised : (pending : Bool) (size rest : ℕ) → pending ≡ true → whole false size + rest ≡ whole pending size + rest + size
 raised true size rest e = omega arith
-raised false size rest e = absurd (never (sym e))
+raised false size rest e = never e
 
 pub response-raises : (w : Window) → w .pending ≡ true → credit (answered w) ≡ credit w + w .size
 unfolding credit answered

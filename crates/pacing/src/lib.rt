@@ -1,7 +1,7 @@
 // Pacing of one direction: the window, the position in it, and how many requests may still go before a pacing response.
 // The same rules serve both directions: the sending end counts its credit by them, the receiving end what it has open.
 ghost use mathlib.Core.Path.{_≡_};
-ghost use Prim.Native.Nat.{_-_, _≤_};
+ghost use Prim.Native.Nat.{_≤_};
 ghost use Rattle.pacing.specs.Pacing.{sizeGood, freshWindow, windowGood, whole, left, credit, hasCredit, paced, nextPosition, advanced, answered};
 
 // `size` is document 01's W; `position` its window place; `pending` is its pacing request unanswered (sending) or answer

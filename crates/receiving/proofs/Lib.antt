@@ -1,2 +1,2 @@
 pub mod ReceivingGood
-mod Most
+mod TakeAtMost

@@ -11,7 +11,7 @@ use answers::numbers::BAD_RESPONSE;
 use answers::numbers::BAD_RU;
 use answers::numbers::BAD_STATE;
 use control::Control;
-use control::tests::agree;
+use control::state_tests::agree;
 use header::ChainEnd;
 use header::DataHeader;
 use header::Header;

@@ -1,4 +1,4 @@
-// Calls refused for what the program asks, 6 to 12.
+// Calls refused for what the program asks, 6 to 13.
 use crossing::named::goes;
 
 const REFUSAL_6_NO_BYTE: [u8; 218] = *b"refusal_6_no_byte\n\

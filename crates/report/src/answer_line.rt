@@ -6,7 +6,7 @@ use crate::answer_words::request_word;
 use answers::numbers::BAD_HEADER;
 use answers::numbers::SHORT_UNIT;
 use control::WhatReceived;
-use control::tests::is_nothing;
+use control::state_tests::is_nothing;
 use digits::printed::decimal;
 use digits::printed::hex_bytes;
 use digits::printed::hex_word;

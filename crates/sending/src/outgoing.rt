@@ -2,7 +2,7 @@
 // has come.
 use crate::Sending;
 use control::Control;
-use control::tests::is_send;
+use control::state_tests::is_send;
 use header::ChainEnd;
 use logical_record::Position;
 use logical_record::Walked;

@@ -2,7 +2,7 @@
 pub mod opening_questions;
 
 use control::Role;
-use control::tests::role_of;
+use control::state_tests::role_of;
 use end::Done;
 use end::End;
 use end::results::accepted;

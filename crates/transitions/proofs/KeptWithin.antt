@@ -1,20 +1,19 @@
 -- Every transition keeps what question 5 says of the finite part and of the bytes held, checked by computation at every value of it.
 -- Assumes nothing.
-use mathlib.Core.Path.{_≡_, refl, sym}
-use mathlib.Core.Bool.{Bool, true, false, not, cond, _&&_, _||_}
-use Rattle.bools.proofs.Tests.{never, left, right, join}
-use Rattle.bools.proofs.Finite.{at-bool, bools}
+use mathlib.Core.Path.{_≡_, refl}
+use mathlib.Core.Bool.{Bool, true, false, not, cond, _&&_}
+use Rattle.bools.proofs.Cases.{never}
+use Rattle.bools.proofs.Tests.{left, right, join}
+use Rattle.bools.proofs.Finite.{at-bool, bools, pairs}
+use Rattle.header.proofs.FiniteHeader.{follows, ends}
 use Rattle.header.specs.declared.Follows.{Follows}
-use Rattle.header.specs.declared.Follows.the-variants.{Stay, ChangeDirection, EndBracket}
 use Rattle.header.specs.declared.ChainEnd.{ChainEnd}
-use Rattle.header.specs.declared.ChainEnd.the-variants.{Continues, Last}
 use Rattle.control.specs.StateTests.{isSend, isNothing}
 use Rattle.control.specs.Questions.{mayAllocate, maySend, mayConfirm, positiveResponseFits, negativeResponseFits, confirmationFits}
 use Rattle.control.specs.Within.{controlGood}
 use Rattle.control.specs.declared.Role.{Role}
-use Rattle.control.specs.declared.Role.the-variants.{FirstSpeaker, Bidder}
 use Rattle.control.specs.declared.Control.{Control}
-use Rattle.control.proofs.FiniteControl.{controls}
+use Rattle.control.proofs.FiniteControl.{roles, controls}
 use Rattle.control.proofs.Within.{heldFits, within}
 use Rattle.transitions.specs.Transitions.{fresh, allocated, spilled, closed, confirmationMade, markAnswered, dataReceived, bidReceived, positiveResponseReceived, negativeResponseReceived, confirmationReceived}
 
@@ -23,7 +22,7 @@ implies a b = cond a b true
 
 implied : (a b : Bool) → implies a b ≡ true → a ≡ true → b ≡ true
 implied true b e h = e
-implied false b e h = absurd (never (sym h))
+implied false b e h = never h
 
 -- where a question is answered yes, the transition keeps it, the bytes held being as they were
 keeps : (Control → Bool) → (Control → Control) → Bool
@@ -120,15 +119,9 @@ confirmation-keeps = kept confirmationFits confirmationReceived confirmation-che
 abbrev pub notSending : Control → Bool
 notSending c = not (isSend (c .state))
 
-data-checked : (ends : ChainEnd) → keeps notSending (dataReceived ends) ≡ true
+data-checked : (e : ChainEnd) → keeps notSending (dataReceived e) ≡ true
 unfolding keeps controlGood dataReceived
-data-checked Continues = refl
-data-checked (Last Stay true) = refl
-data-checked (Last Stay false) = refl
-data-checked (Last ChangeDirection true) = refl
-data-checked (Last ChangeDirection false) = refl
-data-checked (Last EndBracket true) = refl
-data-checked (Last EndBracket false) = refl
+data-checked = ends .at (λ e. keeps notSending (dataReceived e)) refl
 
 pub data-keeps :
     (ends : ChainEnd) (c : Control) (some none : Bool) → notSending c ≡ true → within c some none ≡ true → within (dataReceived ends c) some none ≡ true
@@ -155,12 +148,7 @@ spilled-leaves = left-so maySend spilled true false spilled-checked
 -- after a last unit none is held
 closed-checked : (f : Follows) (b : Bool) → leaves maySend (closed f b) false true ≡ true
 unfolding leaves controlGood closed
-closed-checked Stay true = refl
-closed-checked Stay false = refl
-closed-checked ChangeDirection true = refl
-closed-checked ChangeDirection false = refl
-closed-checked EndBracket true = refl
-closed-checked EndBracket false = refl
+closed-checked f b = pairs follows bools .at (λ p. leaves maySend (closed (p .0) (p .1)) false true) refl (f, b)
 
 pub closed-leaves : (f : Follows) (b : Bool) (c : Control) → maySend c ≡ true → controlGood c ≡ true → within (closed f b c) false true ≡ true
 closed-leaves f b = left-so maySend (closed f b) false true (closed-checked f b)
@@ -168,5 +156,4 @@ closed-leaves f b = left-so maySend (closed f b) false true (closed-checked f b)
 -- as opened none is held
 pub fresh-within : (r : Role) → within (fresh r) false true ≡ true
 unfolding controlGood
-fresh-within FirstSpeaker = refl
-fresh-within Bidder = refl
+fresh-within = roles .at (λ r. within (fresh r) false true) refl

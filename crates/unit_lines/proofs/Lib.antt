@@ -1,2 +1,2 @@
 mod Frames
-pub mod Held
+pub mod PutAndRemoved

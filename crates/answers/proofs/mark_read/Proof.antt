@@ -1,3 +1,5 @@
+-- `answers::mark_read` meets its contract. It is an accepted answer with the mark of the record, and no byte.
+-- Assumes nothing.
 use borrow.Author.Needs.{needs}
 use Rattle.answers.proofs.mark_read.Statement.{statement}
 use Rattle.answers.proofs.mark_read.Tie as tie

@@ -1,3 +1,5 @@
+-- `answers::read_refuse` meets its contract. The refusal is that of `refuse`, and nothing is copied.
+-- Assumes nothing.
 use borrow.Author.Needs.{needs}
 use Rattle.answers.proofs.read_refuse.Statement.{statement}
 use Rattle.answers.proofs.read_refuse.Tie as tie

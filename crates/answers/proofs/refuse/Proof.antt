@@ -1,3 +1,5 @@
+-- `answers::refuse` meets its contract. Its sense is what `sense_of` finds in the table.
+-- Assumes nothing.
 use borrow.Author.Needs.{needs}
 use Rattle.answers.proofs.refuse.Statement.{statement}
 use Rattle.answers.proofs.refuse.Tie as tie

@@ -1,3 +1,5 @@
+-- `answers::refuse_naming` meets its contract. The sense is what `sense_of` finds, and the rule is what `rule_for` names.
+-- Assumes nothing.
 use borrow.Author.Needs.{needs}
 use Rattle.answers.proofs.refuse_naming.Statement.{statement}
 use Rattle.answers.proofs.refuse_naming.Tie as tie

@@ -1,3 +1,5 @@
+-- `answers::rule_for` meets its contract. At 21 the rule stands, at any other number 0.
+-- Assumes nothing.
 use borrow.Author.Tests.{eq-eqb, ne-eqb}
 use Rattle.answers.proofs.rule_for.Statement.{statement}
 use Rattle.answers.proofs.rule_for.Tie as tie

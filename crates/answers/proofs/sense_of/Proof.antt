@@ -1,3 +1,5 @@
+-- `answers::sense_of` meets its contract. Within the table it is the entry; past its end both sides are 0.
+-- Assumes nothing.
 use mathlib.Core.Path.{sym}
 use native.Mathlib.Omega.{arith}
 use lib.ListN.{List·getD-eq-default}

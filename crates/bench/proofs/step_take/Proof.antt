@@ -9,7 +9,7 @@ use mathlib.Core.List.{[]}
 use Rattle.script.specs.declared.Request.the-variants.{Take}
 use Rattle.unit_lines.specs.UnitLine.{oldestEnd}
 use Rattle.bench.specs.Step.{benchOf}
-use Rattle.unit_lines.proofs.Held.{apart, end-within, none-waits, one-waits}
+use Rattle.unit_lines.proofs.PutAndRemoved.{apart, end-within, none-waits, one-waits}
 use Rattle.bench.proofs.Stepping.{nothing-step, take-step}
 use borrow.Author.Needs.{needs}
 use Rattle.bench.proofs.step_take.Statement.{statement}

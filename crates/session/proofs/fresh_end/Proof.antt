@@ -1,3 +1,5 @@
+-- `session::fresh_end` meets its contract. The finite part and the two sides are each as their crate opens them.
+-- Assumes nothing.
 use borrow.Author.Needs.{needs}
 use Rattle.session.proofs.fresh_end.Statement.{statement}
 use Rattle.session.proofs.fresh_end.Tie as tie

@@ -1,3 +1,5 @@
+-- `session::open_session` meets its contract. Refused, the record is of zeros; else the sizes fit its fields, by the questions passed.
+-- Assumes nothing.
 use mathlib.Core.Path.{sym, _∙_}
 use native.Mathlib.Omega.{arith}
 use borrow.Author.Tests.{eq-eqb, ne-eqb}

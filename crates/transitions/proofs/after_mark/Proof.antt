@@ -1,3 +1,5 @@
+-- `transitions::after_mark` meets its contract. At each mark the fields change as the definition changes them.
+-- Assumes nothing.
 use borrow.Author.Needs.{needs}
 use Rattle.transitions.proofs.after_mark.Statement.{statement}
 use Rattle.transitions.proofs.after_mark.Tie as tie

@@ -1,3 +1,5 @@
+-- `transitions::allocated` meets its contract. Both records are made, field by field, and `choose` picks one by the role.
+-- Assumes nothing.
 use Rattle.transitions.specs.Transitions.{allocated}
 use borrow.Author.Needs.{needs}
 use Rattle.transitions.proofs.allocated.Statement.{statement}

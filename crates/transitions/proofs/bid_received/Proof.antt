@@ -1,3 +1,5 @@
+-- `transitions::bid_received` meets its contract. `choose` picks the record in Receive where the state is Reset, else the same one.
+-- Assumes nothing.
 use Rattle.transitions.specs.Transitions.{bidReceived}
 use borrow.Author.Needs.{needs}
 use Rattle.transitions.proofs.bid_received.Statement.{statement}

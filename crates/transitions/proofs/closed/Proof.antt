@@ -1,3 +1,5 @@
+-- `transitions::closed` meets its contract. `choose` picks the record that waits or the one that goes on, and two flags go off.
+-- Assumes nothing.
 use Rattle.transitions.specs.Transitions.{closed}
 use borrow.Author.Needs.{needs}
 use Rattle.transitions.proofs.closed.Statement.{statement}

@@ -1,3 +1,5 @@
+-- `transitions::confirmation_made` meets its contract. The state is that of `after_owed`.
+-- Assumes nothing.
 use Rattle.transitions.specs.Transitions.{confirmationMade}
 use borrow.Author.Needs.{needs}
 use Rattle.transitions.proofs.confirmation_made.Statement.{statement}

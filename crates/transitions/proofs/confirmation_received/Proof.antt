@@ -1,3 +1,5 @@
+-- `transitions::confirmation_received` meets its contract. The state is that of `after_last`.
+-- Assumes nothing.
 use Rattle.transitions.specs.Transitions.{confirmationReceived}
 use borrow.Author.Needs.{needs}
 use Rattle.transitions.proofs.confirmation_received.Statement.{statement}

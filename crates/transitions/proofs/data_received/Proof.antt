@@ -1,3 +1,5 @@
+-- `transitions::data_received` meets its contract. State, mark and receiving chain change, the last two as `mark_of` and `is_last` have it.
+-- Assumes nothing.
 use Rattle.transitions.specs.Transitions.{dataReceived}
 use borrow.Author.Needs.{needs}
 use Rattle.transitions.proofs.data_received.Statement.{statement}

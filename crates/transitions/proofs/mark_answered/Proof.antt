@@ -1,3 +1,5 @@
+-- `transitions::mark_answered` meets its contract. The record of `after_mark`, with no mark.
+-- Assumes nothing.
 use Rattle.transitions.specs.Transitions.{markAnswered}
 use borrow.Author.Needs.{needs}
 use Rattle.transitions.proofs.mark_answered.Statement.{statement}

@@ -1,3 +1,5 @@
+-- `transitions::mark_of` meets its contract. A unit that is not last leaves none; the mark of a last one is that of `mark_of_last`.
+-- Assumes nothing.
 use borrow.Author.Needs.{needs}
 use Rattle.transitions.proofs.mark_of.Statement.{statement}
 use Rattle.transitions.proofs.mark_of.Tie as tie

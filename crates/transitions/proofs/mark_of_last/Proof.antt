@@ -1,3 +1,5 @@
+-- `transitions::mark_of_last` meets its contract. At each way to go on, `choose_mark` picks one of two marks by the confirmation.
+-- Assumes nothing.
 use borrow.Author.Needs.{needs}
 use Rattle.transitions.proofs.mark_of_last.Statement.{statement}
 use Rattle.transitions.proofs.mark_of_last.Tie as tie

@@ -1,3 +1,5 @@
+-- `transitions::negative_response_received` meets its contract. One flag changes.
+-- Assumes nothing.
 use Rattle.transitions.specs.Transitions.{negativeResponseReceived}
 use borrow.Author.Needs.{needs}
 use Rattle.transitions.proofs.negative_response_received.Statement.{statement}

@@ -1,3 +1,5 @@
+-- `transitions::positive_response_received` meets its contract. A state and one flag change.
+-- Assumes nothing.
 use Rattle.transitions.specs.Transitions.{positiveResponseReceived}
 use borrow.Author.Needs.{needs}
 use Rattle.transitions.proofs.positive_response_received.Statement.{statement}

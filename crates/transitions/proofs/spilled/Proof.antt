@@ -1,3 +1,5 @@
+-- `transitions::spilled` meets its contract. Two flags change.
+-- Assumes nothing.
 use Rattle.transitions.specs.Transitions.{spilled}
 use borrow.Author.Needs.{needs}
 use Rattle.transitions.proofs.spilled.Statement.{statement}

@@ -1,3 +1,5 @@
+-- `unit_lines::byte_at` meets its contract. Within the cells it is a byte, so below 256; past their end both sides are 0.
+-- Assumes nothing.
 use native.Mathlib.Omega.{arith}
 use mathlib.Core.Path.{sym}
 use lib.ListN.{List·getD-eq-default}

@@ -1,3 +1,5 @@
+-- `unit_lines::deliver` meets its contract. At n 0 the line stays; n past the buffer is ruled out; else it is `put` of n bytes.
+-- Assumes nothing.
 use mathlib.Core.Path.{sym}
 use mathlib.Core.List.{append-nil}
 use native.Mathlib.Omega.{arith}

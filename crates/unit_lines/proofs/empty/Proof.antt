@@ -1,3 +1,5 @@
+-- `unit_lines::empty` meets its contract. With no unit and no cell used, each fact of `Holds` is computed.
+-- Assumes nothing.
 use Prim.Native.Nat.{zero-le}
 use mathlib.Core.Path.{refl}
 use Rattle.unit_lines.specs.UnitLine.{frames, NoneLonger}

@@ -1,6 +1,8 @@
+-- `unit_lines::has_room` meets its contract. In too few cells there is no room; else it is the definition, its sum moved across.
+-- Assumes nothing.
 use mathlib.Core.Path.{sym}
 use native.Mathlib.Omega.{arith}
-use Rattle.unit_lines.proofs.Held.{room-is, no-room}
+use Rattle.unit_lines.proofs.PutAndRemoved.{room-is, no-room}
 use Rattle.unit_lines.proofs.has_room.Statement.{statement}
 use Rattle.unit_lines.proofs.has_room.Tie as tie
 

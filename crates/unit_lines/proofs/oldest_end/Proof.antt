@@ -1,8 +1,10 @@
+-- `unit_lines::oldest_end` meets its contract. The two bytes of the length are read, and `stands` says whether a unit ends there.
+-- Assumes nothing.
 use mathlib.Core.Path.{_≡_, sym, subst}
 use Prim.Native.Nat.{ℕ, _+_, _*_}
 use denote.Ref.{now}
 use Rattle.unit_lines.specs.UnitLine.{oldestEnd, UnitTo}
-use Rattle.unit_lines.proofs.Held.{unit-stands}
+use Rattle.unit_lines.proofs.PutAndRemoved.{unit-stands}
 use borrow.Author.Needs.{needs}
 use Rattle.unit_lines.proofs.oldest_end.Statement.{statement}
 use Rattle.unit_lines.proofs.oldest_end.Tie as tie

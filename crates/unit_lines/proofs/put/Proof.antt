@@ -1,3 +1,5 @@
+-- `unit_lines::put` meets its contract. With room the frame stands behind the cells used; without it nothing changes.
+-- Assumes nothing.
 use Prim.Native.Nat.{_+_, _≤_, _<_}
 use mathlib.Core.Path.{refl, sym, _∙_}
 use native.Mathlib.Omega.{arith}
@@ -5,7 +7,7 @@ use denote.Ref.{now}
 use lib.ListN.{length, length-drop}
 use Rattle.cells.specs.Cells.{written}
 use Rattle.cells.proofs.PartLent.{part-is, part-back}
-use Rattle.unit_lines.proofs.Held.{has-room, room-for, joined, apart}
+use Rattle.unit_lines.proofs.PutAndRemoved.{has-room, room-for, joined, apart}
 use borrow.Author.Needs.{needs}
 use Rattle.unit_lines.proofs.put.Statement.{statement}
 use Rattle.unit_lines.proofs.put.Tie as tie

@@ -1,3 +1,5 @@
+-- `unit_lines::put_frame` meets its contract. Two stores of the length and a copy behind them are the frame.
+-- Assumes nothing.
 use Prim.Native.Nat.{_/_, _%_}
 use mathlib.Core.Path.{ap, _∙_}
 use native.Mathlib.Omega.{arith}

@@ -1,3 +1,5 @@
+-- `unit_lines::remove_oldest` meets its contract. Where no unit stands nothing changes; else the others move to the front.
+-- Assumes nothing.
 use mathlib.Core.Path.{refl, sym, _∙_}
 use native.Mathlib.Omega.{arith}
 use denote.Ref.{now}
@@ -5,7 +7,7 @@ use lib.ListN.{length}
 use Prim.Native.Nat.{_≤_}
 use lib.Seq.{length-take-le}
 use Rattle.unit_lines.specs.UnitLine.{oldestEnd}
-use Rattle.unit_lines.proofs.Held.{unit-stands, end-within, removed}
+use Rattle.unit_lines.proofs.PutAndRemoved.{unit-stands, end-within, removed}
 use borrow.Author.Needs.{needs}
 use Rattle.unit_lines.proofs.remove_oldest.Statement.{statement}
 use Rattle.unit_lines.proofs.remove_oldest.Tie as tie

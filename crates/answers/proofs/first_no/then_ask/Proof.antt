@@ -1,3 +1,5 @@
+-- `answers::first_no::then_ask` meets its contract. A number given before stands; after none, this question decides.
+-- Assumes nothing.
 use borrow.Author.Tests.{eq-eqb, ne-eqb}
 use Rattle.answers.specs.FirstNo.{thenAsk}
 use Rattle.answers.proofs.first_no.then_ask.Statement.{statement}

@@ -1,3 +1,5 @@
+-- `control::Control::bid_at_bidder` meets its contract. The role is asked by `is_bidder`.
+-- Assumes nothing.
 use borrow.Author.Needs.{needs}
 use Rattle.control.proofs.Control.bid_at_bidder.Statement.{statement}
 use Rattle.control.proofs.Control.bid_at_bidder.Tie as tie

@@ -1,3 +1,5 @@
+-- `control::Control::bracket_fits` meets its contract. The bit agrees with the answers of `is_bidder` and `is_reset`.
+-- Assumes nothing.
 use borrow.Author.Needs.{needs}
 use Rattle.control.proofs.Control.bracket_fits.Statement.{statement}
 use Rattle.control.proofs.Control.bracket_fits.Tie as tie

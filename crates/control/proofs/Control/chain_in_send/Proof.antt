@@ -1,3 +1,5 @@
+-- `control::Control::chain_in_send` meets its contract. The state is asked by `is_send`.
+-- Assumes nothing.
 use borrow.Author.Needs.{needs}
 use Rattle.control.proofs.Control.chain_in_send.Statement.{statement}
 use Rattle.control.proofs.Control.chain_in_send.Tie as tie

@@ -1,3 +1,5 @@
+-- `control::Control::control_good` meets its contract. Each of its four tests is the part of question 5 that it is named after.
+-- Assumes nothing.
 use Rattle.control.specs.Within.{controlGood}
 use borrow.Author.Needs.{needs}
 use Rattle.control.proofs.Control.control_good.Statement.{statement}

@@ -1,3 +1,5 @@
+-- `control::Control::due_in_send` meets its contract. Role and state are asked by `is_first_speaker` and `is_send`; the flags are read.
+-- Assumes nothing.
 use borrow.Author.Needs.{needs}
 use Rattle.control.proofs.Control.due_in_send.Statement.{statement}
 use Rattle.control.proofs.Control.due_in_send.Tie as tie

@@ -1,3 +1,5 @@
+-- `control::Control::mark_in_receive` meets its contract. The mark is asked by `is_nothing`, the state by `is_receive`.
+-- Assumes nothing.
 use borrow.Author.Needs.{needs}
 use Rattle.control.proofs.Control.mark_in_receive.Statement.{statement}
 use Rattle.control.proofs.Control.mark_in_receive.Tie as tie

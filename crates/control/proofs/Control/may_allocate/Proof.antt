@@ -1,3 +1,5 @@
+-- `control::Control::may_allocate` meets its contract. Reset is asked by `is_reset`; that no bid is out is read.
+-- Assumes nothing.
 use borrow.Author.Needs.{needs}
 use Rattle.control.proofs.Control.may_allocate.Statement.{statement}
 use Rattle.control.proofs.Control.may_allocate.Tie as tie

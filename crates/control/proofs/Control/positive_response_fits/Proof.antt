@@ -1,3 +1,5 @@
+-- `control::Control::positive_response_fits` meets its contract. Reset is asked by `is_reset`; that a bid is out is read.
+-- Assumes nothing.
 use borrow.Author.Needs.{needs}
 use Rattle.control.proofs.Control.positive_response_fits.Statement.{statement}
 use Rattle.control.proofs.Control.positive_response_fits.Tie as tie

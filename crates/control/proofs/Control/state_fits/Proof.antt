@@ -1,3 +1,5 @@
+-- `control::Control::state_fits` meets its contract. The two states are asked by `is_receive` and `is_reset`.
+-- Assumes nothing.
 use borrow.Author.Needs.{needs}
 use Rattle.control.proofs.Control.state_fits.Statement.{statement}
 use Rattle.control.proofs.Control.state_fits.Tie as tie

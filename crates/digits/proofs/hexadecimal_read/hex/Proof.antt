@@ -3,7 +3,7 @@
 use lib.ListN.{length}
 use denote.Ref.{now}
 use Rattle.cells.proofs.Fronts.{front-none}
-use Rattle.digits.proofs.BytesGiven.{hex-given, hex-none, hex-fits}
+use Rattle.digits.proofs.HexadecimalBytes.{hex-given, hex-none, hex-fits}
 use borrow.Author.Needs.{needs}
 use Rattle.digits.proofs.hexadecimal_read.hex.Statement.{statement}
 use Rattle.digits.proofs.hexadecimal_read.hex.Tie as tie

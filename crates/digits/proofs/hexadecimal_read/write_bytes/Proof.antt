@@ -9,8 +9,9 @@ use lib.Seq.{paste, paste-zero}
 use denote.Ref.{now}
 use borrow.Author.Needs.{needs}
 use Rattle.digits.specs.HexadecimalRead.{bytesOf}
-use Rattle.digits.proofs.BytesGiven.{half}
-use Rattle.digits.proofs.Pairs.{byte-at, written-more, written-all}
+use Rattle.digits.proofs.HexadecimalBytes.{half}
+use Rattle.cells.proofs.Moves.{moved-all}
+use Rattle.digits.proofs.Pairs.{byte-at, written-more}
 use Rattle.digits.proofs.hexadecimal_read.write_bytes.Statement.{statement}
 use Rattle.digits.proofs.hexadecimal_read.write_bytes.Tie as tie
 
@@ -42,7 +43,7 @@ returns c =
     let l = c .before .loop in
     let a = c .before .before .before .before .args in
     let e : l .i ≡ length (bytesOf (now (a .text))) = omega arith in
-    l .inv .4 ∙ (ap (paste (now (a .into)) 0 (bytesOf (now (a .text)))) e ∙ written-all (now (a .into)) (bytesOf (now (a .text))))
+    l .inv .4 ∙ (ap (paste (now (a .into)) 0 (bytesOf (now (a .text)))) e ∙ moved-all (now (a .into)) (bytesOf (now (a .text))))
 
 pub write-bytes-spec : {M : Type 1} → statement M
 write-bytes-spec =

@@ -1,3 +1,5 @@
+-- `end::End::allocate` meets its contract. `write_made` writes what `allocate_decision` decided: a bid, or nothing.
+-- Assumes nothing.
 use mathlib.Core.Path.{ap}
 use mathlib.Core.List.{List}
 use Prim.Native.Nat.{ℕ}

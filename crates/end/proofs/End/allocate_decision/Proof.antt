@@ -1,3 +1,5 @@
+-- `end::End::allocate_decision` meets its contract. It is refused, or a first speaker moves to Send, or a bid is made by `bid_decision`.
+-- Assumes nothing.
 use mathlib.Core.Path.{sym, _∙_}
 use borrow.Author.Tests.{eq-eqb, ne-eqb}
 use Rattle.end.specs.Allocate.{allocateDecision}

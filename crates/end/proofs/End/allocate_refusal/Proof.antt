@@ -1,3 +1,5 @@
+-- `end::End::allocate_refusal` meets its contract. By `in-order`, as it asks of buffer, record, state and credit.
+-- Assumes nothing.
 use Rattle.end.specs.Allocate.{allocateQuestions, allocateRefusal}
 use Rattle.answers.proofs.Rows.{in-order}
 use borrow.Author.Needs.{needs}

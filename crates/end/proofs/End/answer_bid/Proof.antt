@@ -1,3 +1,5 @@
+-- `end::End::answer_bid` meets its contract. The kind of answer, the finite part and the receiving side are each what their function gives.
+-- Assumes nothing.
 use Rattle.end.specs.ReceiveUnit.{bidAnswered}
 use borrow.Author.Needs.{needs}
 use Rattle.end.proofs.End.answer_bid.Statement.{statement}

@@ -1,3 +1,5 @@
+-- `end::End::bid_decision` meets its contract. A request is counted, the finite part is allocated, and the length is that of a bid.
+-- Assumes nothing.
 use Rattle.sending.specs.Sending.{requestMade}
 use Rattle.end.specs.Allocate.{bidMade}
 use borrow.Author.Needs.{needs}

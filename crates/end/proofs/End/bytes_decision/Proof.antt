@@ -1,3 +1,5 @@
+-- `end::End::bytes_decision` meets its contract. The count, the record place then and whether a record ends are what their functions give.
+-- Assumes nothing.
 use Rattle.end.specs.Receive.{copyCount, bytesRead}
 use borrow.Author.Needs.{needs}
 use Rattle.end.proofs.End.bytes_decision.Statement.{statement}

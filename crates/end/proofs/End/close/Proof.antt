@@ -1,3 +1,5 @@
+-- `end::End::close` meets its contract. Where the decision says no unit, the cells stay; else `send_held` writes the one that it says.
+-- Assumes nothing.
 use mathlib.Core.Path.{refl, sym, ap, _∙_}
 use lib.ListN.{length}
 use denote.Ref.{now}

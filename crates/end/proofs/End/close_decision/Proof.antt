@@ -1,3 +1,5 @@
+-- `end::End::close_decision` meets its contract. It is refused, or nothing goes, or `last_decision` makes the unit of the bytes held.
+-- Assumes nothing.
 use mathlib.Core.Path.{sym, _∙_}
 use native.Mathlib.Omega.{arith}
 use borrow.Author.Tests.{eq-eqb, ne-eqb}

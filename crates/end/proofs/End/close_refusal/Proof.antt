@@ -1,3 +1,5 @@
+-- `end::End::close_refusal` meets its contract. By `in-order`, as it asks of buffers, record, state, whole record and credit.
+-- Assumes nothing.
 use Rattle.end.specs.Close.{closeQuestions, closeRefusal}
 use Rattle.answers.proofs.Rows.{in-order}
 use borrow.Author.Needs.{needs}

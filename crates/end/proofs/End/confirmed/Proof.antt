@@ -1,3 +1,5 @@
+-- `end::End::confirmed` meets its contract. `write_made` writes what `confirmed_decision` decided: a confirmation, or nothing.
+-- Assumes nothing.
 use mathlib.Core.Path.{ap}
 use mathlib.Core.List.{List, []}
 use Prim.Native.Nat.{ℕ}

@@ -1,3 +1,5 @@
+-- `end::End::confirmed_decision` meets its contract. It is refused, or the finite part moves on and a confirmation is made.
+-- Assumes nothing.
 use mathlib.Core.Path.{sym, _∙_}
 use borrow.Author.Tests.{eq-eqb, ne-eqb}
 use Rattle.end.specs.Confirmed.{confirmedDecision}

@@ -1,3 +1,5 @@
+-- `end::End::confirmed_refusal` meets its contract. By `in-order`, as it asks of buffer, record and state.
+-- Assumes nothing.
 use Rattle.end.specs.Confirmed.{confirmedQuestions, confirmedRefusal}
 use Rattle.answers.proofs.Rows.{in-order}
 use borrow.Author.Needs.{needs}

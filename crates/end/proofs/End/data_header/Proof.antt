@@ -1,3 +1,5 @@
+-- `end::End::data_header` meets its contract. Where the unit begins is what `begin_of` says, its pacing bit what `paced` says.
+-- Assumes nothing.
 use Rattle.end.specs.Requests.{dataHeader}
 use borrow.Author.Needs.{needs}
 use Rattle.end.proofs.End.data_header.Statement.{statement}

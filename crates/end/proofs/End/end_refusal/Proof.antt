@@ -1,3 +1,5 @@
+-- `end::End::end_refusal` meets its contract. By `in-order`, as it asks of buffers, record and mark.
+-- Assumes nothing.
 use Rattle.end.specs.ReceiveUnit.{endQuestions}
 use Rattle.end.specs.Kinds.{endRefusal}
 use Rattle.answers.proofs.Rows.{in-order}

@@ -1,3 +1,5 @@
+-- `end::End::join_data` meets its contract. The receiving side, the finite part and the number owed are each what their function gives.
+-- Assumes nothing.
 use Rattle.end.specs.ReceiveUnit.{dataJoined}
 use borrow.Author.Needs.{needs}
 use Rattle.end.proofs.End.join_data.Statement.{statement}

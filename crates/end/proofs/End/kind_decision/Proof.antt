@@ -1,3 +1,5 @@
+-- `end::End::kind_decision` meets its contract. It is refused by `kind_refusal`, or `receive_kind` takes the unit, all questions passed.
+-- Assumes nothing.
 use mathlib.Core.Path.{sym, _∙_}
 use borrow.Author.Tests.{eq-eqb, ne-eqb}
 use Rattle.end.specs.Kinds.{kindDecision}

@@ -1,3 +1,5 @@
+-- `end::End::kind_refusal` meets its contract. At each kind of header, the questions are those of the function that it calls.
+-- Assumes nothing.
 use mathlib.Core.Path.{_∙_}
 use Rattle.end.specs.Kinds.{kindRefusal}
 use borrow.Author.Needs.{needs}

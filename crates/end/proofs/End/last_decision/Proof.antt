@@ -1,3 +1,5 @@
+-- `end::End::last_decision` meets its contract. A request is counted and the finite part closed; the RU is as long as the bytes held.
+-- Assumes nothing.
 use lib.Seq.{length-take-le}
 use Rattle.sending.specs.Sending.{requestMade}
 use Rattle.end.specs.Close.{lastMade}

@@ -1,3 +1,5 @@
+-- `end::End::raise_credit` meets its contract. Only the window of sending changes, as `credit_answered` has it.
+-- Assumes nothing.
 use Rattle.end.specs.ReceiveUnit.{creditRaised}
 use borrow.Author.Needs.{needs}
 use Rattle.end.proofs.End.raise_credit.Statement.{statement}

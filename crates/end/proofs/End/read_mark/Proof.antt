@@ -1,3 +1,5 @@
+-- `end::End::read_mark` meets its contract. The mark is put into the answer by `mark_read` and taken from the record by `mark_answered`.
+-- Assumes nothing.
 use Rattle.end.specs.Receive.{markRead}
 use borrow.Author.Needs.{needs}
 use Rattle.end.proofs.End.read_mark.Statement.{statement}

@@ -1,3 +1,5 @@
+-- `end::End::receive` meets its contract. With nothing to copy both buffers stay; else `hand_over` moves as many bytes as were decided.
+-- Assumes nothing.
 use mathlib.Core.Path.{sym, ap, _∙_}
 use native.Mathlib.Omega.{arith}
 use lib.ListN.{length}

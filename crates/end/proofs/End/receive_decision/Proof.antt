@@ -1,3 +1,5 @@
+-- `end::End::receive_decision` meets its contract. It is refused, or bytes are read where some are held, or the mark is.
+-- Assumes nothing.
 use mathlib.Core.Path.{sym, _∙_}
 use denote.Ref.{now}
 use borrow.Author.Tests.{eq-eqb, ne-eqb}

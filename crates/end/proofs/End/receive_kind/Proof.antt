@@ -1,3 +1,5 @@
+-- `end::End::receive_kind` meets its contract. At each kind of header it is that kind's effect; by `joined-room` data has room.
+-- Assumes nothing.
 use mathlib.Core.Path.{_∙_}
 use denote.Ref.{now}
 use Rattle.end.proofs.RoomToReceive.{joined-room}

@@ -1,3 +1,5 @@
+-- `end::End::receive_refusal` meets its contract. By `in-order`, as it asks of inbox, record, buffer, LL and what is to be read.
+-- Assumes nothing.
 use denote.Ref.{now}
 use Rattle.end.specs.Receive.{receiveQuestions, receiveRefusal}
 use Rattle.answers.proofs.Rows.{in-order}

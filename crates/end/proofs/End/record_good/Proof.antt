@@ -1,3 +1,5 @@
+-- `end::End::record_good` meets its contract. A part that is not good returns at once; past it the definition's test is true.
+-- Assumes nothing.
 use borrow.Author.Tests.{not-true, not-false}
 use Rattle.end.specs.Record.{recordGood}
 use borrow.Author.Needs.{needs}

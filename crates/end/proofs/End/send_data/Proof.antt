@@ -1,3 +1,5 @@
+-- `end::End::send_data` meets its contract. Refused, the cells stay; kept, `keep` writes; else `send_full` writes a unit and the rest.
+-- Assumes nothing.
 use mathlib.Core.Path.{refl, sym, ap, _∙_}
 use native.Mathlib.Omega.{arith}
 use lib.ListN.{length}

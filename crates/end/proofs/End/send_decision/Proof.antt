@@ -1,3 +1,5 @@
+-- `end::End::send_decision` meets its contract. It is refused, or the bytes are kept, or `spill_decision` lets one unit go.
+-- Assumes nothing.
 use mathlib.Core.Path.{sym, _∙_}
 use Prim.Native.Nat.{_+_}
 use lib.ListN.{length}

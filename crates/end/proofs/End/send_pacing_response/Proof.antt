@@ -1,3 +1,5 @@
+-- `end::End::send_pacing_response` meets its contract. `write_made` writes what was decided: a pacing response, or nothing.
+-- Assumes nothing.
 use mathlib.Core.Path.{ap}
 use mathlib.Core.List.{List, []}
 use Prim.Native.Nat.{ℕ}

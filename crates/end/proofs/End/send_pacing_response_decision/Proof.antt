@@ -1,3 +1,5 @@
+-- `end::End::send_pacing_response_decision` meets its contract. It is refused, or the window is answered and a response made.
+-- Assumes nothing.
 use mathlib.Core.Path.{sym, _∙_}
 use borrow.Author.Tests.{eq-eqb, ne-eqb}
 use Rattle.end.specs.SendPacingResponse.{sendPacingResponseDecision}

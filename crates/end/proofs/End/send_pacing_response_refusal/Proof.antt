@@ -1,3 +1,5 @@
+-- `end::End::send_pacing_response_refusal` meets its contract. By `in-order`, as it asks of buffer, record and whether an answer is owed.
+-- Assumes nothing.
 use Rattle.end.specs.SendPacingResponse.{sendPacingResponseQuestions, sendPacingResponseRefusal}
 use Rattle.answers.proofs.Rows.{in-order}
 use borrow.Author.Needs.{needs}

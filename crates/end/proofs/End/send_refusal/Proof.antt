@@ -1,3 +1,5 @@
+-- `end::End::send_refusal` meets its contract. By `in-order`, as it asks of buffers, record, length, state, LL and credit.
+-- Assumes nothing.
 use denote.Ref.{now}
 use Rattle.end.specs.SendData.{sendQuestions, sendRefusal}
 use Rattle.answers.proofs.Rows.{in-order}

@@ -1,3 +1,5 @@
+-- `end::End::settle` meets its contract. The finite part given is put in, and no unit is made.
+-- Assumes nothing.
 use borrow.Author.Needs.{needs}
 use Rattle.end.proofs.End.settle.Statement.{statement}
 use Rattle.end.proofs.End.settle.Tie as tie

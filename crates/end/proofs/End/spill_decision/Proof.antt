@@ -1,3 +1,5 @@
+-- `end::End::spill_decision` meets its contract. The record changes as `bytes_sent` and `spilled` say; by `spilled-length` the RU is full.
+-- Assumes nothing.
 use denote.Ref.{now}
 use Rattle.sending.specs.Sending.{requestMade}
 use Rattle.end.specs.SendData.{bytesSpilled}

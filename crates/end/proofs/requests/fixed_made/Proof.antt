@@ -1,3 +1,5 @@
+-- `end::requests::fixed_made` meets its contract. The length answered is that of the kind, by `fixed_length`.
+-- Assumes nothing.
 use borrow.Author.Needs.{needs}
 use Rattle.end.proofs.requests.fixed_made.Statement.{statement}
 use Rattle.end.proofs.requests.fixed_made.Tie as tie

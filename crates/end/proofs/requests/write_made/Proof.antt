@@ -1,3 +1,5 @@
+-- `end::requests::write_made` meets its contract. At length 0 the cells stay; else they are as `write_fixed` leaves them.
+-- Assumes nothing.
 use borrow.Author.Tests.{eq-eqb, ne-eqb}
 use borrow.Author.Needs.{needs}
 use Rattle.end.proofs.requests.write_made.Statement.{statement}

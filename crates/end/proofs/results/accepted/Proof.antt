@@ -1,3 +1,5 @@
+-- `end::results::accepted` meets its contract. The answer is that of `accept`.
+-- Assumes nothing.
 use borrow.Author.Needs.{needs}
 use Rattle.end.proofs.results.accepted.Statement.{statement}
 use Rattle.end.proofs.results.accepted.Tie as tie

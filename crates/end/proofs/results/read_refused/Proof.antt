@@ -1,3 +1,5 @@
+-- `end::results::read_refused` meets its contract. The answer is that of `read_refuse`.
+-- Assumes nothing.
 use borrow.Author.Needs.{needs}
 use Rattle.end.proofs.results.read_refused.Statement.{statement}
 use Rattle.end.proofs.results.read_refused.Tie as tie

@@ -1,3 +1,5 @@
+-- `end::results::refused` meets its contract. The answer is that of `refuse`.
+-- Assumes nothing.
 use borrow.Author.Needs.{needs}
 use Rattle.end.proofs.results.refused.Statement.{statement}
 use Rattle.end.proofs.results.refused.Tie as tie

@@ -2,7 +2,7 @@
 -- Assumes nothing.
 use mathlib.Core.Path.{sym}
 use denote.Ref.{now}
-use Rattle.logical_record.proofs.Turns.{rest-two, rest-few, rest-one, rest-none}
+use Rattle.logical_record.proofs.ReadAtIndex.{rest-two, rest-few, rest-one, rest-none}
 use borrow.Author.Needs.{needs}
 use Rattle.logical_record.proofs.rest_of_record.rest_of_record.Statement.{statement}
 use Rattle.logical_record.proofs.rest_of_record.rest_of_record.Tie as tie

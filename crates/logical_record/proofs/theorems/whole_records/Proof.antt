@@ -1,6 +1,6 @@
 -- `theorems::whole_records` meets its contract: the three claims of specs/RecordClaims.antt.
 -- Assumes nothing.
-use Rattle.logical_record.proofs.Splits.{whole-records-are, whole-records-joined, whole-records-bytes}
+use Rattle.logical_record.proofs.WholeRecords.{whole-records-are, whole-records-joined, whole-records-bytes}
 use Rattle.logical_record.proofs.theorems.whole_records.Statement.{statement}
 use Rattle.logical_record.proofs.theorems.whole_records.Tie as tie
 

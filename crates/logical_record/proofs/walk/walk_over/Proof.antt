@@ -10,7 +10,7 @@ use borrow.Author.Needs.{needs}
 use Rattle.logical_record.specs.Walk.{walk}
 use Rattle.logical_record.specs.declared.Walked.the-variants.{BadLength}
 use Rattle.logical_record.proofs.Walks.{walk-bad}
-use Rattle.logical_record.proofs.Turns.{walk-more, walk-jump, walk-end}
+use Rattle.logical_record.proofs.ReadAtIndex.{walk-more, walk-jump, walk-end}
 use Rattle.logical_record.proofs.walk.walk_over.Statement.{statement}
 use Rattle.logical_record.proofs.walk.walk_over.Tie as tie
 

@@ -2,7 +2,7 @@
 -- Assumes nothing.
 use borrow.Author.Tests.{eq-eqb, ne-eqb}
 use Rattle.lu62.specs.Exported.{openedOn}
-use Rattle.lu62.proofs.Sizes.{opened-small}
+use Rattle.lu62.proofs.LengthsFit.{opened-small}
 use borrow.Author.Needs.{needs}
 use Rattle.lu62.proofs.opening.lu62_open.Statement.{statement}
 use Rattle.lu62.proofs.opening.lu62_open.Tie as tie

@@ -1,7 +1,7 @@
 -- `lu62::receive_calls::lu62_receive_unit` meets its contract: the call on the record that the image holds, or the image's refusal.
 -- Assumes nothing.
 use borrow.Author.Needs.{needs}
-use Rattle.lu62.proofs.Arms.{arms}
+use Rattle.lu62.proofs.CallsOnImage.{arms}
 use Rattle.lu62.proofs.receive_calls.lu62_receive_unit.Statement.{statement}
 use Rattle.lu62.proofs.receive_calls.lu62_receive_unit.Tie as tie
 

@@ -1,7 +1,7 @@
 -- `lu62::send_calls::lu62_confirmed` meets its contract: the call on the record that the image holds, or the image's refusal.
 -- Assumes nothing.
 use borrow.Author.Needs.{needs}
-use Rattle.lu62.proofs.Arms.{arms}
+use Rattle.lu62.proofs.CallsOnImage.{arms}
 use Rattle.lu62.proofs.send_calls.lu62_confirmed.Statement.{statement}
 use Rattle.lu62.proofs.send_calls.lu62_confirmed.Tie as tie
 

@@ -1,6 +1,6 @@
 -- `lu62::theorems::refused_changes_nothing` meets its contract.
 -- Assumes nothing.
-use Rattle.lu62.proofs.Refused.{refused-changes-nothing}
+use Rattle.lu62.proofs.Untouched.{refused-changes-nothing}
 use Rattle.lu62.proofs.theorems.refused_changes_nothing.Statement.{statement}
 use Rattle.lu62.proofs.theorems.refused_changes_nothing.Tie as tie
 

@@ -1,3 +1,5 @@
+-- `pacing::Window::advanced` meets its contract. The position moves as `next_position` has it.
+-- Assumes nothing.
 use Rattle.pacing.specs.Pacing.{advanced}
 use borrow.Author.Needs.{needs}
 use Rattle.pacing.proofs.Window.advanced.Statement.{statement}

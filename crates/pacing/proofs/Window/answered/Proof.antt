@@ -1,3 +1,5 @@
+-- `pacing::Window::answered` meets its contract. The window that it builds is the definition's.
+-- Assumes nothing.
 use mathlib.Core.Path.{refl}
 use Rattle.pacing.specs.Pacing.{answered}
 use Rattle.pacing.proofs.Window.answered.Statement.{statement}

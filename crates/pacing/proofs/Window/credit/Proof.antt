@@ -1,3 +1,5 @@
+-- `pacing::Window::credit` meets its contract. It is the sum of what `whole` and `left` give, neither above 255.
+-- Assumes nothing.
 use native.Mathlib.Omega.{arith}
 use Rattle.pacing.specs.Pacing.{credit}
 use borrow.Author.Needs.{needs}

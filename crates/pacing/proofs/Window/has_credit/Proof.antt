@@ -1,3 +1,5 @@
+-- `pacing::Window::has_credit` meets its contract. What is compared with 1 is the credit.
+-- Assumes nothing.
 use borrow.Author.Needs.{needs}
 use Rattle.pacing.proofs.Window.has_credit.Statement.{statement}
 use Rattle.pacing.proofs.Window.has_credit.Tie as tie

@@ -1,3 +1,5 @@
+-- `receiving::bytes_read::after_read` meets its contract. The walk is over the first k bytes held, and reading stands where it led.
+-- Assumes nothing.
 use mathlib.Core.Path.{sym}
 use native.Mathlib.Omega.{arith}
 use lib.Seq.{length-take-le}

@@ -1,3 +1,5 @@
+-- `receiving::bytes_read::hand_over` meets its contract. A copy to the front of the buffer, then a move to the front within the cells held.
+-- Assumes nothing.
 use mathlib.Core.Path.{sym}
 use native.Mathlib.Omega.{arith}
 use lib.ListN.{take, drop, length-drop}

@@ -1,8 +1,10 @@
+-- `receiving::bytes_read::record_rest` meets its contract. As many bytes are looked at as are held, by `take-least`.
+-- Assumes nothing.
 use mathlib.Core.Path.{sym}
 use native.Mathlib.Omega.{arith}
 use lib.Seq.{length-take-le}
 use denote.Ref.{now}
-use Rattle.receiving.proofs.Most.{take-least}
+use Rattle.receiving.proofs.TakeAtMost.{take-least}
 use borrow.Author.Needs.{needs}
 use Rattle.receiving.proofs.bytes_read.record_rest.Statement.{statement}
 use Rattle.receiving.proofs.bytes_read.record_rest.Tie as tie

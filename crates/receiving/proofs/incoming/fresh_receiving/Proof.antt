@@ -1,3 +1,5 @@
+-- `receiving::incoming::fresh_receiving` meets its contract. The window is fresh, and both record places are the start.
+-- Assumes nothing.
 use borrow.Author.Needs.{needs}
 use Rattle.receiving.proofs.incoming.fresh_receiving.Statement.{statement}
 use Rattle.receiving.proofs.incoming.fresh_receiving.Tie as tie

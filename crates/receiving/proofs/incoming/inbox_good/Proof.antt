@@ -1,3 +1,5 @@
+-- `receiving::incoming::inbox_good` meets its contract. What is compared with the inbox is `filled` at the credit.
+-- Assumes nothing.
 use borrow.Author.Needs.{needs}
 use Rattle.receiving.proofs.incoming.inbox_good.Statement.{statement}
 use Rattle.receiving.proofs.incoming.inbox_good.Tie as tie

@@ -1,3 +1,5 @@
+-- `receiving::incoming::may_answer_pacing` meets its contract. What is compared with the inbox is `filled` at the credit and a window more.
+-- Assumes nothing.
 use borrow.Author.Needs.{needs}
 use Rattle.receiving.proofs.incoming.may_answer_pacing.Statement.{statement}
 use Rattle.receiving.proofs.incoming.may_answer_pacing.Tie as tie

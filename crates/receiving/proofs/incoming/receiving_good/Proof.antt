@@ -1,3 +1,5 @@
+-- `receiving::incoming::receiving_good` meets its contract. Each test that fails returns at once; past four, the last is the answer.
+-- Assumes nothing.
 use borrow.Author.Tests.{not-true, not-false}
 use Rattle.receiving.specs.Receiving.{receivingGood}
 use borrow.Author.Needs.{needs}

@@ -1,3 +1,5 @@
+-- `receiving::incoming::request_received` meets its contract. The number moves as `next_number` has it, the window as `advanced` has it.
+-- Assumes nothing.
 use Rattle.receiving.specs.Receiving.{requestReceived}
 use borrow.Author.Needs.{needs}
 use Rattle.receiving.proofs.incoming.request_received.Statement.{statement}

@@ -1,3 +1,5 @@
+-- `receiving::incoming::window_answered` meets its contract. Only the window changes, as `answered` has it.
+-- Assumes nothing.
 use borrow.Author.Needs.{needs}
 use Rattle.receiving.proofs.incoming.window_answered.Statement.{statement}
 use Rattle.receiving.proofs.incoming.window_answered.Tie as tie

@@ -1,3 +1,5 @@
+-- `receiving::units_received::bid_refusal` meets its contract. By `in-order`, as it asks of RU, pacing, number, chain and role.
+-- Assumes nothing.
 use denote.Ref.{now}
 use Rattle.receiving.specs.UnitQuestions.{bidQuestions}
 use Rattle.answers.proofs.Rows.{in-order}

@@ -1,3 +1,5 @@
+-- `receiving::units_received::data_refusal` meets its contract. By `in-order`, as it asks the seven questions of data.
+-- Assumes nothing.
 use denote.Ref.{now}
 use Rattle.receiving.specs.UnitQuestions.{dataQuestions}
 use Rattle.answers.proofs.Rows.{in-order}

@@ -1,3 +1,5 @@
+-- `receiving::units_received::is_next` meets its contract. The number is compared with that of `next_number`.
+-- Assumes nothing.
 use borrow.Author.Needs.{needs}
 use Rattle.receiving.proofs.units_received.is_next.Statement.{statement}
 use Rattle.receiving.proofs.units_received.is_next.Tie as tie

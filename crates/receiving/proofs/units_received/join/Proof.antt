@@ -1,3 +1,5 @@
+-- `receiving::units_received::join` meets its contract. Where no more are held the cells stay; else it is a copy behind the bytes held.
+-- Assumes nothing.
 use native.Mathlib.Omega.{arith}
 use lib.ListN.{length-drop, drop}
 use denote.Ref.{now}

@@ -1,3 +1,5 @@
+-- `receiving::units_received::joined` meets its contract. It is `request_received`, where `place_or` says that the walk led.
+-- Assumes nothing.
 use borrow.Author.Needs.{needs}
 use Rattle.receiving.proofs.units_received.joined.Statement.{statement}
 use Rattle.receiving.proofs.units_received.joined.Tie as tie

@@ -1,3 +1,5 @@
+-- `receiving::units_received::pacing_fits` meets its contract. That one is open is asked by `has_credit`; the bit agrees with `paced`.
+-- Assumes nothing.
 use borrow.Author.Needs.{needs}
 use Rattle.receiving.proofs.units_received.pacing_fits.Statement.{statement}
 use Rattle.receiving.proofs.units_received.pacing_fits.Tie as tie

@@ -1,3 +1,5 @@
+-- `receiving::units_received::pacing_response_refusal` meets its contract. By `in-order`, as it asks of RU, pacing and number.
+-- Assumes nothing.
 use denote.Ref.{now}
 use Rattle.receiving.specs.UnitQuestions.{pacingQuestions}
 use Rattle.answers.proofs.Rows.{in-order}

@@ -1,3 +1,5 @@
+-- `receiving::units_received::records_fit` meets its contract. At a record place it asks `marks` and `is_whole`; a bad LL never fits.
+-- Assumes nothing.
 use borrow.Author.Needs.{needs}
 use Rattle.receiving.proofs.units_received.records_fit.Statement.{statement}
 use Rattle.receiving.proofs.units_received.records_fit.Tie as tie

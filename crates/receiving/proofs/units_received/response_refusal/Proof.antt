@@ -1,3 +1,5 @@
+-- `receiving::units_received::response_refusal` meets its contract. By `in-order`, as it asks of the RU and whether one is expected.
+-- Assumes nothing.
 use denote.Ref.{now}
 use Rattle.receiving.specs.UnitQuestions.{responseQuestions}
 use Rattle.answers.proofs.Rows.{in-order}

@@ -1,3 +1,5 @@
+-- `receiving::units_received::walk_data` meets its contract. Of data it is the walk over the RU; at each other kind the record place stays.
+-- Assumes nothing.
 use borrow.Author.Needs.{needs}
 use Rattle.receiving.proofs.units_received.walk_data.Statement.{statement}
 use Rattle.receiving.proofs.units_received.walk_data.Tie as tie

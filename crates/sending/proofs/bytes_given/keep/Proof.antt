@@ -1,3 +1,5 @@
+-- `sending::bytes_given::keep` meets its contract. It is a copy to the part that starts behind the bytes held.
+-- Assumes nothing.
 use denote.Ref.{now}
 use Rattle.cells.proofs.Copies.{copy-part}
 use borrow.Author.Needs.{needs}

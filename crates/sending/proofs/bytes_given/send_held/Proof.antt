@@ -1,4 +1,6 @@
-use mathlib.Core.Path.{_≡_, sym, _∙_}
+-- `sending::bytes_given::send_held` meets its contract. The unit is written of the bytes held, for which it has room.
+-- Assumes nothing.
+use mathlib.Core.Path.{sym}
 use mathlib.Core.List.{append-nil}
 use Prim.Native.Nat.{_+_, _≤_}
 use native.Mathlib.Omega.{arith}

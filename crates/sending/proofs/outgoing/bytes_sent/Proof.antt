@@ -1,3 +1,5 @@
+-- `sending::outgoing::bytes_sent` meets its contract. It is `request_made`, where `place_or` says that the walk led.
+-- Assumes nothing.
 use borrow.Author.Needs.{needs}
 use Rattle.sending.proofs.outgoing.bytes_sent.Statement.{statement}
 use Rattle.sending.proofs.outgoing.bytes_sent.Tie as tie

@@ -1,3 +1,5 @@
+-- `sending::outgoing::credit_answered` meets its contract. Only the window changes, as `answered` has it.
+-- Assumes nothing.
 use borrow.Author.Needs.{needs}
 use Rattle.sending.proofs.outgoing.credit_answered.Statement.{statement}
 use Rattle.sending.proofs.outgoing.credit_answered.Tie as tie

@@ -1,3 +1,5 @@
+-- `sending::outgoing::fresh_sending` meets its contract. The window is fresh, and the record place is the start.
+-- Assumes nothing.
 use borrow.Author.Needs.{needs}
 use Rattle.sending.proofs.outgoing.fresh_sending.Statement.{statement}
 use Rattle.sending.proofs.outgoing.fresh_sending.Tie as tie

@@ -1,3 +1,5 @@
+-- `sending::outgoing::held_good` meets its contract. The state is asked by `is_send`; the counts are compared as in the definition.
+-- Assumes nothing.
 use borrow.Author.Needs.{needs}
 use Rattle.sending.proofs.outgoing.held_good.Statement.{statement}
 use Rattle.sending.proofs.outgoing.held_good.Tie as tie

@@ -1,3 +1,5 @@
+-- `sending::outgoing::nothing_goes` meets its contract. Whether the unit leaves a mark is asked by `marks`.
+-- Assumes nothing.
 use borrow.Author.Needs.{needs}
 use Rattle.sending.proofs.outgoing.nothing_goes.Statement.{statement}
 use Rattle.sending.proofs.outgoing.nothing_goes.Tie as tie

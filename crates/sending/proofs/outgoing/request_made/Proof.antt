@@ -1,3 +1,5 @@
+-- `sending::outgoing::request_made` meets its contract. The number moves as `next_number` has it, the window as `advanced` has it.
+-- Assumes nothing.
 use Rattle.sending.specs.Sending.{requestMade}
 use borrow.Author.Needs.{needs}
 use Rattle.sending.proofs.outgoing.request_made.Statement.{statement}

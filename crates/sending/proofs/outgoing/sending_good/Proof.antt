@@ -1,3 +1,5 @@
+-- `sending::outgoing::sending_good` meets its contract. Each test that fails returns at once; past three, the last is the answer.
+-- Assumes nothing.
 use borrow.Author.Tests.{not-true, not-false}
 use Rattle.sending.specs.Sending.{sendingGood}
 use borrow.Author.Needs.{needs}

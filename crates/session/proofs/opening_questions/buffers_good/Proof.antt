@@ -1,3 +1,5 @@
+-- `session::opening_questions::buffers_good` meets its contract. What the inbox is compared with is the room that `window_room` gives.
+-- Assumes nothing.
 use borrow.Author.Needs.{needs}
 use Rattle.session.proofs.opening_questions.buffers_good.Statement.{statement}
 use Rattle.session.proofs.opening_questions.buffers_good.Tie as tie

@@ -1,3 +1,5 @@
+-- `session::opening_questions::opening_refusal` meets its contract. By `in-order`, as it asks of role, windows, maxima and buffers.
+-- Assumes nothing.
 use Rattle.session.specs.OpeningQuestions.{openingQuestions, openingRefusal}
 use Rattle.answers.proofs.Rows.{in-order}
 use borrow.Author.Needs.{needs}

@@ -1,3 +1,5 @@
+-- `session::opening_questions::window_room` meets its contract. The product of 8 and 32 bits fits.
+-- Assumes nothing.
 use native.Mathlib.Nat.{mul-le-mul}
 use native.Mathlib.Omega.{arith}
 use borrow.Author.Needs.{needs}

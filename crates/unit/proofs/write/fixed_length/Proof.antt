@@ -1,3 +1,5 @@
+-- `unit::write::fixed_length` meets its contract. At each kind of header the sum is computed from its fixed RU.
+-- Assumes nothing.
 use borrow.Author.Needs.{needs}
 use Rattle.unit.proofs.write.fixed_length.Statement.{statement}
 use Rattle.unit.proofs.write.fixed_length.Tie as tie

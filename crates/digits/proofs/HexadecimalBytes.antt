@@ -1,4 +1,4 @@
--- The bytes of a text: whether they are given, from the number of its digits.
+-- The bytes of a text in hexadecimal: whether they are given, from the number of its digits.
 -- Assumes nothing.
 use mathlib.Core.Path.{_≡_, refl, sym, _∙_}
 use mathlib.Core.Bool.{Bool, true, false, _&&_}

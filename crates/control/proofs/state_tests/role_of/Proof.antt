@@ -1,6 +1,8 @@
+-- `control::state_tests::role_of` meets its contract. Number 0 is the first speaker, any other the bidder.
+-- Assumes nothing.
 use borrow.Author.Tests.{eq-eqb, ne-eqb}
-use Rattle.control.proofs.tests.role_of.Statement.{statement}
-use Rattle.control.proofs.tests.role_of.Tie as tie
+use Rattle.control.proofs.state_tests.role_of.Statement.{statement}
+use Rattle.control.proofs.state_tests.role_of.Tie as tie
 
 returns : tie.Need-returns
 returns c = rw (eq-eqb _ _ (c .if1 .taken))

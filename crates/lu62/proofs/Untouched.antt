@@ -24,7 +24,7 @@ use Rattle.image.proofs.ImageRoundTrip.{read-is-written}
 use Rattle.lu62.specs.Handing.{Left, byReading, onImage}
 use Rattle.lu62.specs.Exported.{madeOut, sentOut, takenOut, copiedOut, closeOn}
 use Rattle.lu62.specs.Untouched.{Bytes, Untouched, RefusedChangesNothing}
-use Rattle.lu62.proofs.Sizes.{at}
+use Rattle.lu62.proofs.LengthsFit.{at}
 
 on-image : {Cells : Type 0} (image : List ℕ) (cells : Cells) (call : End → Left Cells) → Bytes image
     → ((e : End) → Untouched (imageOf e) cells (call e)) → Untouched image cells (onImage image cells call)

@@ -16,7 +16,7 @@ use Rattle.logical_record.specs.declared.Position.{Position}
 use Rattle.logical_record.specs.declared.Position.the-variants.{Between, AfterFirst, Remaining}
 use Rattle.logical_record.specs.declared.Walked.{Walked}
 use Rattle.logical_record.specs.declared.Walked.the-variants.{At, BadLength}
-use Rattle.logical_record.proofs.Facts.{length-bounds, remaining-some}
+use Rattle.logical_record.proofs.BytesLeft.{length-bounds, remaining-some}
 use Rattle.logical_record.proofs.Walks.{at-not-bad}
 use Rattle.logical_record.proofs.RecordEnds.{record-parts, record-ends}
 use Rattle.bools.proofs.Tests.{both}
@@ -99,11 +99,6 @@ pending-none BadLength part (x ∷ bs) q f e b = absurd (at-not-bad q (sym e))
 -- a stream that ends between records is its whole records and nothing more
 pub pending-empty : (bs : List ℕ) → walk start bs ≡ At start → pending bs ≡ []
 pending-empty bs e = pending-none (At start) [] bs start (λ _. refl) e refl
-
-pub whole-stream-bytes : (bs : List ℕ) → walk start bs ≡ At start → joined (wholeRecords bs) ≡ bs
-whole-stream-bytes bs e =
-    sym (append-nil (joined (wholeRecords bs)))
-    ∙ (ap (λ (cs : List ℕ). joined (wholeRecords bs) ++ cs) (sym (pending-empty bs e)) ∙ whole-records-bytes bs)
 
 pub whole-stream-append :
     (a b : List ℕ) → walk start a ≡ At start → wholeRecords (a ++ b) ≡ wholeRecords a ++ wholeRecords b

@@ -1,4 +1,4 @@
--- No more can be taken than there is.
+-- At most as many elements of a list are taken as it has.
 -- Assumes nothing.
 use mathlib.Core.Path.{_≡_, refl}
 use mathlib.Core.Bool.{Bool, true, false}

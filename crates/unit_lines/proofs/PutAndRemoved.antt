@@ -12,15 +12,14 @@ use lib.ListN.{length, take, drop, length-append, length-drop, take-append-drop}
 use lib.Seq.{take-append-seam, drop-at, length-take-le}
 use Rattle.cells.specs.Cells.{front, written}
 use Rattle.cells.proofs.Fronts.{written-length, written-bytes}
-use Rattle.bools.proofs.Tests.{never}
-use Rattle.bools.proofs.Cases.{split}
+use Rattle.bools.proofs.Cases.{never, split}
 use Rattle.bools.proofs.Finite.{halves}
 use Rattle.unit_lines.specs.declared.Line.{Line}
 use Rattle.unit_lines.specs.UnitLine.{framed, frames, NoneLonger, Holds, hasRoom, pastFirst, stands, oldestEnd, UnitTo}
 use Rattle.unit_lines.proofs.Frames.{frames-more, none-more, frames-length}
 
 pub apart : {a : Bool} → a ≡ true → a ≡ false → ⊥
-apart y n = never (sym y ∙ n)
+apart y n = never (sym n ∙ y)
 
 -- ---- a unit joins
 

@@ -1,4 +1,4 @@
--- The turns of the code's walk, and what the code's rest reads of the bytes held.
+-- A walk and the rest of a record as the code reads them: the bytes of a list from an index on.
 -- Assumes nothing.
 use mathlib.Core.Path.{_≡_, refl}
 use mathlib.Core.List.{List, [], _∷_}

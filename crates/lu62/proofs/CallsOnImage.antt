@@ -19,7 +19,7 @@ use Rattle.image.specs.declared.ImageRead.the-variants.{Record, Refused}
 use Rattle.image.proofs.WhatIsRead.{record-known, refused-known}
 use Rattle.lu62.specs.Handing.{answerNumbers, readNumbers, refusalNumbers, Handed, handed, handedOut, Left, left, onImage}
 use Rattle.lu62.specs.Exported.{ruleIn, madeOut, sentOut, takenOut, copiedOut}
-use Rattle.lu62.proofs.Sizes.{WORD, small}
+use Rattle.lu62.proofs.LengthsFit.{WORD, small}
 
 -- ---- the image is refused, and the number returned is 4 or 5
 
