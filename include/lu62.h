@@ -82,7 +82,7 @@ extern "C" {
 
 /* Refusals of lu62_receive_unit: the partner's unit breaks the protocol. */
 #define LU62_SHORT_UNIT 20        /* under 5 bytes */
-#define LU62_BAD_HEADER 21        /* the header breaks a rule, H1 to H6 below; `rule` names one that it breaks */
+#define LU62_BAD_HEADER 21        /* the header breaks rules of H1 to H6 below; `rule` is the lowest of them */
 #define LU62_BAD_RU 22            /* the RU does not fit the header, or is too long */
 #define LU62_BAD_NUMBER 23        /* not the next sequence number */
 #define LU62_BAD_CHAIN 24         /* first in chain where a chain is open, or the reverse */

@@ -62,7 +62,7 @@ reasons! {
     UnreadMark = 13, "a mark has not been read";
     /// Under 5 bytes.
     ShortUnit = 20, "the unit is too short";
-    /// The header breaks a rule, H1 to H6 in lu62.h; [`Refusal::rule`] names one that it breaks.
+    /// The header breaks rules of H1 to H6 in lu62.h; [`Refusal::rule`] is the lowest of them.
     BadHeader = 21, "the header breaks a rule";
     /// The RU does not fit the header, or is too long.
     BadRu = 22, "the RU does not fit";
@@ -107,7 +107,7 @@ pub struct Refusal {
     pub reason: Reason,
     /// Sense data, 0 where the refusal has none.
     pub sense: u32,
-    /// The header rule broken, 1 to 6, with [`Reason::BadHeader`]; else 0.
+    /// The lowest header rule broken, 1 to 6, with [`Reason::BadHeader`]; else 0.
     pub rule: u32,
 }
 

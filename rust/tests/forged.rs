@@ -773,8 +773,8 @@ fn check_refused(call: Call, before: &Block, after: &Block, answer: &raw::Answer
     assert_eq!(answer.sense, sense, "sense of {}", answer.refusal);
     if answer.refusal == 21 {
         let unit = &before.cells[before.gift.clone()];
-        assert!((1..=6).contains(&answer.rule), "21 names no rule");
-        assert!(plain::broken([unit[2], unit[3], unit[4]])[answer.rule as usize - 1], "the rule named is not broken");
+        let lowest = plain::broken([unit[2], unit[3], unit[4]]).iter().position(|&broken| broken);
+        assert_eq!(lowest.map(|index| index as u32 + 1), Some(answer.rule), "the rule named is not the lowest that is broken");
     } else {
         assert_eq!(answer.rule, 0, "a rule named with {}", answer.refusal);
     }
@@ -885,8 +885,7 @@ impl Bench {
         let told = plain::Answer {
             refusal: answer.refusal,
             sense: answer.sense,
-            // Which of several broken rules is named is free; `check` has asked whether this one is broken.
-            rule: if answer.refusal == 21 { other.rule } else { answer.rule },
+            rule: answer.rule,
             unit: answer.unit,
             copied: answer.copied,
             complete: answer.complete != 0,

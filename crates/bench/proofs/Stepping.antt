@@ -7,11 +7,9 @@ use mathlib.Core.List.{List, [], _∷_, _++_}
 use native.Mathlib.Omega.{arith}
 use lib.Dec.{leb, eqb}
 use lib.ListN.{length}
-use Rattle.unit.specs.Unit.{headerIn}
 use Rattle.end.specs.Outcome.{Taken}
 use Rattle.end.specs.Results.{takenBy}
 use Rattle.end.specs.ReceiveUnit.{receiveUnit}
-use Rattle.end.specs.RuleNamed.{NamesBroken}
 use Rattle.end.specs.declared.Done.{Done}
 use Rattle.answers.specs.declared.ReadAnswer.{ReadAnswer}
 use Rattle.end.specs.declared.ReadDone.{ReadDone}
@@ -26,7 +24,7 @@ use Rattle.bench.specs.declared.Outcome.{Outcome}
 use Rattle.bench.specs.declared.Outcome.the-variants.{Answered, NothingWaiting, Full}
 use Rattle.unit_lines.specs.UnitLine.{Holds}
 use Rattle.bench.specs.CallMade.{verbOf, isRead, stationOf, actedBy, plainDone}
-use Rattle.bench.specs.Step.{Bench, benchOf, unlessFull, outcomeOf, replyTo, NamesRule, accepted, Steps}
+use Rattle.bench.specs.Step.{Bench, benchOf, unlessFull, outcomeOf, replyTo, accepted, Steps}
 use Rattle.calls.proofs.UnitSizes.{Fits, acts-fit, takes-fit}
 use Rattle.calls.specs.Calls.{Called, called, taken, Reply, Station, plain, unitsOf}
 
@@ -42,7 +40,6 @@ module _ (q : Request) (given : List ℕ) (b : Bench) (o : Outcome) (a : ReadAns
       record {
         outcome-is = e;
         answered = λ y. absurd (n y);
-        named = λ y. absurd (n y);
         unread = λ z. ap (λ (x : Bench). x .buffer) same;
         unchanged = λ z. same;
       }
@@ -79,7 +76,6 @@ module _ (v : Verb) (given : List ℕ) (b : Bench) (d : ReadDone) (send unit inb
               far-are = subst (λ (m : Called). Holds to far (vs ++ m .sent)) e hf;
               answer-is = ap (λ (m : Called). m .answer) e;
             };
-        named = λ z. tt;
         unread = k;
         unchanged = λ z. absurd (z refl);
       }
@@ -97,25 +93,24 @@ tookBy s t =
     }
 
 module _ (u : List ℕ) (b : Bench) (d : Done) (r : ReadDone) (inbox unit : List ℕ) (p : r ≡ plainDone d)
-    (e : takenBy d inbox unit ≡ receiveUnit (d .answer .rule) (b .station .end) u (b .station .inbox) (b .station .unit)) where
-  took-is : tookBy (b .station) (takenBy d inbox unit) ≡ takes (λ x. r .answer .answer .rule) normal (b .station) u
+    (e : takenBy d inbox unit ≡ receiveUnit (b .station .end) u (b .station .inbox) (b .station .unit)) where
+  took-is : tookBy (b .station) (takenBy d inbox unit) ≡ takes normal (b .station) u
   unfolding takes taken
-  took-is = rw p (ap (tookBy (b .station)) e)
+  took-is = ap (tookBy (b .station)) e
 
   pub offer-fits : Fits (r .answer .answer .unit) unit
   unfolding takes
   offer-fits =
       rw p
       (subst (λ (t : Took Lane Station Reply (List ℕ)). Fits (t .answer .answer .answer .unit) (t .end .unit)) (sym took-is)
-      (takes-fit (b .station) (λ x. r .answer .answer .rule) u))
+      (takes-fit (b .station) u))
 
   pub offer-step : (to : Line) (far : List ℕ) (es : Log) (us vs : List (List ℕ))
-      → (d .answer .refusal ≡ 21 → NamesBroken (d .answer .rule) (headerIn u))
       → Holds (b .from) (b .waiting) us
       → Holds to far (vs ++ unitsOf (r .answer .answer .unit) unit)
       → leb 512 (length vs) ≡ false
       → Steps Offer u b Answered (r .answer) (benchOf (r .end) (b .station .send) unit inbox (b .buffer) (b .from) (b .waiting) to far) es us vs
-  offer-step to far es us vs k hw hf n =
+  offer-step to far es us vs hw hf n =
       record {
         outcome-is = rw n;
         answered = λ z.
@@ -128,7 +123,6 @@ module _ (u : List ℕ) (b : Bench) (d : Done) (r : ReadDone) (inbox unit : List
                   (subst (λ (x : ReadDone). Holds to far (vs ++ unitsOf (x .answer .answer .unit) unit)) p hf);
               answer-is = ap (λ (x : ReadDone). replyTo Offer (x .answer) []) p ∙ ap (λ (t : Took Lane Station Reply (List ℕ)). t .answer) took-is;
             };
-        named = λ z. subst (λ (x : ReadDone). NamesRule (x .answer) u) (sym p) k;
         unread = λ z. refl;
         unchanged = λ z. absurd (z refl);
       }
@@ -141,11 +135,11 @@ not-accepted NothingWaiting q n = refl
 not-accepted Full q n = refl
 
 -- the unit goes where the take is accepted
-removed-is : (naming : List ℕ → ℕ) (s : Station) (u : List ℕ) (o : Outcome) (a : ReadAnswer) → o ≡ Answered
-    → replyTo Offer a [] ≡ takes naming normal s u .answer
-    → accepted o (a .answer .refusal) ≡ takes naming normal s u .removed
+removed-is : (s : Station) (u : List ℕ) (o : Outcome) (a : ReadAnswer) → o ≡ Answered
+    → replyTo Offer a [] ≡ takes normal s u .answer
+    → accepted o (a .answer .refusal) ≡ takes normal s u .removed
 unfolding takes
-removed-is naming s u o a y e = rw y (ap (λ (r : Reply). eqb (r .answer .answer .refusal) 0) e)
+removed-is s u o a y e = rw y (ap (λ (r : Reply). eqb (r .answer .answer .refusal) 0) e)
 
 -- from the step that offers the oldest unit u; `from` and `waiting` are the line afterwards
 module _ (given u : List ℕ) (b : Bench) (o : Outcome) (a : ReadAnswer) (b₁ : Bench) (from : Line) (waiting : List ℕ) (es : Log) (rest vs : List (List ℕ)) where
@@ -167,11 +161,10 @@ module _ (given u : List ℕ) (b : Bench) (o : Outcome) (a : ReadAnswer) (b₁ :
               station-is = l .station-is;
               waiting-are =
                   subst (λ (g : Bool). Holds from waiting (cond g rest (u ∷ rest)))
-                  (removed-is (λ x. a .answer .rule) (b .station) u o a y (l .answer-is)) (h y);
+                  (removed-is (b .station) u o a y (l .answer-is)) (h y);
               far-are = l .far-are;
               answer-is = l .answer-is;
             };
-        named = st .named;
         unread = st .unread;
         unchanged = λ n. k (not-accepted o (a .answer .refusal) n) ∙ st .unchanged n;
       }

@@ -6,8 +6,6 @@ use mathlib.Core.Bool.{Bool, false, cond}
 use mathlib.Core.List.{List, [], _∷_, _++_}
 use lib.Dec.{leb, eqb}
 use lib.ListN.{length}
-use Rattle.unit.specs.Unit.{headerIn}
-use Rattle.end.specs.RuleNamed.{NamesBroken}
 use Rattle.end.specs.declared.End.{End}
 use Rattle.answers.specs.declared.ReadAnswer.{ReadAnswer}
 use Rattle.joined.specs.Joined as joined
@@ -58,16 +56,16 @@ accepted Full q = false
 -- ---- what an answered request leaves
 
 -- an offered unit is taken or refused as one from the line is, and no unit goes from the line
-abbrev pub offer : (List ℕ → ℕ) → Station → Log → List (List ℕ) → List ℕ → Local Lane Station J.Verb Reply (List ℕ)
-offer naming s es us u =
-    let t = takes naming normal s u in
+abbrev pub offer : Station → Log → List (List ℕ) → List ℕ → Local Lane Station J.Verb Reply (List ℕ)
+offer s es us u =
+    let t = takes normal s u in
     record { side = record { end = t .end; waiting = onNormal us; log = took normal u (t .answer) (t .sent) ∷ es }; sent = t .sent }
 
--- the call of the joined ends, at this end with its line of the normal lane and what has happened at it; `naming` is the rule named by a refusal 21
-abbrev pub localOf : Request → List ℕ → (List ℕ → ℕ) → Bench → Log → List (List ℕ) → Local Lane Station J.Verb Reply (List ℕ)
-localOf (Call v) given naming b es us = apply sameLane acts (takes naming) (b .station) es (onNormal us) (joined.act (verbOf v given (b .buffer)))
-localOf Take given naming b es us = apply sameLane acts (takes naming) (b .station) es (onNormal us) (joined.take normal)
-localOf Offer given naming b es us = offer naming (b .station) es us given
+-- the call of the joined ends, at this end with its line of the normal lane and what has happened at it
+abbrev pub localOf : Request → List ℕ → Bench → Log → List (List ℕ) → Local Lane Station J.Verb Reply (List ℕ)
+localOf (Call v) given b es us = apply sameLane acts takes (b .station) es (onNormal us) (joined.act (verbOf v given (b .buffer)))
+localOf Take given b es us = apply sameLane acts takes (b .station) es (onNormal us) (joined.take normal)
+localOf Offer given b es us = offer (b .station) es us given
 
 abbrev pub replyTo : Request → ReadAnswer → List ℕ → Reply
 replyTo (Call v) a buffer = replyOf v a buffer
@@ -87,16 +85,6 @@ pub record Leaves (b : Bench) (reply : Reply) (vs : List (List ℕ)) (l : Local 
   pub far-are : Holds (b .to) (b .far) (vs ++ l .sent normal)
   pub answer-is : Newest reply (l .side .log)
 
--- a refusal 21 of this unit names a rule that its header breaks
-abbrev pub NamesRule : ReadAnswer → List ℕ → Type 0
-NamesRule a u = a .answer .refusal ≡ 21 → NamesBroken (a .answer .rule) (headerIn u)
-
-abbrev pub Named : Request → List ℕ → ReadAnswer → List (List ℕ) → Type 0
-Named (Call v) given a us = Unit {0}
-Named Take given a [] = Unit {0}
-Named Take given a (u ∷ us) = NamesRule a u
-Named Offer given a us = NamesRule a given
-
 abbrev pub reads : Request → Bool
 reads (Call v) = isRead v
 reads Take = false
@@ -105,8 +93,7 @@ reads Offer = false
 -- ---- the step, from b to b₁, where us wait for this end and vs for the other
 pub record Steps (q : Request) (given : List ℕ) (b : Bench) (o : Outcome) (a : ReadAnswer) (b₁ : Bench) (es : Log) (us vs : List (List ℕ)) : Type 0 where
   pub outcome-is : o ≡ outcomeOf q us vs
-  pub answered : o ≡ Answered → Leaves b₁ (replyTo q a (b₁ .buffer)) vs (localOf q given (λ u. a .answer .rule) b es us)
-  pub named : o ≡ Answered → Named q given a us
+  pub answered : o ≡ Answered → Leaves b₁ (replyTo q a (b₁ .buffer)) vs (localOf q given b es us)
   -- no other request than a read touches the read's buffer
   pub unread : reads q ≡ false → b₁ .buffer ≡ b .buffer
   -- a request that is not answered changes nothing

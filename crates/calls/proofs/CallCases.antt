@@ -6,7 +6,7 @@ use Rattle.calls.proofs.CallWords.{Walked, At, BadLength, headerGood, C
 use Rattle.calls.proofs.CallWords.{RU-START, unitOf, numberIn, headerIn, unit-length, paced, hasCredit, mayAllocate, mayConfirm, positiveResponseFits}
 use Rattle.calls.proofs.CallWords.{negativeResponseFits, confirmationFits, isSend, isNothing, agree, isFirstSpeaker, controlGood, Control, bidAnswer}
 use Rattle.calls.proofs.CallWords.{allocated, confirmationMade, markAnswered, bidReceived, positiveResponseReceived, negativeResponseReceived}
-use Rattle.calls.proofs.CallWords.{confirmationReceived, accepted, refused, refusedNaming, firstNo, yes, windowAnswered, keeps, nextNumber, bidMade}
+use Rattle.calls.proofs.CallWords.{confirmationReceived, accepted, refused, refusedNaming, ruleNamed, firstNo, yes, windowAnswered, keeps, nextNumber, bidMade}
 use Rattle.calls.proofs.CallWords.{allocateRefusal, allocateDecision, allocate, lastMade, nothingGoes, closeRefusal, closeDecision, close}
 use Rattle.calls.proofs.CallWords.{confirmedRefusal, confirmedDecision, confirmed, withControl, withReceiving, Decision, decided}
 use Rattle.calls.proofs.CallWords.{sendPacingResponseRefusal, sendPacingResponseDecision, sendPacingResponse, bytesRead, inboxMoved, someHeld}
@@ -366,27 +366,27 @@ abbrev pub tookKind : Station → Header → ℕ → List ℕ → Called
 tookKind s h n ru = tookAs s h (sortOf h) n ru
 
 -- what a take leaves by its decision
-abbrev tookOf : (List ℕ → ℕ) → Station → List ℕ → Decision → List ℕ → Called
-tookOf naming s u d inbox =
+abbrev tookOf : Station → List ℕ → Decision → List ℕ → Called
+tookOf s u d inbox =
     record {
       end = record { end = d .end; send = s .send; unit = cellsOut (d .out) (s .unit); inbox = inbox };
-      answer = plain (answerNaming (naming u) d);
-      sent = unitsOf (answerNaming (naming u) d .unit) (cellsOut (d .out) (s .unit));
+      answer = plain (answerNaming u d);
+      sent = unitsOf (answerNaming u d .unit) (cellsOut (d .out) (s .unit));
     }
 
 took-kind :
-    (P : Called → Type 0) (naming : List ℕ → ℕ) (s : Station) (u : List ℕ) (h : Header) (n : ℕ) (ru : List ℕ)
+    (P : Called → Type 0) (s : Station) (u : List ℕ) (h : Header) (n : ℕ) (ru : List ℕ)
     → P (tookKind s h n ru)
-    → P (tookOf naming s u (kindReceived (s .end) h n ru) (cond (eqb (kindReceived (s .end) h n ru .refusal) 0) (kindJoined (s .end) h ru (s .inbox)) (s .inbox)))
+    → P (tookOf s u (kindReceived (s .end) h n ru) (cond (eqb (kindReceived (s .end) h n ru .refusal) 0) (kindJoined (s .end) h ru (s .inbox)) (s .inbox)))
 unfolding dataJoined bidAnswered creditRaised
-took-kind P naming s u (Data d) n ru p = p
-took-kind P naming s u (Bid b) n ru p =
+took-kind P s u (Data d) n ru p = p
+took-kind P s u (Bid b) n ru p =
     let h = bidAnswer (s .end .control) in
     rw (unit-out n h (fixedRu h) (s .unit)) p
-took-kind P naming s u PositiveBidResponse n ru p = p
-took-kind P naming s u NegativeBidResponse n ru p = p
-took-kind P naming s u Confirmation n ru p = p
-took-kind P naming s u PacingResponse n ru p = p
+took-kind P s u PositiveBidResponse n ru p = p
+took-kind P s u NegativeBidResponse n ru p = p
+took-kind P s u Confirmation n ru p = p
+took-kind P s u PacingResponse n ru p = p
 
 -- no question that gives the number k is answered no
 abbrev pub passes : ℕ → List (Bool × ℕ) → Bool
@@ -411,20 +411,20 @@ pub record TakeAsked (s : Station) (u : List ℕ) : Type 0 where
   pub long : RU-START ≤ length u
   pub header : headerGood (headerIn u) ≡ true
 
-abbrev pub refusedTake : (List ℕ → ℕ) → Station → List ℕ → ℕ → Called
-refusedTake naming s u q = record { end = s; answer = plain (refusedNaming (naming u) q); sent = [] }
+abbrev pub refusedTake : Station → List ℕ → ℕ → Called
+refusedTake s u q = record { end = s; answer = plain (refusedNaming (ruleNamed u) q); sent = [] }
 
 -- a take, by the kind of the unit
 pub kind-cases :
-    (P : Called → Type 0) (naming : List ℕ → ℕ) (s : Station) (u : List ℕ)
-    → ((q : ℕ) → q ≡ receiveUnitRefusal (s .end) u (length (s .inbox)) (length (s .unit)) → eqb q 0 ≡ false → P (refusedTake naming s u q))
+    (P : Called → Type 0) (s : Station) (u : List ℕ)
+    → ((q : ℕ) → q ≡ receiveUnitRefusal (s .end) u (length (s .inbox)) (length (s .unit)) → eqb q 0 ≡ false → P (refusedTake s u q))
     → (TakeAsked s u → firstNo (kindQuestions (s .end) (headerReceived u) (numberIn u) (ruReceived u)) ≡ 0 → P (tookKind s (headerReceived u) (numberIn u) (ruReceived u)))
-    → P (taken naming s u)
+    → P (taken s u)
 unfolding taken receiveUnit receiveUnitDecision inboxCells receiveUnitRefusal
-kind-cases P naming s u refuses takesIt =
+kind-cases P s u refuses takesIt =
     let e = s .end in
     let q : ℕ = receiveUnitRefusal e u (length (s .inbox)) (length (s .unit)) in
-    cases (λ (d : Decision). P (tookOf naming s u d (cond (eqb (d .refusal) 0) (kindJoined e (headerReceived u) (ruReceived u) (s .inbox)) (s .inbox)))) (eqb q 0)
+    cases (λ (d : Decision). P (tookOf s u d (cond (eqb (d .refusal) 0) (kindJoined e (headerReceived u) (ruReceived u) (s .inbox)) (s .inbox)))) (eqb q 0)
     (λ y.
     let head = headQuestions e u (length (s .inbox)) (length (s .unit)) in
     let both = pass-both head (kindQuestions e (headerReceived u) (numberIn u) (ruReceived u)) tt (eqb-true q 0 y) in
@@ -437,7 +437,7 @@ kind-cases P naming s u refuses takesIt =
       long = leb-true _ _ (t 3);
       header = t 4;
     } in
-    took-kind P naming s u (headerReceived u) (numberIn u) (ruReceived u) (takesIt asked (both .1)))
+    took-kind P s u (headerReceived u) (numberIn u) (ruReceived u) (takesIt asked (both .1)))
     (λ y. rw y (refuses q refl y))
 
 -- ---- a take by the sort of the unit
@@ -463,17 +463,17 @@ fits-at ends p (At q) e = refl
 fits-at ends p BadLength e = cc
 
 pub take-cases :
-    (P : Called → Type 0) (naming : List ℕ → ℕ) (s : Station) (u : List ℕ)
-    → ((q : ℕ) → q ≡ receiveUnitRefusal (s .end) u (length (s .inbox)) (length (s .unit)) → eqb q 0 ≡ false → P (refusedTake naming s u q))
+    (P : Called → Type 0) (s : Station) (u : List ℕ)
+    → ((q : ℕ) → q ≡ receiveUnitRefusal (s .end) u (length (s .inbox)) (length (s .unit)) → eqb q 0 ≡ false → P (refusedTake s u q))
     → ((d : DataHeader) → TakeAsked s u → sortOf (headerReceived u) ≡ brings d → DataAsked s d (ruReceived u) → P (joinedAct s d (numberIn u) (ruReceived u)))
     → ((p : Bool) → TakeAsked s u → sortOf (headerReceived u) ≡ asks p → RequestAsked (s .end .receiving .window) p
     → Moved (s .end .control) (bidReceived (s .end .control)) → P (answeredAct s (numberIn u)))
     → ((c : Control) → TakeAsked s u → sortOf (headerReceived u) ≡ answers → Moved (s .end .control) c → P (quietAct s (withControl c (s .end))))
     → (TakeAsked s u → sortOf (headerReceived u) ≡ paces → s .end .sending .window .pending ≡ true → P (creditAct s))
-    → P (taken naming s u)
+    → P (taken s u)
 unfolding ruGood
-take-cases P naming s u refuses joins bids responds raises =
-    kind-cases P naming s u refuses (λ a k. by (headerReceived u) refl a k)
+take-cases P s u refuses joins bids responds raises =
+    kind-cases P s u refuses (λ a k. by (headerReceived u) refl a k)
   where
     by : (h : Header) → headerReceived u ≡ h → TakeAsked s u → firstNo (kindQuestions (s .end) h (numberIn u) (ruReceived u)) ≡ 0
         → P (tookKind s h (numberIn u) (ruReceived u))

@@ -43,8 +43,8 @@ unfoldable pub use Rattle.end.specs.{ReceiveUnit.creditRaised, ReceiveUnit.rece
 unfoldable pub use Rattle.end.specs.{ReceiveUnit.receiveUnit, Requests.dataHeader, SendData.bytesKept, SendData.bytesSpilled, SendData.sendRefusal}
 unfoldable pub use Rattle.end.specs.{SendData.sendDecision, SendData.sendData}
 pub use Rattle.end.specs.{Close.nothingGoes, Outcome.withControl, Outcome.withReceiving, Outcome.Decision, Outcome.decided, Receive.someHeld}
-pub use Rattle.end.specs.{ReceiveUnit.ruReceived, ReceiveUnit.headerReceived, Record.recordGood, SendData.heldBytes, SendData.gone, declared.End.End}
-pub use Rattle.end.specs.{declared.ReadDone.ReadDone}
+pub use Rattle.end.specs.{ReceiveUnit.ruleNamed, ReceiveUnit.ruReceived, ReceiveUnit.headerReceived, Record.recordGood, SendData.heldBytes, SendData.gone}
+pub use Rattle.end.specs.{declared.End.End, declared.ReadDone.ReadDone}
 pub use Rattle.end.proofs.{RecordGood.facts}
 pub use Rattle.calls.specs.{Calls.Called, Calls.Station, Calls.Verb, Calls.refusalIn, Laws.AllBytes, Laws.BytesOf, UnitCounts.count}
 pub use Rattle.calls.specs.{UnitCounts.isPacingResponse, UnitCounts.isRequest}

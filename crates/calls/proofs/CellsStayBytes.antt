@@ -92,12 +92,12 @@ module _ (s : Station) (c : Cells s) where
   owed-small true n l = l
   owed-small false n l = c .owed
 
-  pub cells-takes : (naming : List ℕ → ℕ) (u : List ℕ) → AllBytes u → After (taken naming s u)
+  pub cells-takes : (u : List ℕ) → AllBytes u → After (taken s u)
   unfolding dataJoined bidAnswered creditRaised
-  cells-takes naming u f =
+  cells-takes u f =
       let h = bidAnswer (s .end .control) in
       let n = number-small u f in
       let joined = written-bytes-all (s .end .receiving .held) (ruReceived u) (s .inbox) (drop-bytes RU-START u f) (c .inbox) in
-      take-cases After naming s u (λ q w x. (c, tt))
+      take-cases After s u (λ q w x. (c, tt))
       (λ d a e k. (record { send = c .send; inbox = joined; owed = owed-small (confirms (d .ends)) (numberIn u) n }, tt))
       (λ p a e k m. (c, one-unit (numberIn u) h (fixedRu h) n (fixed-ru h .1))) (λ x a e m. (c, tt)) (λ a e k. (c, tt))

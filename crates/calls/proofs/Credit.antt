@@ -94,7 +94,7 @@ module _ (s : Station) where
 
 -- ---- takes
 
-module _ (naming : List ℕ → ℕ) (s : Station) (u : List ℕ) where
+module _ (s : Station) (u : List ℕ) where
   -- what a take gives and costs, by whether the unit is a pacing response and whether it is a request
   abbrev Raises : Bool → Called → Type 0
   Raises b t = creditOf (t .end .end) ≡ creditOf (s .end) + s .end .sending .window .size * count (eqb (refusalIn (t .answer)) 0 && b)
@@ -102,21 +102,21 @@ module _ (naming : List ℕ → ℕ) (s : Station) (u : List ℕ) where
   abbrev Lowers : Bool → Called → Type 0
   Lowers b t = openOf (t .end .end) + count (eqb (refusalIn (t .answer)) 0 && b) ≡ openOf (s .end)
 
-  response-raises-window : Raises (isPacingResponse u) (taken naming s u)
+  response-raises-window : Raises (isPacingResponse u) (taken s u)
   unfolding dataJoined bidAnswered creditRaised
   response-raises-window =
       let w = s .end .sending .window in
       let same = as-was (credit w) (w .size) in
-      take-cases (Raises (isPacingResponse u)) naming s u (λ q x n. rw n same) (λ d a e k. rw (pacing-taken u (a .header), e) same)
+      take-cases (Raises (isPacingResponse u)) s u (λ q x n. rw n same) (λ d a e k. rw (pacing-taken u (a .header), e) same)
       (λ p a e k m. rw (pacing-taken u (a .header), e) same) (λ c a e m. rw (pacing-taken u (a .header), e) same)
       (λ a e k. rw (pacing-taken u (a .header), e) (response-raises w k ∙ once (credit w) (w .size)))
 
-  request-lowers-one : Lowers (isRequest u) (taken naming s u)
+  request-lowers-one : Lowers (isRequest u) (taken s u)
   unfolding dataJoined bidAnswered creditRaised requestReceived
   request-lowers-one =
       let w = s .end .receiving .window in
       let same : openOf (s .end) + 0 ≡ openOf (s .end) = omega arith in
-      take-cases (Lowers (isRequest u)) naming s u (λ q x n. rw n same)
+      take-cases (Lowers (isRequest u)) s u (λ q x n. rw n same)
       (λ d a e k. rw (request-received u (a .header), e) (request-costs w (facts (s .end) (a .good) .receiving .window) (k .request .credit)))
       (λ p a e k m. rw (request-received u (a .header), e) (request-costs w (facts (s .end) (a .good) .receiving .window) (k .credit)))
       (λ c a e m. rw (request-received u (a .header), e) same) (λ a e k. rw (request-received u (a .header), e) same)
@@ -125,7 +125,7 @@ pub credit-exact : CreditExact
 credit-exact =
     record {
       made = λ s v. request-costs-one s v;
-      answered = λ naming s u. response-raises-window naming s u;
-      received = λ naming s u. request-lowers-one naming s u;
+      answered = λ s u. response-raises-window s u;
+      received = λ s u. request-lowers-one s u;
       paced = λ s v. pacing-response-opens s v;
     }

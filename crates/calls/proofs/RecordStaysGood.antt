@@ -157,16 +157,16 @@ good-acts s v b i g = calls s g v b i
 
 -- every take leaves a good record
 pub good-takes :
-    (naming : List ℕ → ℕ) (s : Station) (u : List ℕ) → AllBytes u → recordGood (s .end) ≡ true → recordGood (taken naming s u .end .end) ≡ true
+    (s : Station) (u : List ℕ) → AllBytes u → recordGood (s .end) ≡ true → recordGood (taken s u .end .end) ≡ true
 unfolding dataJoined bidAnswered creditRaised requestReceived
-good-takes naming s u b g =
+good-takes s u b g =
     let e = s .end in
     let r = e .receiving in
     let ru = ruReceived u in
     let o = facts e g .sending in
     let i = facts e g .receiving in
     let fits = fits-of e g in
-    take-cases (After s g) naming s u (λ q w x. g)
+    take-cases (After s g) s u (λ q w x. g)
     (λ d a w k.
     let most = k .short in
     good-from (dataJoined e d (numberIn u) ru .end)
@@ -221,8 +221,8 @@ pub stays-good : StaysGood
 stays-good =
     record {
       was = λ s v e. accepted-good s v (eq-eqb _ 0 e);
-      was-at-take = λ naming s u e. accepted-take-good naming s u (eq-eqb _ 0 e);
+      was-at-take = λ s u e. accepted-take-good s u (eq-eqb _ 0 e);
       is = λ s v b i e. good-acts s v b i (accepted-good s v (eq-eqb _ 0 e));
-      is-after-take = λ naming s u b e. good-takes naming s u b (accepted-take-good naming s u (eq-eqb _ 0 e));
+      is-after-take = λ s u b e. good-takes s u b (accepted-take-good s u (eq-eqb _ 0 e));
       is-opened = λ s n m k e. good-opened s n m k e;
     }

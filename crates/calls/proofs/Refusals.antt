@@ -6,7 +6,7 @@ use Rattle.calls.proofs.CallWords.{cases, join, left, right, numberIn, 
 use Rattle.calls.proofs.CallWords.{bidMade, allocateRefusal, allocateDecision, allocate, lastMade, nothingGoes, closeRefusal, closeDecision, close}
 use Rattle.calls.proofs.CallWords.{confirmedRefusal, confirmedDecision, confirmed, withControl, Decision, decided, sendPacingResponseRefusal}
 use Rattle.calls.proofs.CallWords.{sendPacingResponseDecision, sendPacingResponse, bytesRead, someHeld, receiveRefusal, markRead, receiveDecision}
-use Rattle.calls.proofs.CallWords.{receive, ruReceived, headerReceived, receiveUnitRefusal, receiveUnitDecision, receiveUnit, recordGood, bytesKept}
+use Rattle.calls.proofs.CallWords.{receive, ruleNamed, ruReceived, headerReceived, receiveUnitRefusal, receiveUnitDecision, receiveUnit, recordGood, bytesKept}
 use Rattle.calls.proofs.CallWords.{bytesSpilled, sendRefusal, sendDecision, sendData, End, ReadDone, Called, Station, Verb, called, taken, refusalIn}
 use Rattle.answers.specs.declared.Answer.{Answer}
 use Rattle.end.specs.Outcome.{nothing, lengthOut, accept, answerOf}
@@ -62,10 +62,10 @@ number-is s (Verb.receive buffer) =
     (λ y. cases (λ (d : ReadDone). d .answer .answer .refusal ≡ q) (someHeld (s .end)) (λ h. sym (eqb-true q 0 y)) (λ h. sym (eqb-true q 0 y)))
     (λ n. refl)
 
-pub take-number-is : (naming : List ℕ → ℕ) (s : Station) (u : List ℕ) → refusalIn (taken naming s u .answer) ≡ firstNo (receiveUnitQuestions s u)
+pub take-number-is : (s : Station) (u : List ℕ) → refusalIn (taken s u .answer) ≡ firstNo (receiveUnitQuestions s u)
 unfolding taken receiveUnit receiveUnitDecision receiveUnitRefusal
-take-number-is naming s u =
-    number-of (refusedNaming (naming u)) (λ q. refl) _ (s .end) _ (kind-accepted (s .end) (headerReceived u) (numberIn u) (ruReceived u) .0)
+take-number-is s u =
+    number-of (refusedNaming (ruleNamed u)) (λ q. refl) _ (s .end) _ (kind-accepted (s .end) (headerReceived u) (numberIn u) (ruReceived u) .0)
 
 -- ---- 5 is no number of a call whose record is within the section
 
@@ -88,9 +88,9 @@ module _ (s : Station) (g : recordGood (s .end) ≡ true) where
   pub never-5 : (v : Verb) → eqb (refusalIn (called s v .answer)) 5 ≡ false
   never-5 v = ap (λ (q : ℕ). eqb q 5) (number-is s v) ∙ not-first (questions s v) 5 refl (asked-5 v)
 
-  pub take-never-5 : (naming : List ℕ → ℕ) (u : List ℕ) → eqb (refusalIn (taken naming s u .answer)) 5 ≡ false
-  take-never-5 naming u =
-      ap (λ (q : ℕ). eqb q 5) (take-number-is naming s u)
+  pub take-never-5 : (u : List ℕ) → eqb (refusalIn (taken s u .answer)) 5 ≡ false
+  take-never-5 u =
+      ap (λ (q : ℕ). eqb q 5) (take-number-is s u)
       ∙ not-first (receiveUnitQuestions s u) 5 refl (join (recordGood (s .end)) _ g (kind-accepted (s .end) (headerReceived u) (numberIn u) (ruReceived u) .1))
 
 -- ---- calls that the end answers by itself
@@ -131,27 +131,27 @@ module _ (s : Station) where
 
 -- ---- takes
 
-module _ (naming : List ℕ → ℕ) (s : Station) (u : List ℕ) where
+module _ (s : Station) (u : List ℕ) where
   abbrev Untaken : Called → Type 0
   Untaken t = eqb (refusalIn (t .answer)) 0 ≡ false → (t .end ≡ s) × (t .sent ≡ [])
 
   -- a refused take changes nothing, makes no unit, and leaves the unit on its line
-  pub refused-take-nothing : eqb (refusalIn (taken naming s u .answer)) 0 ≡ false
-      → (taken naming s u .end ≡ s) × (taken naming s u .sent ≡ [])
+  pub refused-take-nothing : eqb (refusalIn (taken s u .answer)) 0 ≡ false
+      → (taken s u .end ≡ s) × (taken s u .sent ≡ [])
   refused-take-nothing =
-      take-cases Untaken naming s u (λ q w n h. (refl, refl)) (λ d a e k h. yes h) (λ p a e k m h. yes h) (λ c a e m h. yes h) (λ a e k h. yes h)
+      take-cases Untaken s u (λ q w n h. (refl, refl)) (λ d a e k h. yes h) (λ p a e k m h. yes h) (λ c a e m h. yes h) (λ a e k h. yes h)
 
-  pub accepted-take-good : eqb (refusalIn (taken naming s u .answer)) 0 ≡ true → recordGood (s .end) ≡ true
+  pub accepted-take-good : eqb (refusalIn (taken s u .answer)) 0 ≡ true → recordGood (s .end) ≡ true
   accepted-take-good =
-      kind-cases (λ (t : Called). eqb (refusalIn (t .answer)) 0 ≡ true → recordGood (s .end) ≡ true) naming s u
+      kind-cases (λ (t : Called). eqb (refusalIn (t .answer)) 0 ≡ true → recordGood (s .end) ≡ true) s u
       (λ q w n h. no (eqb q 0) n h) (λ a k h. a .good)
 
 pub refusals : Refusals
 refusals =
     record {
       number = λ s v. number-is s v;
-      number-of-take = λ naming s u. take-number-is naming s u;
+      number-of-take = λ s u. take-number-is s u;
       changes-nothing = λ s v n. refused-nothing s v (ne-eqb _ 0 n);
       leaves-buffer = λ s buffer n. refused-buffer s buffer (ne-eqb _ 0 n);
-      takes-nothing = λ naming s u n. refused-take-nothing naming s u (ne-eqb _ 0 n);
+      takes-nothing = λ s u n. refused-take-nothing s u (ne-eqb _ 0 n);
     }

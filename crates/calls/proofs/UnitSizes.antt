@@ -46,10 +46,10 @@ module _ (s : Station) where
   acts-fit (Verb.receive buffer) =
       read-cases After s buffer (λ q w n. none (s .unit)) (λ a h. none (s .unit)) (λ a h m. none (s .unit))
 
-  pub takes-fit : (naming : List ℕ → ℕ) (u : List ℕ) → After (taken naming s u)
-  takes-fit naming u =
+  pub takes-fit : (u : List ℕ) → After (taken s u)
+  takes-fit u =
       let h = bidAnswer (s .end .control) in
-      take-cases After naming s u (λ q w n. none (s .unit)) (λ d a e k. none (s .unit))
+      take-cases After s u (λ q w n. none (s .unit)) (λ d a e k. none (s .unit))
       (λ p a e k m. unit-fits (numberIn u) h (fixedRu h) (s .unit) (fixed-ru h .0)) (λ c a e m. none (s .unit)) (λ a e k. none (s .unit))
 
 pub units-fit : UnitsFit
@@ -57,6 +57,6 @@ units-fit =
     record {
       made = λ s v. acts-fit s v .there;
       short = λ s v. acts-fit s v .short;
-      made-by-take = λ naming s u. takes-fit s naming u .there;
-      short-by-take = λ naming s u. takes-fit s naming u .short;
+      made-by-take = λ s u. takes-fit s u .there;
+      short-by-take = λ s u. takes-fit s u .short;
     }

@@ -20,6 +20,6 @@ module _ (s : Station) where
   size-acts (Verb.close f c) = close-cases After s f c (λ q n. refl) (λ a n. refl) (λ a n k. refl)
   size-acts (Verb.receive buffer) = read-cases After s buffer (λ q w n. refl) (λ a h. refl) (λ a h m. refl)
 
-  pub size-takes : (naming : List ℕ → ℕ) (u : List ℕ) → After (taken naming s u)
+  pub size-takes : (u : List ℕ) → After (taken s u)
   unfolding dataJoined bidAnswered creditRaised answered
-  size-takes naming u = take-cases After naming s u (λ q w n. refl) (λ d a e k. refl) (λ p a e k m. refl) (λ c a e m. refl) (λ a e k. refl)
+  size-takes u = take-cases After s u (λ q w n. refl) (λ d a e k. refl) (λ p a e k m. refl) (λ c a e m. refl) (λ a e k. refl)

@@ -104,10 +104,10 @@ called s confirmed = makes s (F.confirmed (s .end) (s .unit))
 called s (receive buffer) = copies s (R.receive (s .end) (s .inbox) buffer)
 called s sendPacingResponse = makes s (P.sendPacingResponse (s .end) (s .unit))
 
--- a take of the unit u; `naming` is the choice of a rule that 21 leaves free
-unfoldable pub taken : (List ℕ → ℕ) → Station → List ℕ → Called
-taken naming s u =
-    let t : Taken = T.receiveUnit (naming u) (s .end) u (s .inbox) (s .unit) in
+-- a take of the unit u
+unfoldable pub taken : Station → List ℕ → Called
+taken s u =
+    let t : Taken = T.receiveUnit (s .end) u (s .inbox) (s .unit) in
     record {
       end = record { end = t .done .end; send = s .send; unit = t .unit; inbox = t .inbox };
       answer = plain (t .done .answer);

@@ -37,19 +37,19 @@ abbrev pub receiveUnitQuestions : Station → List ℕ → List (Bool × ℕ)
 receiveUnitQuestions s u =
     headQuestions (s .end) u (length (s .inbox)) (length (s .unit)) ++ kindQuestions (s .end) (headerReceived u) (numberIn u) (ruReceived u)
 
--- A refused call gives the first number that fits, and changes neither the record nor one lent cell; `naming` is the choice of a rule that 21 leaves free.
+-- A refused call gives the first number that fits, and changes neither the record nor one lent cell.
 pub record Refusals : Type 0 where
   -- the first "no" gives the number
   pub number : (s : Station) (v : Verb) → refusalIn (called s v .answer) ≡ firstNo (questions s v)
-  pub number-of-take : (naming : List ℕ → ℕ) (s : Station) (u : List ℕ) → refusalIn (taken naming s u .answer) ≡ firstNo (receiveUnitQuestions s u)
+  pub number-of-take : (s : Station) (u : List ℕ) → refusalIn (taken s u .answer) ≡ firstNo (receiveUnitQuestions s u)
   -- the record and the cells lent at opening are as before, and no unit is made
   pub changes-nothing : (s : Station) (v : Verb) → (refusalIn (called s v .answer) ≡ 0 → ⊥) → (called s v .end ≡ s) × (called s v .sent ≡ [])
   -- the buffer lent to a read too
   pub leaves-buffer : (s : Station) (buffer : List ℕ) → (refusalIn (called s (receive buffer) .answer) ≡ 0 → ⊥)
       → called s (receive buffer) .answer .buffer ≡ buffer
   -- so does a take
-  pub takes-nothing : (naming : List ℕ → ℕ) (s : Station) (u : List ℕ) → (refusalIn (taken naming s u .answer) ≡ 0 → ⊥)
-      → (taken naming s u .end ≡ s) × (taken naming s u .sent ≡ [])
+  pub takes-nothing : (s : Station) (u : List ℕ) → (refusalIn (taken s u .answer) ≡ 0 → ⊥)
+      → (taken s u .end ≡ s) × (taken s u .sent ≡ [])
 
 -- ---- question 5
 
@@ -69,10 +69,10 @@ BytesOf (receive buffer) = Unit {0}
 -- An accepted call's record was within the section 'The end's record', and the record that it leaves is; so is that of an accepted opening.
 pub record StaysGood : Type 0 where
   pub was : (s : Station) (v : Verb) → refusalIn (called s v .answer) ≡ 0 → recordGood (s .end) ≡ true
-  pub was-at-take : (naming : List ℕ → ℕ) (s : Station) (u : List ℕ) → refusalIn (taken naming s u .answer) ≡ 0 → recordGood (s .end) ≡ true
+  pub was-at-take : (s : Station) (u : List ℕ) → refusalIn (taken s u .answer) ≡ 0 → recordGood (s .end) ≡ true
   pub is : (s : Station) (v : Verb) → BytesOf v → AllBytes (s .inbox) → refusalIn (called s v .answer) ≡ 0 → recordGood (called s v .end .end) ≡ true
-  pub is-after-take : (naming : List ℕ → ℕ) (s : Station) (u : List ℕ) → AllBytes u → refusalIn (taken naming s u .answer) ≡ 0
-      → recordGood (taken naming s u .end .end) ≡ true
+  pub is-after-take : (s : Station) (u : List ℕ) → AllBytes u → refusalIn (taken s u .answer) ≡ 0
+      → recordGood (taken s u .end .end) ≡ true
   pub is-opened : (s : Session) (send unit inbox : ℕ) → opened s send unit inbox .answer .refusal ≡ 0 → recordGood (opened s send unit inbox .end) ≡ true
 
 -- ---- credit and open
@@ -89,11 +89,11 @@ isSendPacingResponse (receive buffer) = false
 -- exactly W; nothing else moves them.
 pub record CreditExact : Type 0 where
   pub made : (s : Station) (v : Verb) → requestsAmong (called s v .sent) + creditOf (called s v .end .end) ≡ creditOf (s .end)
-  pub answered : (naming : List ℕ → ℕ) (s : Station) (u : List ℕ)
-      → creditOf (taken naming s u .end .end)
-      ≡ creditOf (s .end) + s .end .sending .window .size * count (eqb (refusalIn (taken naming s u .answer)) 0 && isPacingResponse u)
-  pub received : (naming : List ℕ → ℕ) (s : Station) (u : List ℕ)
-      → openOf (taken naming s u .end .end) + count (eqb (refusalIn (taken naming s u .answer)) 0 && isRequest u) ≡ openOf (s .end)
+  pub answered : (s : Station) (u : List ℕ)
+      → creditOf (taken s u .end .end)
+      ≡ creditOf (s .end) + s .end .sending .window .size * count (eqb (refusalIn (taken s u .answer)) 0 && isPacingResponse u)
+  pub received : (s : Station) (u : List ℕ)
+      → openOf (taken s u .end .end) + count (eqb (refusalIn (taken s u .answer)) 0 && isRequest u) ≡ openOf (s .end)
   pub paced : (s : Station) (v : Verb)
       → openOf (called s v .end .end) ≡ openOf (s .end) + s .end .receiving .window .size * count (eqb (refusalIn (called s v .answer)) 0 && isSendPacingResponse v)
 
@@ -103,5 +103,5 @@ pub record CreditExact : Type 0 where
 pub record UnitsFit : Type 0 where
   pub made : (s : Station) (v : Verb) → called s v .answer .answer .answer .unit ≤ length (called s v .end .unit)
   pub short : (s : Station) (v : Verb) → called s v .answer .answer .answer .unit ≤ 1029
-  pub made-by-take : (naming : List ℕ → ℕ) (s : Station) (u : List ℕ) → taken naming s u .answer .answer .answer .unit ≤ length (taken naming s u .end .unit)
-  pub short-by-take : (naming : List ℕ → ℕ) (s : Station) (u : List ℕ) → taken naming s u .answer .answer .answer .unit ≤ 1029
+  pub made-by-take : (s : Station) (u : List ℕ) → taken s u .answer .answer .answer .unit ≤ length (taken s u .end .unit)
+  pub short-by-take : (s : Station) (u : List ℕ) → taken s u .answer .answer .answer .unit ≤ 1029

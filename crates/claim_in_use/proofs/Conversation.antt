@@ -12,7 +12,6 @@ use Rattle.joined.specs.Ends.{Lane, sameLane, acts, takes}
 use Rattle.calls.specs.Calls.{Verb}
 use Rattle.calls.proofs.ByteLists.{are-bytes}
 use Rattle.joined.specs.Claim.{Pair, Claim, TheRecords, LentBytes, AlwaysGood}
-use Rattle.worked_examples.specs.Stations.{anyRule}
 use Rattle.worked_examples.specs.Computed.{computed}
 use Rattle.claim_in_use.specs.OtherWords.{each, offered}
 use Rattle.claim_in_use.specs.Conversation.{speaker, bidder, lent, ends, calls, reordered, Happened, Asked, Said, OneConversation}
@@ -36,21 +35,21 @@ waits-fed (u ∷ us) e = tt
 -- every take of the list finds a unit
 abbrev allFind : Pair → List (At Lane Verb) → Bool
 allFind p [] = true
-allFind p (first (act v) ∷ l) = allFind (step sameLane acts (takes anyRule) p (first (act v))) l
-allFind p (first (J.take k) ∷ l) = waits (p .one .waiting k) && allFind (step sameLane acts (takes anyRule) p (first (J.take k))) l
-allFind p (second (act v) ∷ l) = allFind (step sameLane acts (takes anyRule) p (second (act v))) l
-allFind p (second (J.take k) ∷ l) = waits (p .two .waiting k) && allFind (step sameLane acts (takes anyRule) p (second (J.take k))) l
+allFind p (first (act v) ∷ l) = allFind (step sameLane acts takes p (first (act v))) l
+allFind p (first (J.take k) ∷ l) = waits (p .one .waiting k) && allFind (step sameLane acts takes p (first (J.take k))) l
+allFind p (second (act v) ∷ l) = allFind (step sameLane acts takes p (second (act v))) l
+allFind p (second (J.take k) ∷ l) = waits (p .two .waiting k) && allFind (step sameLane acts takes p (second (J.take k))) l
 
-all-fed : (p : Pair) (l : List (At Lane Verb)) → allFind p l ≡ true → AllFed sameLane acts (takes anyRule) p l
+all-fed : (p : Pair) (l : List (At Lane Verb)) → allFind p l ≡ true → AllFed sameLane acts takes p l
 all-fed p [] e = tt
-all-fed p (first (act v) ∷ l) e = (tt, all-fed (step sameLane acts (takes anyRule) p (first (act v))) l e)
+all-fed p (first (act v) ∷ l) e = (tt, all-fed (step sameLane acts takes p (first (act v))) l e)
 all-fed p (first (J.take k) ∷ l) e =
-    let q = step sameLane acts (takes anyRule) p (first (J.take k)) in
+    let q = step sameLane acts takes p (first (J.take k)) in
     let h = both (waits (p .one .waiting k)) (allFind q l) e in
     (waits-fed (p .one .waiting k) (h .0), all-fed q l (h .1))
-all-fed p (second (act v) ∷ l) e = (tt, all-fed (step sameLane acts (takes anyRule) p (second (act v))) l e)
+all-fed p (second (act v) ∷ l) e = (tt, all-fed (step sameLane acts takes p (second (act v))) l e)
 all-fed p (second (J.take k) ∷ l) e =
-    let q = step sameLane acts (takes anyRule) p (second (J.take k)) in
+    let q = step sameLane acts takes p (second (J.take k)) in
     let h = both (waits (p .two .waiting k)) (allFind q l) e in
     (waits-fed (p .two .waiting k) (h .0), all-fed q l (h .1))
 
@@ -91,10 +90,10 @@ module _ (claim : Claim) (records : TheRecords) (always : AlwaysGood) where
   said : Said
   unfolding computed
   said =
-      let parts = claim anyRule speaker bidder lent lent calls (asked .openings) in
+      let parts = claim speaker bidder lent lent calls (asked .openings) in
       let joint = parts .0 in
-      let r = records anyRule speaker bidder lent lent calls (asked .openings) in
-      let good = always anyRule speaker bidder lent lent calls (asked .openings .one) (asked .openings .two) lent-bytes lent-bytes
+      let r = records speaker bidder lent lent calls (asked .openings) in
+      let good = always speaker bidder lent lent calls (asked .openings .one) (asked .openings .two) lent-bytes lent-bytes
       (given-bytes calls (written-out (each offered calls) refl)) in
       record {
         not-both = joint .not-both;

@@ -22,20 +22,19 @@ found : (us : List (List ℕ)) → (us ≡ [] → ⊥) → Some us
 found [] h = absurd (h refl)
 found (u ∷ us) h = tt
 
-module _ (naming : List ℕ → ℕ) where
-  ready : (p : Ends) (c : At Lane Verb) (l : List (At Lane Verb)) → TakesFind naming p (c ∷ l) → Ready sameLane acts (takes naming) p c
-  ready p (first (act v)) l h = tt
-  ready p (first (take k)) l h = found (p .one .waiting k) (h .one k [] l refl)
-  ready p (second (act v)) l h = tt
-  ready p (second (take k)) l h = found (p .two .waiting k) (h .two k [] l refl)
+ready : (p : Ends) (c : At Lane Verb) (l : List (At Lane Verb)) → TakesFind p (c ∷ l) → Ready sameLane acts takes p c
+ready p (first (act v)) l h = tt
+ready p (first (take k)) l h = found (p .one .waiting k) (h .one k [] l refl)
+ready p (second (act v)) l h = tt
+ready p (second (take k)) l h = found (p .two .waiting k) (h .two k [] l refl)
 
-  pub fed : (p : Ends) (l : List (At Lane Verb)) → TakesFind naming p l → AllFed sameLane acts (takes naming) p l
-  fed p [] h = tt
-  fed p (c ∷ l) h = (
-    ready p c l h,
-    fed (step sameLane acts (takes naming) p c) l
-        (record {
-          one = λ k before behind e z. h .one k (c ∷ before) behind (ap (λ (r : List (At Lane Verb)). c ∷ r) e) z;
-          two = λ k before behind e z. h .two k (c ∷ before) behind (ap (λ (r : List (At Lane Verb)). c ∷ r) e) z;
-        }),
-  )
+pub fed : (p : Ends) (l : List (At Lane Verb)) → TakesFind p l → AllFed sameLane acts takes p l
+fed p [] h = tt
+fed p (c ∷ l) h = (
+  ready p c l h,
+  fed (step sameLane acts takes p c) l
+      (record {
+        one = λ k before behind e z. h .one k (c ∷ before) behind (ap (λ (r : List (At Lane Verb)). c ∷ r) e) z;
+        two = λ k before behind e z. h .two k (c ∷ before) behind (ap (λ (r : List (At Lane Verb)). c ∷ r) e) z;
+      }),
+)

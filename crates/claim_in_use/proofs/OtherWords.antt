@@ -79,12 +79,12 @@ same-end x y e =
     }
 
 module _ (claim : Claim) (records : TheRecords) (always : AlwaysGood) where
-  agrees : (naming : List ℕ → ℕ) (n : Numbers) (b c : Buffers) → InRange n b c → (l : List (At Lane Verb)) → Agree n (after naming n b c l)
-  agrees naming n b c r l =
-      let p = after naming n b c l in
+  agrees : (n : Numbers) (b c : Buffers) → InRange n b c → (l : List (At Lane Verb)) → Agree n (after n b c l)
+  agrees n b c r l =
+      let p = after n b c l in
       let o = openings n b c r in
-      let j = claim naming (speaker n) (bidder n) b c l o .0 in
-      let k = records naming (speaker n) (bidder n) b c l o in
+      let j = claim (speaker n) (bidder n) b c l o .0 in
+      let k = records (speaker n) (bidder n) b c l o in
       record {
         one-sends = λ x y. j .not-both (ap isSend x) (ap isSend y);
         at-one = at-one-end (n .window-out) (p .one) (j .no-breach-one) (j .credit-one) (k .one);
@@ -93,32 +93,32 @@ module _ (claim : Claim) (records : TheRecords) (always : AlwaysGood) where
         back = one-way (p .two) (p .one) (j .bytes-back) (k .back);
       }
 
-  alike : (naming : List ℕ → ℕ) (n : Numbers) (b c : Buffers) → InRange n b c → (xs ys : List (Call Lane Verb)) (l m : List (At Lane Verb))
+  alike : (n : Numbers) (b c : Buffers) → InRange n b c → (xs ys : List (Call Lane Verb)) (l m : List (At Lane Verb))
       → Interleaves xs ys l
       → Interleaves xs ys m
-      → TakesFind naming (after naming n b c []) l
-      → TakesFind naming (after naming n b c []) m
-      → SameEnd (after naming n b c l .one) (after naming n b c m .one) × SameEnd (after naming n b c l .two) (after naming n b c m .two)
-  alike naming n b c r xs ys l m i j f g =
-      let p = after naming n b c [] in
+      → TakesFind (after n b c []) l
+      → TakesFind (after n b c []) m
+      → SameEnd (after n b c l .one) (after n b c m .one) × SameEnd (after n b c l .two) (after n b c m .two)
+  alike n b c r xs ys l m i j f g =
+      let p = after n b c [] in
       let e =
-      claim naming (speaker n) (bidder n) b c l (openings n b c r) .1 m (firsts-are i ∙ sym (firsts-are j)) (seconds-are i ∙ sym (seconds-are j))
-      (fed naming p l f) (fed naming p m g) in (
-        same-end (after naming n b c l .one) (after naming n b c m .one) (ap (λ (q : Ends). q .one) e),
-        same-end (after naming n b c l .two) (after naming n b c m .two) (ap (λ (q : Ends). q .two) e),
+      claim (speaker n) (bidder n) b c l (openings n b c r) .1 m (firsts-are i ∙ sym (firsts-are j)) (seconds-are i ∙ sym (seconds-are j))
+      (fed p l f) (fed p m g) in (
+        same-end (after n b c l .one) (after n b c m .one) (ap (λ (q : Ends). q .one) e),
+        same-end (after n b c l .two) (after n b c m .two) (ap (λ (q : Ends). q .two) e),
       )
 
-  keeps : (naming : List ℕ → ℕ) (s t : Session) (b c : Buffers) → Opens s b → Opens t c → (l : List (At Lane Verb))
+  keeps : (s t : Session) (b c : Buffers) → Opens s b → Opens t c → (l : List (At Lane Verb))
       → AreBytes (b .send ++ (b .inbox ++ (c .send ++ (c .inbox ++ each offered l))))
-      → (let p = run sameLane acts (takes naming) (openedBoth s t b c) l in KeepsRules (p .one) × KeepsRules (p .two))
-  keeps naming s t b c o q l h =
-      let p = run sameLane acts (takes naming) (openedBoth s t b c) l in
+      → (let p = run sameLane acts takes (openedBoth s t b c) l in KeepsRules (p .one) × KeepsRules (p .two))
+  keeps s t b c o q l h =
+      let p = run sameLane acts takes (openedBoth s t b c) l in
       let h1 = parted (b .send) _ h in
       let h2 = parted (b .inbox) _ (h1 .1) in
       let h3 = parted (c .send) _ (h2 .1) in
       let h4 = parted (c .inbox) (each offered l) (h3 .1) in
       let g =
-      always naming s t b c l (accepts s b o) (accepts t c q) (record { send = all-bytes (b .send) (h1 .0); inbox = all-bytes (b .inbox) (h2 .0) })
+      always s t b c l (accepts s b o) (accepts t c q) (record { send = all-bytes (b .send) (h1 .0); inbox = all-bytes (b .inbox) (h2 .0) })
       (record { send = all-bytes (c .send) (h3 .0); inbox = all-bytes (c .inbox) (h4 .0) }) (given-bytes l (h4 .1)) in (
         record { record-good = g .one; never-5 = never-in 5 (p .one .log) (g .never-5-one) },
         record { record-good = g .two; never-5 = never-in 5 (p .two .log) (g .never-5-two) },

@@ -18,7 +18,7 @@ use Rattle.joined.specs.Joined.{first, second, act, AllFed, run}
 use Rattle.joined.specs.Ends.{Lane, normal, sameLane, Buffers, JoinedOpenings, openedBoth, acts, takes}
 use Rattle.joined.specs.Histories.{bytesAccepted, bytesRead, bytesInInbox, bytesOnLine, bytesInSendBuffer, requestsMade, pacingResponsesTaken, breaches, refusedWith, badReads, CompleteIsRight, NoneCrosses}
 use Rattle.joined.specs.Claim.{Pair}
-use Rattle.worked_examples.specs.Stations.{zeros, session, anyRule}
+use Rattle.worked_examples.specs.Stations.{zeros, session}
 use Rattle.calls.specs.Calls.{Verb, prepareToReceive}
 
 -- ---- the calls
@@ -115,7 +115,7 @@ reordered =
     ∷ []
 
 abbrev pub talked : Pair
-talked = run sameLane acts (takes anyRule) ends calls
+talked = run sameLane acts takes ends calls
 
 -- ---- what happened, by computation
 
@@ -139,8 +139,8 @@ pub record Happened : Type 0 where
 
 pub record Asked : Type 0 where
   pub openings : JoinedOpenings speaker bidder lent lent
-  pub fed : AllFed sameLane acts (takes anyRule) ends calls
-  pub fed-reordered : AllFed sameLane acts (takes anyRule) ends reordered
+  pub fed : AllFed sameLane acts takes ends calls
+  pub fed-reordered : AllFed sameLane acts takes ends reordered
 
 -- ---- what the claim says, in bytes and numbers
 
@@ -160,7 +160,7 @@ pub record Said : Type 0 where
   pub credit-one : 3 + 1 ≡ 2 * (1 + 1)
   pub credit-two : 3 + 1 ≡ 2 * (1 + 1)
   -- the same outcome
-  pub same : talked ≡ run sameLane acts (takes anyRule) ends reordered
+  pub same : talked ≡ run sameLane acts takes ends reordered
   -- the records read are the first of those given
   pub to-come-out : List (List ℕ)
   pub records-out : (table1 ++ (table2 ++ table3)) ∷ [] ≡ ((table1 ++ (table2 ++ table3)) ∷ []) ++ to-come-out

@@ -214,15 +214,15 @@ pub data Interleaves : List (Call Lane Verb) → List (Call Lane Verb) → List 
   at-first : {c : Call Lane Verb} {xs ys : List (Call Lane Verb)} {l : List (At Lane Verb)} → Interleaves xs ys l → Interleaves (c ∷ xs) ys (first c ∷ l)
   at-second : {c : Call Lane Verb} {xs ys : List (Call Lane Verb)} {l : List (At Lane Verb)} → Interleaves xs ys l → Interleaves xs (c ∷ ys) (second c ∷ l)
 
-abbrev pub after : (List ℕ → ℕ) → Numbers → Buffers → Buffers → List (At Lane Verb) → Ends
-after naming n b c l = run sameLane acts (takes naming) (openedBoth (speaker n) (bidder n) b c) l
+abbrev pub after : Numbers → Buffers → Buffers → List (At Lane Verb) → Ends
+after n b c l = run sameLane acts takes (openedBoth (speaker n) (bidder n) b c) l
 
 -- wherever the list takes, a unit waits on that lane
-pub record TakesFind (naming : List ℕ → ℕ) (p : Ends) (l : List (At Lane Verb)) : Type 0 where
+pub record TakesFind (p : Ends) (l : List (At Lane Verb)) : Type 0 where
   pub one : (k : Lane) (before behind : List (At Lane Verb)) → l ≡ before ++ (first (J.take k) ∷ behind)
-      → run sameLane acts (takes naming) p before .one .waiting k ≡ [] → ⊥
+      → run sameLane acts takes p before .one .waiting k ≡ [] → ⊥
   pub two : (k : Lane) (before behind : List (At Lane Verb)) → l ≡ before ++ (second (J.take k) ∷ behind)
-      → run sameLane acts (takes naming) p before .two .waiting k ≡ [] → ⊥
+      → run sameLane acts takes p before .two .waiting k ≡ [] → ⊥
 
 -- records, every lent cell, lines and answers in order
 pub record SameEnd (x y : OneEnd) : Type 0 where
@@ -250,14 +250,14 @@ pub record KeepsRules (x : OneEnd) : Type 0 where
 -- ---- the whole, of every two sessions, buffers and lists
 
 pub record InOtherWords : Type 0 where
-  pub agree : (naming : List ℕ → ℕ) (n : Numbers) (b c : Buffers) → InRange n b c → (l : List (At Lane Verb)) → Agree n (after naming n b c l)
-  pub same : (naming : List ℕ → ℕ) (n : Numbers) (b c : Buffers) → InRange n b c → (xs ys : List (Call Lane Verb)) (l m : List (At Lane Verb))
+  pub agree : (n : Numbers) (b c : Buffers) → InRange n b c → (l : List (At Lane Verb)) → Agree n (after n b c l)
+  pub same : (n : Numbers) (b c : Buffers) → InRange n b c → (xs ys : List (Call Lane Verb)) (l m : List (At Lane Verb))
       → Interleaves xs ys l
       → Interleaves xs ys m
-      → TakesFind naming (openedBoth (speaker n) (bidder n) b c) l
-      → TakesFind naming (openedBoth (speaker n) (bidder n) b c) m
-      → SameEnd (after naming n b c l .one) (after naming n b c m .one) × SameEnd (after naming n b c l .two) (after naming n b c m .two)
+      → TakesFind (openedBoth (speaker n) (bidder n) b c) l
+      → TakesFind (openedBoth (speaker n) (bidder n) b c) m
+      → SameEnd (after n b c l .one) (after n b c m .one) × SameEnd (after n b c l .two) (after n b c m .two)
   -- of sessions that are joined or not, if all that is lent to the ends and given at them are bytes
-  pub rules : (naming : List ℕ → ℕ) (s t : Session) (b c : Buffers) → Opens s b → Opens t c → (l : List (At Lane Verb))
+  pub rules : (s t : Session) (b c : Buffers) → Opens s b → Opens t c → (l : List (At Lane Verb))
       → AreBytes (b .send ++ (b .inbox ++ (c .send ++ (c .inbox ++ each offered l))))
-      → (let p = run sameLane acts (takes naming) (openedBoth s t b c) l in KeepsRules (p .one) × KeepsRules (p .two))
+      → (let p = run sameLane acts takes (openedBoth s t b c) l in KeepsRules (p .one) × KeepsRules (p .two))

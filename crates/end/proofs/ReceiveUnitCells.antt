@@ -22,7 +22,7 @@ use Rattle.receiving.specs.Receiving.{requestReceived}
 use Rattle.end.specs.Record.{recordGood}
 use Rattle.end.specs.Outcome.{aUnit, lengthOut, Decision, refuse}
 use Rattle.end.specs.Results.{takenBy}
-use Rattle.end.specs.ReceiveUnit.{kindQuestions, headerReceived, ruReceived, receiveUnitRefusal, dataJoined, bidAnswered, creditRaised, kindReceived, receiveUnitDecision, kindJoined, inboxCells, doneNaming, receiveUnit}
+use Rattle.end.specs.ReceiveUnit.{kindQuestions, headerReceived, ruReceived, receiveUnitRefusal, dataJoined, bidAnswered, creditRaised, kindReceived, receiveUnitDecision, kindJoined, inboxCells, ruleNamed, doneNaming, receiveUnit}
 use Rattle.end.specs.Kinds.{kindRefusal}
 use Rattle.end.proofs.RoomToReceive.{bid-room, bid-answer-length, inbox-is, joined-room}
 use Rattle.end.proofs.ReceiveUnitRows.{kind-accepted, take-accepted}
@@ -116,33 +116,33 @@ naming-length true n q rule = refl
 naming-length false n q rule = refl
 
 -- written by what the decision says, the cells are the definition's
-pub take-wrote : (rule : ℕ) (e : End) (taken inbox unit : List ℕ)
+pub take-wrote : (e : End) (taken inbox unit : List ℕ)
     → (let d = receiveUnitDecision e taken (length inbox) (length unit) in
-    let r = doneNaming rule d in
+    let r = doneNaming taken d in
     takenBy r
     (cond (eqb (r .end .receiving .held) (e .receiving .held)) inbox (written (e .receiving .held) (drop 5 taken) inbox))
     (cond (eqb (r .answer .unit) 0) unit (cellsMade (r .end .receiving .number) (bidAnswer (e .control)) (fixedRu (bidAnswer (e .control))) unit))
-    ≡ receiveUnit rule e taken inbox unit)
+    ≡ receiveUnit e taken inbox unit)
 unfolding receiveUnitDecision receiveUnit
-take-wrote rule e taken inbox unit =
+take-wrote e taken inbox unit =
     let q = receiveUnitRefusal e taken (length inbox) (length unit) in
     let d = chosen (eqb q 0) e taken (length inbox) (length unit) in
     rw (
-      naming-length (eqb (d .refusal) 0) (lengthOut (d .out)) (d .refusal) rule,
+      naming-length (eqb (d .refusal) 0) (lengthOut (d .out)) (d .refusal) (ruleNamed taken),
       joins (eqb q 0) e taken inbox (length unit) refl,
       wrote d (d .end .receiving .number) (bidAnswer (e .control)) (fixedRu (bidAnswer (e .control))) unit (makes (eqb q 0) e taken (length inbox) (length unit) refl),
     )
 
 -- the same, of what the code hands back and leaves
 pub take-left : (e : End) (taken inbox unit : List ℕ) (r : Done) (answer : Header) (i u : List ℕ)
-    → r ≡ doneNaming (r .answer .rule) (receiveUnitDecision e taken (length inbox) (length unit))
+    → r ≡ doneNaming taken (receiveUnitDecision e taken (length inbox) (length unit))
     → answer ≡ bidAnswer (e .control)
     → i ≡ cond (eqb (r .end .receiving .held) (e .receiving .held)) inbox (written (e .receiving .held) (drop 5 taken) inbox)
     → u ≡ cond (eqb (r .answer .unit) 0) unit (cellsMade (r .end .receiving .number) answer (fixedRu answer) unit)
-    → takenBy r i u ≡ receiveUnit (r .answer .rule) e taken inbox unit
+    → takenBy r i u ≡ receiveUnit e taken inbox unit
 take-left e taken inbox unit r answer i u decided b j w =
     let made : Done → List ℕ = λ (x : Done). cond (eqb (x .answer .unit) 0) unit (cellsMade (x .end .receiving .number) answer (fixedRu answer) unit) in
     let held : Done → List ℕ =
     λ (x : Done). cond (eqb (x .end .receiving .held) (e .receiving .held)) inbox (written (e .receiving .held) (drop 5 taken) inbox) in
     let cells : takenBy r i u ≡ takenBy r (held r) (made r) = λ k. takenBy r (j k) (w k) in
-    cells ∙ ap (λ (x : Done). takenBy x (held x) (made x)) decided ∙ rw b (take-wrote (r .answer .rule) e taken inbox unit)
+    cells ∙ ap (λ (x : Done). takenBy x (held x) (made x)) decided ∙ rw b (take-wrote e taken inbox unit)

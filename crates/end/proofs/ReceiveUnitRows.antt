@@ -19,7 +19,7 @@ use Rattle.answers.proofs.Rows.{yes}
 use Rattle.answers.proofs.TwoRows.{pass, stop, never}
 use Rattle.end.specs.Record.{recordGood, inboxLent, unitLent}
 use Rattle.end.specs.Outcome.{Decision, refuse, lengthOut, doneOf}
-use Rattle.end.specs.ReceiveUnit.{endQuestions, kindQuestions, headerReceived, ruReceived, receiveUnitRefusal, dataJoined, bidAnswered, creditRaised, kindReceived, receiveUnitDecision, doneNaming}
+use Rattle.end.specs.ReceiveUnit.{endQuestions, kindQuestions, headerReceived, ruReceived, receiveUnitRefusal, dataJoined, bidAnswered, creditRaised, kindReceived, receiveUnitDecision, ruleNamed, doneNaming}
 use Rattle.end.specs.Kinds.{endRefusal, kindRefusal, kindDecision}
 use Rattle.end.proofs.RoomToReceive.{end-good}
 use Rattle.end.specs.declared.Done.{Done}
@@ -78,29 +78,14 @@ take-by-kind e taken inbox unit q l g = rw (receive-kind e taken inbox unit q l 
 
 -- ---- the rule named
 
--- no rule is named again as none
-none : (b : Bool) → _≡_ {A = ℕ} (cond b 0 0) 0
-none true = refl
-none false = refl
+-- none, where the refusal is not 21
+naming : (b : Bool) (n q rule : ℕ) → (q ≡ BAD-HEADER → ⊥) → cond b (accepted n) (refused q) ≡ cond b (accepted n) (refusedNaming rule q)
+naming true n q rule h = refl
+naming false n q rule h = rw (ne-eqb q BAD-HEADER h)
 
-naming : (b : Bool) (d : Decision)
-    → cond b (accepted (lengthOut (d .out))) (refused (d .refusal))
-    ≡ cond b (accepted (lengthOut (d .out))) (refusedNaming ((cond b (accepted (lengthOut (d .out))) (refused (d .refusal))) .rule) (d .refusal))
-naming true d = refl
-naming false d = rw (none (eqb (d .refusal) BAD-HEADER))
-
--- where none is named: not with 21
-pub unnamed : (r : Done) (d : Decision) → r ≡ doneOf d → (d .refusal ≡ BAD-HEADER → ⊥)
-    → (r ≡ doneNaming (r .answer .rule) d) × (r .answer .refusal ≡ BAD-HEADER → ⊥)
-unnamed r d e h = (
-  rw e (ap (λ (a : Answer). record { answer = a; end = d .end }) (naming (eqb (d .refusal) 0) d)),
-  λ x. h (refusal-said (eqb (d .refusal) 0) d refl (sym (ap (λ (y : Done). y .answer .refusal) e) ∙ x)),
-)
-  where
-    refusal-said : (b : Bool) (d : Decision) → eqb (d .refusal) 0 ≡ b → (cond b (accepted (lengthOut (d .out))) (refused (d .refusal))) .refusal ≡ BAD-HEADER
-        → d .refusal ≡ BAD-HEADER
-    refusal-said true d z x = absurd (let o : _≡_ {A = ℕ} 0 21 = x in omega arith)
-    refusal-said false d z x = x
+pub unnamed : (taken : List ℕ) (r : Done) (d : Decision) → r ≡ doneOf d → (d .refusal ≡ BAD-HEADER → ⊥) → r ≡ doneNaming taken d
+unnamed taken r d e h =
+    rw e (ap (λ (a : Answer). record { answer = a; end = d .end }) (naming (eqb (d .refusal) 0) (lengthOut (d .out)) (d .refusal) (ruleNamed taken) h))
 
 -- ---- 21 is asked of a header only
 

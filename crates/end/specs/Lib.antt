@@ -9,5 +9,4 @@ pub mod ReceiveUnit
 pub mod Receive
 pub mod SendPacingResponse
 pub mod Results
-pub mod RuleNamed
 pub mod Kinds

@@ -7,7 +7,7 @@ use lib.Dec.{eqb, leb}
 use lib.ListN.{length, drop}
 use Rattle.cells.specs.Cells.{written}
 use Rattle.logical_record.specs.Walk.{walk, placeOr}
-use Rattle.header.specs.Rules.{headerGood}
+use Rattle.header.specs.Rules.{ruleNumber, lowestBroken, headerGood}
 use Rattle.header.specs.Header.{fieldsOf, confirms}
 use Rattle.unit.specs.Ru.{fixedRu}
 use Rattle.unit.specs.Unit.{RU-START, numberIn, headerIn}
@@ -113,19 +113,22 @@ kindJoined e PacingResponse ru inbox = inbox
 unfoldable pub inboxCells : End → List ℕ → ℕ → List ℕ → List ℕ
 inboxCells e taken q inbox = cond (eqb q 0) (kindJoined e (headerReceived taken) (ruReceived taken) inbox) inbox
 
--- 21 names a rule that is broken; which one is free, and is the first argument here
-abbrev pub answerNaming : ℕ → Decision → Answer
-answerNaming rule d = cond (eqb (d .refusal) 0) (accepted (lengthOut (d .out))) (refusedNaming rule (d .refusal))
+-- 21 names the lowest rule that the header breaks
+abbrev pub ruleNamed : List ℕ → ℕ
+ruleNamed taken = ruleNumber (lowestBroken (headerIn taken))
+
+abbrev pub answerNaming : List ℕ → Decision → Answer
+answerNaming taken d = cond (eqb (d .refusal) 0) (accepted (lengthOut (d .out))) (refusedNaming (ruleNamed taken) (d .refusal))
 
 -- what the decision hands back
-abbrev pub doneNaming : ℕ → Decision → Done
-doneNaming rule d = record { answer = answerNaming rule d; end = d .end }
+abbrev pub doneNaming : List ℕ → Decision → Done
+doneNaming taken d = record { answer = answerNaming taken d; end = d .end }
 
-unfoldable pub receiveUnit : ℕ → End → List ℕ → List ℕ → List ℕ → Taken
-receiveUnit rule e taken inbox unit =
+unfoldable pub receiveUnit : End → List ℕ → List ℕ → List ℕ → Taken
+receiveUnit e taken inbox unit =
     let d : Decision = receiveUnitDecision e taken (length inbox) (length unit) in
     record {
-      done = record { answer = answerNaming rule d; end = d .end };
+      done = doneNaming taken d;
       inbox = inboxCells e taken (d .refusal) inbox;
       unit = cellsOut (d .out) unit;
     }

@@ -15,12 +15,10 @@ use unit::UnitRead;
 use unit::read_unit::read_unit;
 ghost use mathlib.Core.Path.{_≡_};
 ghost use mathlib.Core.Bool.{true};
-ghost use Rattle.unit.specs.Unit.{headerIn};
 ghost use Rattle.end.specs.Record.{recordGood};
 ghost use Rattle.end.specs.Outcome.{doneOf};
 ghost use Rattle.end.specs.Results.{takenBy};
 ghost use Rattle.end.specs.ReceiveUnit.{receiveUnitDecision, doneNaming, receiveUnit};
-ghost use Rattle.end.specs.RuleNamed.{NamesBroken};
 ghost use Rattle.end.specs.Kinds.{kindDecision};
 
 impl End {
@@ -37,10 +35,9 @@ impl End {
         self.receive_kind(header, number, walked, ru)
     }
 
-    // What receive unit answers and leaves of the record, before a cell is written. With 21 it names a rule that is broken.
+    // What receive unit answers and leaves of the record, before a cell is written. With 21 it names the lowest rule that is broken.
     pub fn receive_unit_decision(self, taken: &[u8], inbox: usize, unit: usize) -> Done
-        ensures { λ r. ⌜ (r ≡ doneNaming (r .answer .rule) (receiveUnitDecision self (now (taken .entry)) inbox unit))
-            × (r .answer .refusal ≡ 21 → NamesBroken (r .answer .rule) (headerIn (now (taken .entry)))) ⌝ }
+        ensures { λ r. ⌜ r ≡ doneNaming (now (taken .entry)) (receiveUnitDecision self (now (taken .entry)) inbox unit) ⌝ }
     {
         let q = self.end_refusal(inbox, unit);
         if q != 0 {
@@ -63,9 +60,8 @@ impl End {
     // Takes one unit from the partner, or refuses it and changes nothing. If more bytes are held then, they are the unit's own and
     // join the inbox. A bid is answered, under its number, which is the last one taken: its answer is the unit made.
     pub fn receive_unit(self, taken: &[u8], inbox: &mut [u8], unit: &mut [u8]) -> Done
-        ensures { λ r. ⌜ (takenBy r (now (inbox .exit)) (now (unit .exit))
-            ≡ receiveUnit (r .answer .rule) self (now (taken .entry)) (now (inbox .entry)) (now (unit .entry)))
-            × (r .answer .refusal ≡ 21 → NamesBroken (r .answer .rule) (headerIn (now (taken .entry)))) ⌝ }
+        ensures { λ r. ⌜ takenBy r (now (inbox .exit)) (now (unit .exit))
+            ≡ receiveUnit self (now (taken .entry)) (now (inbox .entry)) (now (unit .entry)) ⌝ }
     {
         let done = self.receive_unit_decision(taken, inbox.len(), unit.len());
         join(self.receiving.held, done.end.receiving.held, taken, inbox);

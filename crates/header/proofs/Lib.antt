@@ -3,4 +3,5 @@ mod Candidates
 mod HeaderSteps
 pub mod RoundTrip
 pub mod OnlyH1
+mod LowestNamed
 pub mod FortyEight

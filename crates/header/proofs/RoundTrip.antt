@@ -6,8 +6,8 @@ use Prim.Native.Nat.{ℕ, _+_}
 use native.Mathlib.Omega.{arith}
 use lib.Dec.{leb}
 use Rattle.header.specs.Weights.{FIRST, LAST, DR1, DR2, EXCEPTION, PACING, BB, CD, CEB, on, bit}
-use Rattle.header.specs.Rules.{sameHeader, requestsConfirmation, headerGood}
-use Rattle.header.specs.Header.{isFirst, beginsBracket, isLast, confirms, followsOf, turns, endsBracket, dataBytes, headerBytes, beginOf, followOf, endOf, dataFields, fieldsOf, readAs}
+use Rattle.header.specs.Rules.{sameHeader, requestsConfirmation, lowestBroken, headerGood}
+use Rattle.header.specs.Header.{isFirst, beginsBracket, isLast, confirms, followsOf, turns, endsBracket, dataBytes, headerBytes, beginOf, followOf, endOf, dataFields, fieldsOf, readHeader}
 use Rattle.header.specs.HeaderClaims.{BuiltIsRead, ReadIsBuilt}
 use Rattle.header.specs.declared.Follows.{Follows}
 use Rattle.header.specs.declared.Follows.the-variants.{Stay, ChangeDirection, EndBracket}
@@ -110,8 +110,8 @@ built-fields Confirmation = refl
 built-fields PacingResponse = refl
 
 pub built-is-read : BuiltIsRead
-unfolding readAs
-built-is-read r f = rw (built-good f, built-fields f)
+unfolding readHeader
+built-is-read f = rw (built-good f, built-fields f)
 
 -- ---- the other way round
 
@@ -133,7 +133,7 @@ accepted true f g r e = (refl, cc)
 accepted false f g r e = absurd (let z : _≡_ {A = ℕ} 0 1 = cc in omega arith)
 
 pub read-is-built : ReadIsBuilt
-unfolding readAs
-read-is-built r h f e =
-    let p = accepted (headerGood h) f (fieldsOf h) r e in
+unfolding readHeader
+read-is-built h f e =
+    let p = accepted (headerGood h) f (fieldsOf h) (lowestBroken h) e in
     ap headerBytes (sym (p .1)) ∙ read-bytes h (p .0)

@@ -4,10 +4,8 @@ use Prim.Native.Nat.{_+_}
 use mathlib.Core.Bool.{Bool, true, false, cond}
 use lib.Dec.{eqb}
 use Rattle.header.specs.Weights.{RESPONSE, FLOW-CONTROL, FORMAT, SENSE, FIRST, LAST, DR1, DR2, EXCEPTION, PACING, BB, CD, CEB, on, bit}
-use Rattle.header.specs.Rules.{bytes, isData, requestsConfirmation, keepsH1, keepsH2, keepsH3, keepsH4, keepsH5, keepsH6, headerGood}
+use Rattle.header.specs.Rules.{bytes, isData, requestsConfirmation, lowestBroken, headerGood}
 use Rattle.header.specs.declared.HeaderBytes.{HeaderBytes}
-use Rattle.header.specs.declared.Rule.{Rule}
-use Rattle.header.specs.declared.Rule.the-variants.{H1, H2, H3, H4, H5, H6}
 use Rattle.header.specs.declared.Follows.{Follows}
 use Rattle.header.specs.declared.Follows.the-variants.{Stay, ChangeDirection, EndBracket}
 use Rattle.header.specs.declared.ChainBegin.{ChainBegin}
@@ -99,24 +97,6 @@ fieldsOf h =
 
 -- ---- reading
 
--- what is read of three bytes, if it is this rule that is named where one is broken
-unfoldable pub readAs : Rule → HeaderBytes → HeaderRead
-readAs r h = cond (headerGood h) (headerRead.Good (fieldsOf h)) (headerRead.Breaks r)
-
--- the lowest rule that is broken is named
-unfoldable pub readLowest : HeaderBytes → HeaderRead
-readLowest h =
-    cond (keepsH1 h)
-    (cond (keepsH2 h)
-    (cond (keepsH3 h)
-    (cond (keepsH4 h)
-    (cond (keepsH5 h) (cond (keepsH6 h) (headerRead.Good (fieldsOf h)) (headerRead.Breaks H6)) (headerRead.Breaks H5))
-    (headerRead.Breaks H4))
-    (headerRead.Breaks H3))
-    (headerRead.Breaks H2))
-    (headerRead.Breaks H1)
-
--- the rule that is named; of good bytes none is, and H1 stands in
-abbrev pub ruleNamed : HeaderRead → Rule
-ruleNamed (headerRead.Good f) = H1
-ruleNamed (headerRead.Breaks r) = r
+-- what is read of three bytes: the fields of a good header, or the lowest rule that is broken
+unfoldable pub readHeader : HeaderBytes → HeaderRead
+readHeader h = cond (headerGood h) (headerRead.Good (fieldsOf h)) (headerRead.Breaks (lowestBroken h))

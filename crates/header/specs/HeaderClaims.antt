@@ -2,9 +2,9 @@
 -- Assumes nothing.
 use mathlib.Core.Path.{_≡_}
 use mathlib.Core.Bool.{true, cond}
-use Prim.Native.Nat.{ℕ, zero, suc, _+_}
-use Rattle.header.specs.Rules.{bytes, breaks, headerGood}
-use Rattle.header.specs.Header.{headerBytes, readAs}
+use Prim.Native.Nat.{ℕ, zero, suc, _+_, _≤_}
+use Rattle.header.specs.Rules.{bytes, breaks, ruleNumber, headerGood}
+use Rattle.header.specs.Header.{headerBytes, readHeader}
 use Rattle.header.specs.declared.HeaderBytes.{HeaderBytes}
 use Rattle.header.specs.declared.Header.{Header}
 use Rattle.header.specs.declared.HeaderRead.the-variants as headerRead
@@ -13,15 +13,20 @@ use Rattle.header.specs.declared.Rule.the-variants.{H1}
 
 -- every header built is read back as the same fields
 abbrev pub BuiltIsRead : Type 0
-BuiltIsRead = (r : Rule) (f : Header) → readAs r (headerBytes f) ≡ headerRead.Good f
+BuiltIsRead = (f : Header) → readHeader (headerBytes f) ≡ headerRead.Good f
 
 -- every header accepted is rebuilt as the same bytes
 abbrev pub ReadIsBuilt : Type 0
-ReadIsBuilt = (r : Rule) (h : HeaderBytes) (f : Header) → readAs r h ≡ headerRead.Good f → headerBytes f ≡ h
+ReadIsBuilt = (h : HeaderBytes) (f : Header) → readHeader h ≡ headerRead.Good f → headerBytes f ≡ h
 
 -- a header that breaks H1 breaks only H1
 abbrev pub OnlyH1 : Type 0
 OnlyH1 = (h : HeaderBytes) → breaks H1 h ≡ true → (r : Rule) → breaks r h ≡ true → r ≡ H1
+
+-- the rule that is named is broken, and every rule that is broken has its number or a higher one
+pub record LowestNamed : Type 0 where
+  pub broken : (h : HeaderBytes) (r : Rule) → readHeader h ≡ headerRead.Breaks r → breaks r h ≡ true
+  pub lowest : (h : HeaderBytes) (r s : Rule) → readHeader h ≡ headerRead.Breaks r → breaks s h ≡ true → ruleNumber r ≤ ruleNumber s
 
 -- how many numbers below n pass, and how much they count for
 abbrev pub sumBelow : (ℕ → ℕ) → ℕ → ℕ

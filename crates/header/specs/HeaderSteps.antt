@@ -1,4 +1,4 @@
--- The steps by which the reader decides on three bytes, one for each kind. What it promises is `readAs`, in Header.antt.
+-- The steps by which the reader decides on three bytes, one for each kind. What it promises is `readHeader`, in Header.antt.
 -- Assumes nothing.
 use Prim.Native.Nat.{ℕ}
 use mathlib.Core.Bool.{Bool, cond, _&&_, _||_}

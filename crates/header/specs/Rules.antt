@@ -1,7 +1,7 @@
 -- H1 to H6, as document 01 prints them: each of the three bytes of a header.
 -- Assumes nothing.
 use Prim.Native.Nat.{ℕ}
-use mathlib.Core.Bool.{Bool, false, not, _&&_, _||_}
+use mathlib.Core.Bool.{Bool, false, not, cond, _&&_, _||_}
 use mathlib.Core.List.{List, [], _∷_}
 use lib.Dec.{eqb, leb}
 use Rattle.header.specs.Weights.{FIRST, LAST, BB, CD, CEB, on}
@@ -102,6 +102,14 @@ ruleNumber H3 = 3
 ruleNumber H4 = 4
 ruleNumber H5 = 5
 ruleNumber H6 = 6
+
+-- the lowest rule that a test finds; where it finds none, H6 stands in
+abbrev pub lowest : (Rule → Bool) → Rule
+lowest found = cond (found H1) H1 (cond (found H2) H2 (cond (found H3) H3 (cond (found H4) H4 (cond (found H5) H5 H6))))
+
+-- the lowest rule that the header breaks
+unfoldable pub lowestBroken : HeaderBytes → Rule
+lowestBroken h = lowest (λ r. breaks r h)
 
 -- H1 to H6 hold
 unfoldable pub headerGood : HeaderBytes → Bool

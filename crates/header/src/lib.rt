@@ -60,7 +60,7 @@ pub enum Rule {
     H6,
 }
 
-// What three bytes say: the fields, or a rule that they break.
+// What three bytes say: the fields, or the lowest rule that they break.
 pub enum HeaderRead {
     Good(Header),
     Breaks(Rule),

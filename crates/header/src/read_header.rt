@@ -1,4 +1,4 @@
-// A header and a unit read: bytes to fields, or a rule that is broken.
+// A header read: bytes to fields, or the lowest rule that is broken.
 use crate::ChainBegin;
 use crate::ChainEnd;
 use crate::DataHeader;
@@ -14,11 +14,10 @@ use crate::weights::FIRST;
 use crate::weights::LAST;
 use crate::weights::PACING;
 ghost use mathlib.Core.Path.{_≡_};
-ghost use mathlib.Core.Bool.{true};
 ghost use Prim.Native.Nat.{_<_};
 ghost use Rattle.header.specs.Weights.{on};
-ghost use Rattle.header.specs.Rules.{requestsConfirmation, dataH3, dataH4, dataH5, dataH6, breaks};
-ghost use Rattle.header.specs.Header.{beginOf, followOf, endOf, dataFields, readAs, readLowest, ruleNamed};
+ghost use Rattle.header.specs.Rules.{requestsConfirmation, dataH3, dataH4, dataH5, dataH6};
+ghost use Rattle.header.specs.Header.{beginOf, followOf, endOf, dataFields, readHeader};
 ghost use Rattle.header.specs.HeaderSteps.{goodOr, dataRead, bidRead, responseRead, positiveRead, negativeRead};
 
 // The bit of this weight is on.
@@ -182,9 +181,9 @@ fn read_negative(b1: u8, b2: u8) -> HeaderRead
     )
 }
 
-// The kind by byte 0, and then the rules of that kind, the lowest first.
-fn read_lowest(h: HeaderBytes) -> HeaderRead
-    ensures { λ r. ⌜ r ≡ readLowest h ⌝ }
+// The fields of three bytes, or the lowest rule that they break: the kind by byte 0, and then the rules of that kind in their order.
+pub fn read_header(h: HeaderBytes) -> HeaderRead
+    ensures { λ r. ⌜ r ≡ readHeader h ⌝ }
 {
     let b0 = h.b0;
     match b0 {
@@ -195,12 +194,4 @@ fn read_lowest(h: HeaderBytes) -> HeaderRead
         0xCF => read_negative(h.b1, h.b2),
         _ => HeaderRead::Breaks(Rule::H1),
     }
-}
-
-// The fields of three bytes, or a rule that they break. Which one is named, where several are broken, is not promised.
-pub fn read_header(h: HeaderBytes) -> HeaderRead
-    ensures fields { λ r. ⌜ r ≡ readAs (ruleNamed r) h ⌝ }
-    ensures named { λ r. ⌜ ((rule : Rule) → r ≡ HeaderRead.Breaks rule → breaks rule h ≡ true) ⌝ }
-{
-    read_lowest(h)
 }

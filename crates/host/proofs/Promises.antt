@@ -10,9 +10,7 @@ use Rattle.end.specs.Confirmed.{confirmed}
 use Rattle.end.specs.SendPacingResponse.{sendPacingResponse}
 use Rattle.end.specs.Close.{flush, confirm, prepareToReceive, deallocate}
 use Rattle.end.specs.SendData.{sendData}
-use Rattle.unit.specs.Unit.{headerIn}
 use Rattle.end.specs.ReceiveUnit.{receiveUnit}
-use Rattle.end.specs.RuleNamed.{NamesBroken}
 use Rattle.end.specs.Receive.{receive}
 use Rattle.host.proofs.Shapes.{In, Out}
 use Rattle.host.proofs.WrapUnit as unit
@@ -46,7 +44,7 @@ abbrev pub SendData : End → In bytesTwo.ks → Done → Out bytesTwo.ks → Ty
 SendData h x r z = sentBy r (z .0) (z .1 .0) ≡ sendData h (x .0) (x .1 .0) (x .1 .1 .0)
 
 abbrev pub ReceiveUnit : End → In bytesTwo.ks → Done → Out bytesTwo.ks → Type 0
-ReceiveUnit h x r z = (takenBy r (z .0) (z .1 .0) ≡ receiveUnit (r .answer .rule) h (x .0) (x .1 .0) (x .1 .1 .0)) × (r .answer .refusal ≡ 21 → NamesBroken (r .answer .rule) (headerIn (x .0)))
+ReceiveUnit h x r z = takenBy r (z .0) (z .1 .0) ≡ receiveUnit h (x .0) (x .1 .0) (x .1 .1 .0)
 
 abbrev pub Receive : End → In two.ks → ReadDone → Out two.ks → Type 0
 Receive h x r z = copiedBy r (z .0) (z .1 .0) ≡ receive h (x .0) (x .1 .0)

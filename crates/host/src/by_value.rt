@@ -5,12 +5,10 @@ use end::Done;
 use end::End;
 use end::ReadDone;
 ghost use mathlib.Core.Path.{_≡_};
-ghost use Rattle.unit.specs.Unit.{headerIn};
 ghost use Rattle.end.specs.Allocate.{allocate};
 ghost use Rattle.end.specs.SendData.{sendData};
 ghost use Rattle.end.specs.Close.{deallocate};
 ghost use Rattle.end.specs.ReceiveUnit.{receiveUnit};
-ghost use Rattle.end.specs.RuleNamed.{NamesBroken};
 ghost use Rattle.end.specs.Receive.{receive};
 ghost use Rattle.end.specs.Results.{madeBy, sentBy, takenBy, copiedBy};
 
@@ -39,9 +37,8 @@ pub fn deallocate(end: End, confirm: bool, send: &[u8], unit: &mut [u8]) -> Done
 }
 
 pub fn receive_unit(end: End, taken: &[u8], inbox: &mut [u8], unit: &mut [u8]) -> Done
-    ensures { λ r. ⌜ (takenBy r (now (inbox .exit)) (now (unit .exit))
-        ≡ receiveUnit (r .answer .rule) end (now (taken .entry)) (now (inbox .entry)) (now (unit .entry)))
-        × (r .answer .refusal ≡ 21 → NamesBroken (r .answer .rule) (headerIn (now (taken .entry)))) ⌝ }
+    ensures { λ r. ⌜ takenBy r (now (inbox .exit)) (now (unit .exit))
+        ≡ receiveUnit end (now (taken .entry)) (now (inbox .entry)) (now (unit .entry)) ⌝ }
 {
     let mut kept = end;
     let answer = in_place::receive_unit(&mut kept, taken, inbox, unit);

@@ -3,13 +3,11 @@ use end::Answer;
 use end::End;
 use end::ReadAnswer;
 ghost use mathlib.Core.Path.{_≡_};
-ghost use Rattle.unit.specs.Unit.{headerIn};
 ghost use Rattle.end.specs.Allocate.{allocate};
 ghost use Rattle.end.specs.SendData.{sendData};
 ghost use Rattle.end.specs.Close.{flush, confirm, prepareToReceive, deallocate};
 ghost use Rattle.end.specs.Confirmed.{confirmed};
 ghost use Rattle.end.specs.ReceiveUnit.{receiveUnit};
-ghost use Rattle.end.specs.RuleNamed.{NamesBroken};
 ghost use Rattle.end.specs.Receive.{receive};
 ghost use Rattle.end.specs.SendPacingResponse.{sendPacingResponse};
 ghost use Rattle.end.specs.Results.{madeBy, sentBy, takenBy, copiedBy};
@@ -74,9 +72,8 @@ pub fn confirmed(end: &mut End, unit: &mut [u8]) -> Answer
 }
 
 pub fn receive_unit(end: &mut End, taken: &[u8], inbox: &mut [u8], unit: &mut [u8]) -> Answer
-    ensures { λ r. ⌜ (takenBy (doneBy r (now (end .exit))) (now (inbox .exit)) (now (unit .exit))
-        ≡ receiveUnit (r .rule) (now (end .entry)) (now (taken .entry)) (now (inbox .entry)) (now (unit .entry)))
-        × (r .refusal ≡ 21 → NamesBroken (r .rule) (headerIn (now (taken .entry)))) ⌝ }
+    ensures { λ r. ⌜ takenBy (doneBy r (now (end .exit))) (now (inbox .exit)) (now (unit .exit))
+        ≡ receiveUnit (now (end .entry)) (now (taken .entry)) (now (inbox .entry)) (now (unit .entry)) ⌝ }
 {
     let done = end.receive_unit(taken, inbox, unit);
     *end = done.end;

@@ -3,7 +3,7 @@
 use mathlib.Core.Path.{_≡_, refl}
 use mathlib.Core.Bool.{Bool, true, false, cond}
 use mathlib.Core.List.{List}
-use Prim.Native.Nat.{ℕ, _≤_}
+use Prim.Native.Nat.{ℕ}
 use native.Mathlib.Omega.{arith}
 use lib.Dec.{eqb}
 use lib.ListN.{length}
@@ -35,10 +35,3 @@ module _ (image : List ℕ) (e : End) where
   record-known =
       reading image (λ (r : ImageRead). r ≡ Record e → (length image ≡ IMAGE) × (imageGood image ≡ true) × (recordIn image ≡ e))
       (λ l g h. (l, g, cc)) (never BAD-RECORD e) (never BAD-BUFFER e)
-
--- an image is refused by 4 or 5
-pub refused-known : (image : List ℕ) (q : ℕ) → imageRead image ≡ Refused q → q ≤ BAD-RECORD
-refused-known image q =
-    reading image (λ (r : ImageRead). r ≡ Refused q → q ≤ BAD-RECORD)
-    (λ l g h. absurd (let z : _≡_ {A = ℕ} 0 1 = cc in omega arith)) (λ h. let k : BAD-RECORD ≡ q = cc in omega arith)
-    (λ h. let k : BAD-BUFFER ≡ q = cc in omega arith)

@@ -82,11 +82,11 @@ module _ (s : Station) (xs : Log) (line : List (List ℕ)) (read inbox : List �
   abbrev Left : List ℕ → Took Lane Station Reply (List ℕ) → Type 0
   Left u t = Carried (bytesAccepted (took normal u (t .answer) (t .sent) ∷ xs)) (bytesInSendBuffer (t .end)) (line ++ t .sent normal) read inbox
 
-  pub bytes-takes : (naming : List ℕ → ℕ) (u : List ℕ) → Left u (takes naming normal s u)
+  pub bytes-takes : (u : List ℕ) → Left u (takes normal s u)
   unfolding takes bytesAccepted dataJoined bidAnswered creditRaised
-  bytes-takes naming u =
+  bytes-takes u =
       let h = bidAnswer (s .end .control) in
-      take-cases (LanedTake (Left u)) naming s u (λ q w n. rw (append-nil line) c) (λ d a e k. rw (append-nil line) c)
+      take-cases (LanedTake (Left u)) s u (λ q w n. rw (append-nil line) c) (λ d a e k. rw (append-nil line) c)
       (λ p a e k m. carried-other (numberIn u) h (fixedRu h) (ap (λ (x : Sort). dataOf x (fixedRu h)) (answer-sort (s .end .control))) c)
       (λ x a e m. rw (append-nil line) c) (λ a e k. rw (append-nil line) c)
 
@@ -130,9 +130,9 @@ module _ (s : Station) (xs : Log) (acc held : List ℕ) (back : List (List ℕ))
     no-data : (k : Sort) → sortOf (headerReceived u) ≡ k → dataOf k (ruReceived u) ≡ [] → Carried acc held back (H.bytesRead xs) (bytesInInbox s)
     no-data k e z = rw (z, append-nil (bytesInInbox s)) at (joined-in k e)
 
-    pub bytes-in-takes : (naming : List ℕ → ℕ) → LeftIn (takes naming normal s u)
+    pub bytes-in-takes : LeftIn (takes normal s u)
     unfolding takes H.bytesRead dataJoined bidAnswered creditRaised requestReceived
-    bytes-in-takes naming =
-        take-cases (LanedTake LeftIn) naming s u (λ q w n. rw n c)
+    bytes-in-takes =
+        take-cases (LanedTake LeftIn) s u (λ q w n. rw n c)
         (λ d a e k. rw (written-bytes (s .end .receiving .held) (ruReceived u) (s .inbox) (inbox-room s (a .inbox) (a .good))) (joined-in _ e))
         (λ p a e k m. no-data _ e refl) (λ x a e m. no-data _ e refl) (λ a e k. no-data _ e refl)

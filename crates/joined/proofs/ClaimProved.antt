@@ -64,15 +64,15 @@ size-acted : (e : Station) (c : Verb) → sizeOf (acts e c .end) ≡ sizeOf e
 unfolding acts
 size-acted e c = size-acts e c
 
-size-took : (e : Station) (naming : List ℕ → ℕ) (u : List ℕ) → sizeOf (takes naming normal e u .end) ≡ sizeOf e
+size-took : (e : Station) (u : List ℕ) → sizeOf (takes normal e u .end) ≡ sizeOf e
 unfolding takes
-size-took e naming u = size-takes e naming u
+size-took e u = size-takes e u
 
-module _ (naming : List ℕ → ℕ) (r : Role) (v w : ℕ) where
+module _ (r : Role) (v w : ℕ) where
   act-kept :
       (e : Station) (xs : Log) (line back : Lines Lane (List ℕ)) (f : Station) (ys : Log) (c : Verb)
       → Held r v w e xs line back f ys
-      → AfterAct sameLane acts (takes naming) (Held r v w) (Held (other r) w v) xs line back f ys c (acts e c)
+      → AfterAct sameLane acts takes (Held r v w) (Held (other r) w v) xs line back f ys c (acts e c)
   act-kept e xs line back f ys c i =
       let us = line normal in
       let vs = back normal in
@@ -98,27 +98,27 @@ module _ (naming : List ℕ → ℕ) (r : Role) (v w : ℕ) where
   take-kept :
       (e : Station) (xs : Log) (line back : Lines Lane (List ℕ)) (f : Station) (ys : Log) (u : List ℕ) (vs : List (List ℕ))
       → Inv r v w e xs (line normal) (u ∷ vs) f ys
-      → AfterTake sameLane acts (takes naming) (Held r v w) (Held (other r) w v) xs line back f ys normal u vs (takes naming normal e u)
+      → AfterTake sameLane acts takes (Held r v w) (Held (other r) w v) xs line back f ys normal u vs (takes normal e u)
   take-kept e xs line back f ys u vs i =
       let us = line normal in
       both
       (record {
-        order = order-takes r e (f .end) u us vs (i .order) naming;
-        paces = paces-takes e f us vs u (i .paces) naming;
+        order = order-takes r e (f .end) u us vs (i .order);
+        paces = paces-takes e f us vs u (i .paces);
         out =
             record {
-              stream = stream-takes e (insideOf f) us (i .out .stream) naming u;
-              carried = bytes-takes e xs us (bytesRead ys) (bytesInInbox f) (i .out .carried) naming u;
+              stream = stream-takes e (insideOf f) us (i .out .stream) u;
+              carried = bytes-takes e xs us (bytesRead ys) (bytesInInbox f) (i .out .carried) u;
             };
         into =
             record {
-              stream = stream-in-takes e (outsideOf f) vs u (i .into .stream) naming;
-              carried = bytes-in-takes e xs (bytesAccepted ys) (bytesInSendBuffer f) vs u (i .into .carried) naming;
+              stream = stream-in-takes e (outsideOf f) vs u (i .into .stream);
+              carried = bytes-in-takes e xs (bytesAccepted ys) (bytesInSendBuffer f) vs u (i .into .carried);
             };
         here =
             record {
-              local = local-takes e xs u (i .here .local) naming (no-breach r e f (outsideOf f) u us vs (i .order) (i .into .stream) (i .paces));
-              size = size-took e naming u ∙ i .here .size;
+              local = local-takes e xs u (i .here .local) (no-breach r e f (outsideOf f) u us vs (i .order) (i .into .stream) (i .paces));
+              size = size-took e u ∙ i .here .size;
             };
         there = i .there;
       })
@@ -128,11 +128,11 @@ module _ (naming : List ℕ → ℕ) (r : Role) (v w : ℕ) where
       (e : Station) (xs : Log) (line back : Lines Lane (List ℕ)) (f : Station) (ys : Log) (l : Lane) (u : List ℕ) (us : List (List ℕ))
       → back l ≡ u ∷ us
       → Held r v w e xs line back f ys
-      → AfterTake sameLane acts (takes naming) (Held r v w) (Held (other r) w v) xs line back f ys l u us (takes naming l e u)
+      → AfterTake sameLane acts takes (Held r v w) (Held (other r) w v) xs line back f ys l u us (takes l e u)
   lane-kept e xs line back f ys normal u us p i =
       take-kept e xs line back f ys u us (subst (λ (vs : List (List ℕ)). Inv r v w e xs (line normal) vs f ys) p i)
 
-  keeps : Keeps sameLane acts (takes naming) (Held r v w) (Held (other r) w v)
+  keeps : Keeps sameLane acts takes (Held r v w) (Held (other r) w v)
   keeps =
       record {
         act-keeps = λ e xs line back f ys c d h. act-kept e xs line back f ys c d;
@@ -199,9 +199,9 @@ fresh-kept s t b c e f g h =
 
 -- ---- every list
 
-opened-kept : (naming : List ℕ → ℕ) (s t : Session) (b c : Buffers) → JoinedOpenings s t b c
-    → Ways sameLane acts (takes naming) (Held FirstSpeaker (s .outwindow) (t .outwindow)) (Held Bidder (t .outwindow) (s .outwindow)) (openedBoth s t b c)
-opened-kept naming s t b c j =
+opened-kept : (s t : Session) (b c : Buffers) → JoinedOpenings s t b c
+    → Ways sameLane acts takes (Held FirstSpeaker (s .outwindow) (t .outwindow)) (Held Bidder (t .outwindow) (s .outwindow)) (openedBoth s t b c)
+opened-kept s t b c j =
     let x = opened-as FirstSpeaker s b (ap roleOf (j .speaker)) (j .one) in
     let y = opened-as Bidder t c (ap roleOf (j .bidder)) (j .two) in
     both
@@ -209,13 +209,13 @@ opened-kept naming s t b c j =
     (subst (λ (e : Station). Inv FirstSpeaker (s .outwindow) (t .outwindow) (station FirstSpeaker s b) [] [] [] e []) (sym y)
     (fresh-kept s t b c (j .window-out) (j .window-back) (j .max-out) (j .max-back))))
 
-every-list : (naming : List ℕ → ℕ) (s t : Session) (b c : Buffers) (l : List (At Lane Verb)) → JoinedOpenings s t b c
-    → (let p = after naming s t b c l in
+every-list : (s t : Session) (b c : Buffers) (l : List (At Lane Verb)) → JoinedOpenings s t b c
+    → (let p = after s t b c l in
     Held FirstSpeaker (s .outwindow) (t .outwindow) (p .one .end) (p .one .log) (p .two .waiting) (p .one .waiting) (p .two .end) (p .two .log))
-every-list naming s t b c l j =
-    run-ways sameLane acts (takes naming) (Held FirstSpeaker (s .outwindow) (t .outwindow)) (Held Bidder (t .outwindow) (s .outwindow))
-    (keeps naming FirstSpeaker (s .outwindow) (t .outwindow)) (keeps naming Bidder (t .outwindow) (s .outwindow)) (openedBoth s t b c) l
-    (opened-kept naming s t b c j) .0
+every-list s t b c l j =
+    run-ways sameLane acts takes (Held FirstSpeaker (s .outwindow) (t .outwindow)) (Held Bidder (t .outwindow) (s .outwindow))
+    (keeps FirstSpeaker (s .outwindow) (t .outwindow)) (keeps Bidder (t .outwindow) (s .outwindow)) (openedBoth s t b c) l
+    (opened-kept s t b c j) .0
 
 -- ---- the claim
 
@@ -237,9 +237,9 @@ joint-of s t p i =
     }
 
 pub proved : Claim
-proved naming s t b c l j = (
-  joint-of s t (after naming s t b c l) (every-list naming s t b c l j),
-  λ m f g h k. confluent sameLane acts (takes naming) (openedBoth s t b c) l m f g h k,
+proved s t b c l j = (
+  joint-of s t (after s t b c l) (every-list s t b c l j),
+  λ m f g h k. confluent sameLane acts takes (openedBoth s t b c) l m f g h k,
 )
 
 -- ---- the records
@@ -254,9 +254,9 @@ reads-of : (x : JoinedEnd) → Local (valuesOf (x .end)) (x .log) → ReadsRight
 reads-of x l = record { given = l .given; read = l .read; inbox = l .inbox; complete = l .complete; apart = l .apart; never-8 = l .never-8; whole = l .whole }
 
 pub the-records : TheRecords
-the-records naming s t b c l j =
-    let p = after naming s t b c l in
-    let i = every-list naming s t b c l j in
+the-records s t b c l j =
+    let p = after s t b c l in
+    let i = every-list s t b c l j in
     record {
       out = arrive (p .one) (p .two) (i .out .carried .bytes);
       back = arrive (p .two) (p .one) (i .into .carried .bytes);

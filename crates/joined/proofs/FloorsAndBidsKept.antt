@@ -267,6 +267,6 @@ module _ (r : Role) (s : Station) (f : End) (u : List ℕ) (line back : List (Li
   took-kind PacingResponse h a =
       rw append-nil (order-with refl (led-took (floorOf (s .end)) h refl (i .floors)) (led-took (bidOf (s .end)) h refl (i .bids)) i)
 
-  pub order-takes : (naming : List ℕ → ℕ) → Left (takes naming normal s u)
+  pub order-takes : Left (takes normal s u)
   unfolding takes
-  order-takes naming = kind-cases (LanedTake Left) naming s u (λ q w n. rw (n, append-nil) i) (λ a k. took-kind (headerReceived u) refl a)
+  order-takes = kind-cases (LanedTake Left) s u (λ q w n. rw (n, append-nil) i) (λ a k. took-kind (headerReceived u) refl a)

@@ -40,7 +40,7 @@ pub use Rattle.session.specs.{declared.Session.Session, Opening.freshEnd}
 unfoldable pub use Rattle.end.specs.{Allocate.bidMade, Close.lastMade, Receive.bytesRead, Receive.copyCount, ReceiveUnit.dataJoined}
 unfoldable pub use Rattle.end.specs.{ReceiveUnit.bidAnswered, ReceiveUnit.creditRaised, ReceiveUnit.receiveUnitRefusal, Requests.dataHeader}
 unfoldable pub use Rattle.end.specs.{SendData.bytesKept, SendData.bytesSpilled}
-pub use Rattle.end.specs.{Receive.recordRest, ReceiveUnit.headerReceived, ReceiveUnit.ruReceived, Record.recordGood, SendData.heldBytes}
+pub use Rattle.end.specs.{Receive.recordRest, ReceiveUnit.headerReceived, ReceiveUnit.ruReceived, ReceiveUnit.ruleNamed, Record.recordGood, SendData.heldBytes}
 pub use Rattle.end.specs.{SendData.gone, declared.End.End}
 pub use Rattle.end.proofs.{RecordGood.facts}
 pub use Rattle.calls.specs.{Calls.Station, Calls.Reply, Calls.Verb, UnitCounts.count, UnitCounts.isPacingResponse}

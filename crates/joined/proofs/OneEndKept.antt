@@ -4,7 +4,7 @@ use Rattle.joined.proofs.JoinedWords.{ℕ, _+_, _*_, _≤_, _<_, eqb, l
 use Rattle.joined.proofs.JoinedWords.{refl, sym, ap, _∙_, arith, front, ended, thenWalk, walk, placeOr, Position, Walked, walk-append, walk-prefix}
 use Rattle.joined.proofs.JoinedWords.{Through, Continues, Last, Follows, fixedRu, bidRu, RU-START, unitOf, numberIn, paced, advanced, answered, credit}
 use Rattle.joined.proofs.JoinedWords.{bidAnswer, spilled, dataReceived, readRefused, accepted, requestReceived, requestMade, nextNumber, restBytes}
-use Rattle.joined.proofs.JoinedWords.{bidMade, lastMade, bytesRead, recordRest, copyCount, headerReceived, ruReceived, dataJoined, bidAnswered}
+use Rattle.joined.proofs.JoinedWords.{bidMade, lastMade, bytesRead, recordRest, copyCount, headerReceived, ruReceived, ruleNamed, dataJoined, bidAnswered}
 use Rattle.joined.proofs.JoinedWords.{creditRaised, receiveUnitRefusal, dataHeader, heldBytes, bytesKept, bytesSpilled, facts, Station, Reply, Verb}
 use Rattle.joined.proofs.JoinedWords.{count, isPacingResponse, requestsAmong, allocate-cases, bidNumber, close-cases, confirmed-cases}
 use Rattle.joined.proofs.JoinedWords.{pacing-response-cases, read-cases, send-cases, spilledRu, take-cases, ReadAsked, readCount, control-within}
@@ -177,17 +177,16 @@ module _ (s : Station) (xs : Log) (u : List ℕ) (l : Local (valuesOf s) xs) whe
   no-rise : (c z : ℕ) → requestsAmong [] + c ≡ c + z * count false
   no-rise c z = none-made c ∙ (let y : c ≡ c + z * 0 = omega arith in y)
 
-  pub local-takes : (naming : List ℕ → ℕ)
-      → ((q : ℕ) → q ≡ receiveUnitRefusal (s .end) u (length (s .inbox)) (length (s .unit)) → isBreach q ≡ false)
-      → Left (takes naming normal s u)
+  pub local-takes : ((q : ℕ) → q ≡ receiveUnitRefusal (s .end) u (length (s .inbox)) (length (s .unit)) → isBreach q ≡ false)
+      → Left (takes normal s u)
   unfolding takes dataJoined bidAnswered creditRaised requestReceived dataReceived answered
-  local-takes naming nb =
+  local-takes nb =
       let h = bidAnswer (s .end .control) in
       let ru = ruReceived u in
       let r = s .end .receiving in
       let w = s .end .sending .window in
       let same = no-rise (credit w) (w .size) in
-      take-cases (LanedTake Left) naming s u (λ q x n. local-take-refused normal u (naming u) q n (nb q x) l)
+      take-cases (LanedTake Left) s u (λ q x n. local-take-refused normal u (ruleNamed u) q n (nb q x) l)
       (λ d a e k.
       local-took normal u (accepted 0) (onNormal []) false _ l (counts-pacing _ e a) refl refl (λ m. l .whole (k .away)) refl
       (ap (walk (r .read)) (written-bytes (r .held) ru (s .inbox) (inbox-room s (a .inbox) (a .good)))

@@ -67,12 +67,12 @@ module _ (s f : Station) (line back : List (List ℕ)) (u : List ℕ) (p : Paces
       → Paces (cond (isPacing k) (not (unansweredOf s)) (unansweredOf s)) (owedOf s || b) (unansweredOf f) (owedOf f) line back
   took k b e q = rw (e, q) at (paces-took p)
 
-  pub paces-takes : (naming : List ℕ → ℕ) → Left (takes naming normal s u)
+  pub paces-takes : Left (takes normal s u)
   unfolding takes dataJoined bidAnswered creditRaised requestReceived advanced answered
-  paces-takes naming =
+  paces-takes =
       let h = bidAnswer (s .end .control) in
       let k = answer-sort (s .end .control) in
-      take-cases (LanedTake Left) naming s u (λ q w n. rw (n, append-nil) p) (λ d a e k. rw append-nil (took _ _ e (k .request .bit)))
+      take-cases (LanedTake Left) s u (λ q w n. rw (n, append-nil) p) (λ d a e k. rw append-nil (took _ _ e (k .request .bit)))
       (λ b a e q m. paces-past (numberIn u) h (fixedRu h) (ap isPacing k) (ap bitOf k) (took _ _ e (q .bit)))
       (λ c a e m. rw append-nil (rw (or-false (owedOf s)) at (took _ _ e refl)))
       (λ a e k. rw append-nil (rw (or-false (owedOf s), k) at (took _ _ e refl)))

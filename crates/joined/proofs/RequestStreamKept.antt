@@ -111,10 +111,10 @@ module _ (s : Station) (i : Inside) (line : List (List ℕ)) (st : Stream (outsi
   abbrev Left : Took Lane Station Reply (List ℕ) → Type 0
   Left t = Stream (outsideOf (t .end)) i (line ++ t .sent normal)
 
-  pub stream-takes : (naming : List ℕ → ℕ) (u : List ℕ) → Left (takes naming normal s u)
+  pub stream-takes : (u : List ℕ) → Left (takes normal s u)
   unfolding takes dataJoined bidAnswered creditRaised dataReceived answered
-  stream-takes naming u =
-      take-cases (LanedTake Left) naming s u (λ q w n. rw append-nil st) (λ d a e k. rw append-nil st)
+  stream-takes u =
+      take-cases (LanedTake Left) s u (λ q w n. rw append-nil st) (λ d a e k. rw append-nil st)
       (λ p a e k m. same-chain _ (m .out) (stream-response (numberIn u) (bidAnswer (s .end .control)) st (rw (answer-sort (s .end .control)))))
       (λ c a e m. rw append-nil (same-chain _ (m .out) st)) (λ a e k. rw append-nil st)
 
@@ -147,8 +147,8 @@ module _ (s : Station) (o : Outside) (back : List (List ℕ)) where
     led : (k : Sort) → sortOf (headerReceived u) ≡ k → Stream o (taken (insideOf s) k (ruReceived u)) back
     led k e = rw e at (stream-take st .rest)
 
-    pub stream-in-takes : (naming : List ℕ → ℕ) → LeftIn (takes naming normal s u)
+    pub stream-in-takes : LeftIn (takes normal s u)
     unfolding takes dataJoined bidAnswered creditRaised requestReceived advanced dataReceived
-    stream-in-takes naming =
-        take-cases (LanedTake LeftIn) naming s u (λ q w n. rw n st) (λ d a e k. led _ e) (λ p a e k m. same-link _ (m .into) (led _ e))
+    stream-in-takes =
+        take-cases (LanedTake LeftIn) s u (λ q w n. rw n st) (λ d a e k. led _ e) (λ p a e k m. same-link _ (m .into) (led _ e))
         (λ c a e m. same-link _ (m .into) (led _ e)) (λ a e k. led _ e)

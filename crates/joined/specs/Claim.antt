@@ -24,9 +24,9 @@ Pair = Both Lane Station Verb Reply (List ℕ)
 abbrev pub JoinedEnd : Type 0
 JoinedEnd = Side Lane Station Verb Reply (List ℕ)
 
--- the two ends as opened, after the list of calls; `naming` is the choice of a rule that 21 leaves free
-abbrev pub after : (List ℕ → ℕ) → Session → Session → Buffers → Buffers → List (At Lane Verb) → Pair
-after naming s t b c l = run sameLane acts (takes naming) (openedBoth s t b c) l
+-- the two ends as opened, after the list of calls
+abbrev pub after : Session → Session → Buffers → Buffers → List (At Lane Verb) → Pair
+after s t b c l = run sameLane acts takes (openedBoth s t b c) l
 
 -- One way, from x to y: the bytes accepted for sending are exactly the bytes read at the other end, then those held in its inbox, then the data RUs
 -- on the normal lane, then those held in the sender's buffer.
@@ -53,21 +53,21 @@ pub record Joint (s t : Session) (p : Pair) : Type 0 where
 
 -- Every other list that starts alike, with the same calls in the same order at each end, where neither list takes with nothing waiting: the same
 -- records, every lent cell, lines and each end's answers in order.
-abbrev pub SameOutcome : (List ℕ → ℕ) → Pair → List (At Lane Verb) → Type 0
-SameOutcome naming p l =
+abbrev pub SameOutcome : Pair → List (At Lane Verb) → Type 0
+SameOutcome p l =
     (m : List (At Lane Verb))
     → firsts l ≡ firsts m
     → seconds l ≡ seconds m
-    → AllFed sameLane acts (takes naming) p l
-    → AllFed sameLane acts (takes naming) p m
-    → run sameLane acts (takes naming) p l ≡ run sameLane acts (takes naming) p m
+    → AllFed sameLane acts takes p l
+    → AllFed sameLane acts takes p m
+    → run sameLane acts takes p l ≡ run sameLane acts takes p m
 
 -- THE CLAIM: for every two accepted openings that are joined, and every list of calls
 abbrev pub Claim : Type 0
 Claim =
-    (naming : List ℕ → ℕ) (s t : Session) (b c : Buffers) (l : List (At Lane Verb))
+    (s t : Session) (b c : Buffers) (l : List (At Lane Verb))
     → JoinedOpenings s t b c
-    → Joint s t (after naming s t b c l) × SameOutcome naming (openedBoth s t b c) l
+    → Joint s t (after s t b c l) × SameOutcome (openedBoth s t b c) l
 
 -- ---- the records
 
@@ -101,9 +101,9 @@ pub record Records (p : Pair) : Type 0 where
 -- THE RECORDS: wherever units, sends and reads cut them and whichever end began
 abbrev pub TheRecords : Type 0
 TheRecords =
-    (naming : List ℕ → ℕ) (s t : Session) (b c : Buffers) (l : List (At Lane Verb))
+    (s t : Session) (b c : Buffers) (l : List (At Lane Verb))
     → JoinedOpenings s t b c
-    → Records (after naming s t b c l)
+    → Records (after s t b c l)
 
 -- ---- question 5
 
@@ -135,10 +135,10 @@ pub record BothGood (p : Pair) : Type 0 where
 -- THE RECORD IS NEVER REFUSED: after every list of calls from two accepted openings, joined or not
 abbrev pub AlwaysGood : Type 0
 AlwaysGood =
-    (naming : List ℕ → ℕ) (s t : Session) (b c : Buffers) (l : List (At Lane Verb))
+    (s t : Session) (b c : Buffers) (l : List (At Lane Verb))
     → OpeningAccepted s b
     → OpeningAccepted t c
     → LentBytes b
     → LentBytes c
     → BytesOfAll l
-    → BothGood (after naming s t b c l)
+    → BothGood (after s t b c l)

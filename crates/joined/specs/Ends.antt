@@ -33,9 +33,8 @@ acts s v = onLanes (called s v)
 abbrev pub tookOnLanes : Called → Took Lane Station Reply (List ℕ)
 tookOnLanes m = record { end = m .end; answer = m .answer; sent = onNormal (m .sent); removed = eqb (refusalIn (m .answer)) 0 }
 
--- `naming` is the choice of a rule that 21 leaves free
-unfoldable pub takes : (List ℕ → ℕ) → Lane → Station → List ℕ → Took Lane Station Reply (List ℕ)
-takes naming normal s u = tookOnLanes (taken naming s u)
+unfoldable pub takes : Lane → Station → List ℕ → Took Lane Station Reply (List ℕ)
+takes normal s u = tookOnLanes (taken s u)
 
 -- ---- openings
 

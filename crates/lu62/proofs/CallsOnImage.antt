@@ -3,34 +3,26 @@
 use mathlib.Core.Path.{_≡_, sym, ap, subst, _∙_}
 use mathlib.Core.List.{List}
 use Prim.Native.Nat.{ℕ, _<_}
-use native.Mathlib.Omega.{arith}
 use lib.ListN.{length}
-use Rattle.header.specs.declared.HeaderBytes.{HeaderBytes}
 use Rattle.end.specs.Outcome.{Made, Sent, Taken, Copied}
-use Rattle.end.specs.RuleNamed.{NamesBroken}
 use Rattle.end.specs.Results.{madeBy, sentBy, takenBy, copiedBy}
-use Rattle.end.specs.ReceiveUnit.{receiveUnit}
 use Rattle.end.specs.declared.End.{End}
 use Rattle.end.specs.declared.Done.{Done}
 use Rattle.end.specs.declared.ReadDone.{ReadDone}
 use Rattle.image.specs.Image.{IMAGE, imageRead}
 use Rattle.image.specs.declared.ImageRead.{ImageRead}
 use Rattle.image.specs.declared.ImageRead.the-variants.{Record, Refused}
-use Rattle.image.proofs.WhatIsRead.{record-known, refused-known}
+use Rattle.image.proofs.WhatIsRead.{record-known}
 use Rattle.lu62.specs.Handing.{answerNumbers, readNumbers, refusalNumbers, Handed, handed, handedOut, Left, left, onImage}
-use Rattle.lu62.specs.Exported.{ruleIn, madeOut, sentOut, takenOut, copiedOut}
+use Rattle.lu62.specs.Exported.{madeOut, sentOut, takenOut, copiedOut}
 use Rattle.lu62.proofs.LengthsFit.{WORD, small}
 
--- ---- the image is refused, and the number returned is 4 or 5
+-- ---- the image is refused
 
 pub refused-arm : {Cells : Type 0} (image : List ℕ) (cells : Cells) (call : End → Left Cells) {read : ImageRead} {q r : ℕ} {answer : List ℕ}
     → read ≡ imageRead image → read ≡ Refused q → r ≡ q → answer ≡ refusalNumbers q
     → left (handed r answer image) cells ≡ onImage image cells call
 refused-arm image cells call {read} {q} {r} {answer} p s n a = rw (← p, s, n, a)
-
-pub refused-names : (image : List ℕ) {read : ImageRead} {q r rule : ℕ} {header : HeaderBytes}
-    → read ≡ imageRead image → read ≡ Refused q → r ≡ q → r ≡ 21 → NamesBroken rule header
-refused-names image {read} {q} p s n h = absurd (let k = refused-known image q (sym p ∙ s) in omega arith)
 
 -- ---- the image holds a record
 
@@ -66,26 +58,15 @@ module _ {d : ReadDone} {inbox buffer : List ℕ} {m : Copied} (p : copiedBy d i
   pub copied-count : m .done .answer .copied < WORD → d .answer .copied < WORD
   copied-count h = subst (λ (x : Copied). x .done .answer .copied < WORD) (sym p) h
 
-pub taken-unit : {d : Done} {inbox unit : List ℕ} {m : Taken} → takenBy d inbox unit ≡ m → m .done .answer .unit < WORD → d .answer .unit < WORD
-taken-unit {d} {inbox} {unit} {m} p h = subst (λ (x : Taken). x .done .answer .unit < WORD) (sym p) h
+module _ {d : Done} {inbox unit : List ℕ} {m : Taken} (p : takenBy d inbox unit ≡ m) where
+  pub taken-out : {h : Handed} → h ≡ handedOut (answerNumbers (d .answer)) (d .end) → left h (inbox, unit) ≡ takenOut m
+  taken-out {h} k = rw k (ap (λ (x : Taken). takenOut x) p)
 
--- the rule named is the answer's third number
-module _ (d : Done) {r : ℕ} {answer after : List ℕ} (k : handed r answer after ≡ handedOut (answerNumbers (d .answer)) (d .end)) where
-  rule-is : d .answer .rule ≡ ruleIn answer
-  rule-is = sym (ap (λ (h : Handed). ruleIn (h .answer)) k)
+  pub taken-unit : m .done .answer .unit < WORD → d .answer .unit < WORD
+  taken-unit h = subst (λ (x : Taken). x .done .answer .unit < WORD) (sym p) h
 
-  pub taken-out : (e : End) (u was cells : List ℕ) {inbox unit : List ℕ} → takenBy d inbox unit ≡ receiveUnit (d .answer .rule) e u was cells
-      → left (handed r answer after) (inbox, unit) ≡ takenOut (receiveUnit (ruleIn answer) e u was cells)
-  taken-out e u was cells {inbox} {unit} p =
-      subst (λ (rule : ℕ). left (handed r answer after) (inbox, unit) ≡ takenOut (receiveUnit rule e u was cells)) rule-is (rw k (ap (λ (x : Taken). takenOut x) p))
-
-  pub still-named : (header : HeaderBytes) → (d .answer .refusal ≡ 21 → NamesBroken (d .answer .rule) header) → r ≡ 21 → NamesBroken (ruleIn answer) header
-  still-named header f h = subst (λ (rule : ℕ). NamesBroken rule header) rule-is (f (sym (ap (λ (h : Handed). h .returned) k) ∙ h))
-
-pub ruleset refusals = (refused-arm, refused-names)
-
-pub ruleset handed-out = (record-arm, made-out, sent-out, taken-out, copied-out, still-named)
+pub ruleset handed-out = (record-arm, made-out, sent-out, taken-out, copied-out)
 
 pub ruleset units = (whole, made-unit, sent-unit, taken-unit, copied-unit, copied-count)
 
-pub ruleset arms = (refusals, handed-out, units, small)
+pub ruleset arms = (refused-arm, handed-out, units, small)

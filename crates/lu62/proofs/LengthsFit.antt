@@ -62,9 +62,9 @@ pub send-small : (e : End) (bytes send unit : List ℕ) → sendData e bytes sen
 unfolding called
 send-small e bytes send unit = word _ _ (acts-fit (at e send unit []) (Verb.sendData bytes))
 
-pub take-small : (rule : ℕ) (e : End) (u inbox unit : List ℕ) → receiveUnit rule e u inbox unit .done .answer .unit < WORD
+pub take-small : (e : End) (u inbox unit : List ℕ) → receiveUnit e u inbox unit .done .answer .unit < WORD
 unfolding taken
-take-small rule e u inbox unit = word _ _ (takes-fit (at e [] unit inbox) (λ x. rule) u)
+take-small e u inbox unit = word _ _ (takes-fit (at e [] unit inbox) u)
 
 -- a read makes no unit, and copies at most the bytes held
 module _ (e : End) (inbox buffer : List ℕ) where

@@ -49,10 +49,10 @@ module _ (e : End) where
       let h = refused-nothing (at e send unit []) (Verb.sendData bytes) n .0 in
       (ap (λ (s : Station). imageOf (s .end)) h, ap (λ (s : Station). (s .send, s .unit)) h)
 
-  take-refused : (rule : ℕ) (u inbox unit : List ℕ) → Untouched (imageOf e) (inbox, unit) (takenOut (receiveUnit rule e u inbox unit))
+  take-refused : (u inbox unit : List ℕ) → Untouched (imageOf e) (inbox, unit) (takenOut (receiveUnit e u inbox unit))
   unfolding taken
-  take-refused rule u inbox unit n =
-      let h = refused-take-nothing (λ x. rule) (at e [] unit inbox) u n .0 in
+  take-refused u inbox unit n =
+      let h = refused-take-nothing (at e [] unit inbox) u n .0 in
       (ap (λ (s : Station). imageOf (s .end)) h, ap (λ (s : Station). (s .inbox, s .unit)) h)
 
   read-refused : (inbox buffer : List ℕ) → Untouched (imageOf e) (inbox, buffer) (copiedOut (receive e inbox buffer))
@@ -79,6 +79,6 @@ refused-changes-nothing =
       deallocate = close-refused EndBracket;
       confirmed = λ image unit b. on-image image unit _ b (λ e. made-refused e [] unit Verb.confirmed (confirmed e unit) refl);
       sendPacingResponse = λ image unit b. on-image image unit _ b (λ e. made-refused e [] unit Verb.sendPacingResponse (sendPacingResponse e unit) refl);
-      receiveUnit = λ rule taken image inbox unit b. on-image image (inbox, unit) _ b (λ e. take-refused e rule taken inbox unit);
+      receiveUnit = λ taken image inbox unit b. on-image image (inbox, unit) _ b (λ e. take-refused e taken inbox unit);
       receive = λ image inbox buffer b. on-image image (inbox, buffer) _ b (λ e. read-refused e inbox buffer);
     }

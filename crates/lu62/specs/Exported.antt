@@ -4,7 +4,7 @@ use Prim.Native.Nat.{ℕ}
 use mathlib.Core.Bool.{Bool, true, false, cond}
 use mathlib.Core.List.{List}
 use lib.Dec.{eqb}
-use lib.ListN.{length, getD}
+use lib.ListN.{length}
 use Rattle.header.specs.declared.Follows.{Follows}
 use Rattle.header.specs.declared.Follows.the-variants.{Stay, ChangeDirection, EndBracket}
 use Rattle.answers.specs.Answers.{BAD-BUFFER}
@@ -81,12 +81,8 @@ confirmedOn image unit = onImage image unit (λ e. madeOut (confirmed e unit))
 abbrev pub sendPacingResponseOn : List ℕ → List ℕ → Left (List ℕ)
 sendPacingResponseOn image unit = onImage image unit (λ e. madeOut (sendPacingResponse e unit))
 
--- the rule that 21 names is free: it is the first argument here, and the answer's third number
-abbrev pub receiveUnitOn : ℕ → List ℕ → List ℕ → List ℕ → List ℕ → Left (List ℕ × List ℕ)
-receiveUnitOn rule taken image inbox unit = onImage image (inbox, unit) (λ e. takenOut (receiveUnit rule e taken inbox unit))
-
-abbrev pub ruleIn : List ℕ → ℕ
-ruleIn answer = getD answer 2 0
+abbrev pub receiveUnitOn : List ℕ → List ℕ → List ℕ → List ℕ → Left (List ℕ × List ℕ)
+receiveUnitOn taken image inbox unit = onImage image (inbox, unit) (λ e. takenOut (receiveUnit e taken inbox unit))
 
 abbrev pub receiveOn : List ℕ → List ℕ → List ℕ → Left (List ℕ × List ℕ)
 receiveOn image inbox buffer = onImage image (inbox, buffer) (λ e. copiedOut (receive e inbox buffer))

@@ -27,6 +27,5 @@ pub record RefusedChangesNothing : Type 0 where
   pub deallocate : (b : Bool) (send image unit : List ℕ) → Bytes image → Untouched image unit (deallocateOn b send image unit)
   pub confirmed : (image unit : List ℕ) → Bytes image → Untouched image unit (confirmedOn image unit)
   pub sendPacingResponse : (image unit : List ℕ) → Bytes image → Untouched image unit (sendPacingResponseOn image unit)
-  pub receiveUnit : (rule : ℕ) (taken image inbox unit : List ℕ) → Bytes image
-      → Untouched image (inbox, unit) (receiveUnitOn rule taken image inbox unit)
+  pub receiveUnit : (taken image inbox unit : List ℕ) → Bytes image → Untouched image (inbox, unit) (receiveUnitOn taken image inbox unit)
   pub receive : (image inbox buffer : List ℕ) → Bytes image → Untouched image (inbox, buffer) (receiveOn image inbox buffer)

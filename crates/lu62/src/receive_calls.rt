@@ -5,10 +5,8 @@ use crate::handing::refuse_image;
 use image::ImageRead;
 use image::decoding::read_image;
 ghost use mathlib.Core.Path.{_≡_};
-ghost use Rattle.unit.specs.Unit.{headerIn};
-ghost use Rattle.end.specs.RuleNamed.{NamesBroken};
 ghost use Rattle.lu62.specs.Handing.{handed, left};
-ghost use Rattle.lu62.specs.Exported.{ruleIn, receiveUnitOn, receiveOn};
+ghost use Rattle.lu62.specs.Exported.{receiveUnitOn, receiveOn};
 
 // Takes one unit from the partner (document 01: take). The answer to a bid is the unit made.
 #[no_mangle]
@@ -19,9 +17,8 @@ pub extern "C" fn lu62_receive_unit(
     unit: &mut [u8],
     answer: &mut [u32; 7],
 ) -> u32
-    ensures { λ r. ⌜ (left (handed r (now (answer .exit)) (now (image .exit))) (now (inbox .exit), now (unit .exit))
-        ≡ receiveUnitOn (ruleIn (now (answer .exit))) (now (taken .entry)) (now (image .entry)) (now (inbox .entry)) (now (unit .entry)))
-        × (r ≡ 21 → NamesBroken (ruleIn (now (answer .exit))) (headerIn (now (taken .entry)))) ⌝ }
+    ensures { λ r. ⌜ left (handed r (now (answer .exit)) (now (image .exit))) (now (inbox .exit), now (unit .exit))
+        ≡ receiveUnitOn (now (taken .entry)) (now (image .entry)) (now (inbox .entry)) (now (unit .entry)) ⌝ }
 {
     let read = read_image(image);
     match read {

@@ -89,6 +89,27 @@ const REFUSAL_21_H6: [u8; 263] = *b"refusal_21_h6\n\
     1 Reset mark none send 0 inbox 0 credit 3 open 3 waiting 0\n\
     2 Reset mark none send 0 inbox 0 credit 3 open 3 waiting 0\n";
 
+// Headers that break two rules and three.
+const REFUSAL_21_LOWEST: [u8; 443] = *b"refusal_21_lowest\n\
+    ends 3 64 3 64 192 192\n\
+    2 take 00010090210002\n\
+    2 take 00010020200002\n\
+    2 take 00010130220002\n\
+    2 take 00010331880002\n\
+    2 take 00010020210002\n\
+    2 take 00010030220002\n\
+    =\n\
+    1 open 0\n\
+    2 open 0\n\
+    2 take 21 00000000 H5\n\
+    2 take 21 00000000 H4\n\
+    2 take 21 00000000 H3\n\
+    2 take 21 00000000 H3\n\
+    2 take 21 00000000 H4\n\
+    2 take 21 00000000 H3\n\
+    1 Reset mark none send 0 inbox 0 credit 3 open 3 waiting 0\n\
+    2 Reset mark none send 0 inbox 0 credit 3 open 3 waiting 0\n";
+
 const REFUSAL_22_EMPTY_DATA: [u8; 257] = *b"refusal_22_empty_data\n\
     ends 3 64 3 64 192 192\n\
     2 take 0001039180\n\
@@ -359,6 +380,7 @@ fn breaches_1(name: &[u8]) -> bool {
         | goes(name, &REFUSAL_21_H4)
         | goes(name, &REFUSAL_21_H5)
         | goes(name, &REFUSAL_21_H6)
+        | goes(name, &REFUSAL_21_LOWEST)
         | goes(name, &REFUSAL_22_EMPTY_DATA)
         | goes(name, &REFUSAL_22_ABOVE_MAXIMUM)
         | goes(name, &REFUSAL_22_FIXED)

@@ -10,9 +10,8 @@ use borrow.Author.Tests.{le-leb}
 use lib.ListN.{length, drop}
 use Rattle.cells.specs.Cells.{front}
 use Rattle.header.specs.Header.{headerBytes}
-use Rattle.unit.specs.Unit.{RU-START, unitBytes, unitOf, cellsMade, numberIn, headerIn, headingOf, unitReadAs}
+use Rattle.unit.specs.Unit.{RU-START, unitBytes, unitOf, cellsMade, numberIn, headerIn, headingOf, readUnit}
 use Rattle.header.specs.declared.Header.{Header}
-use Rattle.header.specs.declared.Rule.{Rule}
 use Rattle.unit.specs.declared.UnitRead.the-variants as unitRead
 
 -- ---- what a unit holds
@@ -35,10 +34,10 @@ unit-ru n f ru = refl
 
 -- ---- a unit is read
 
-pub unit-read : (r : Rule) (n : ℕ) (f : Header) (ru : List ℕ)
-    → unitReadAs r (unitOf n f ru) ≡ unitRead.Good (record { number = n; header = f })
-unfolding unitReadAs headingOf
-unit-read r n f ru =
+pub unit-read : (n : ℕ) (f : Header) (ru : List ℕ)
+    → readUnit (unitOf n f ru) ≡ unitRead.Good (record { number = n; header = f })
+unfolding readUnit headingOf
+unit-read n f ru =
     rw (
       unit-number n f ru,
       unit-header n f ru,

@@ -4,4 +4,4 @@ use Rattle.unit.specs.UnitClaims.{WrittenIsRead}
 use Rattle.unit.proofs.UnitLaws.{unit-read, unit-ru}
 
 pub written-is-read : WrittenIsRead
-written-is-read r n f ru h = (unit-read r n f ru, unit-ru n f ru)
+written-is-read n f ru h = (unit-read n f ru, unit-ru n f ru)

@@ -6,12 +6,11 @@ use mathlib.Core.List.{List, _∷_}
 use lib.Dec.{leb}
 use lib.ListN.{length, getD}
 use Rattle.cells.specs.Cells.{front}
-use Rattle.header.specs.Rules.{bytes, headerGood}
+use Rattle.header.specs.Rules.{bytes, lowestBroken, headerGood}
 use Rattle.header.specs.Header.{headerBytes, fieldsOf}
 use Rattle.header.specs.declared.HeaderBytes.{HeaderBytes}
 use Rattle.header.specs.declared.Header.{Header}
 use Rattle.unit.specs.declared.Heading.{Heading}
-use Rattle.header.specs.declared.Rule.{Rule}
 use Rattle.unit.specs.declared.UnitRead.{UnitRead}
 use Rattle.unit.specs.declared.UnitRead.the-variants as unitRead
 
@@ -55,12 +54,9 @@ headerIn u = bytes (getD u 2 0) (getD u 3 0) (getD u 4 0)
 unfoldable pub headingOf : List ℕ → Heading
 headingOf u = record { number = numberIn u; header = fieldsOf (headerIn u) }
 
--- what is read of a unit, if it is this rule that is named where one is broken
-unfoldable pub unitReadAs : Rule → List ℕ → UnitRead
-unitReadAs r u = cond (leb RU-START (length u)) (cond (headerGood (headerIn u)) (unitRead.Good (headingOf u)) (unitRead.Breaks r)) unitRead.TooShort
-
--- the rule that is named; where none is, H1 stands in
-abbrev pub ruleIn : UnitRead → Rule
-ruleIn (unitRead.Good h) = Rule.H1
-ruleIn unitRead.TooShort = Rule.H1
-ruleIn (unitRead.Breaks r) = r
+-- what is read of a unit: its number and the fields of its header, or the lowest rule that the header breaks
+unfoldable pub readUnit : List ℕ → UnitRead
+readUnit u =
+    cond (leb RU-START (length u))
+    (cond (headerGood (headerIn u)) (unitRead.Good (headingOf u)) (unitRead.Breaks (lowestBroken (headerIn u))))
+    unitRead.TooShort

@@ -5,13 +5,12 @@ use mathlib.Core.List.{List}
 use Prim.Native.Nat.{ℕ, _<_}
 use lib.ListN.{drop}
 use Rattle.header.specs.declared.Header.{Header}
-use Rattle.header.specs.declared.Rule.{Rule}
-use Rattle.unit.specs.Unit.{RU-START, unitOf, unitReadAs}
+use Rattle.unit.specs.Unit.{RU-START, unitOf, readUnit}
 use Rattle.unit.specs.declared.UnitRead.the-variants as unitRead
 
 -- a unit written is read back as its number, its fields and its RU
 abbrev pub WrittenIsRead : Type 0
 WrittenIsRead =
-    (r : Rule) (n : ℕ) (f : Header) (ru : List ℕ)
+    (n : ℕ) (f : Header) (ru : List ℕ)
     → n < 65536
-    → (unitReadAs r (unitOf n f ru) ≡ unitRead.Good (record { number = n; header = f })) × (drop RU-START (unitOf n f ru) ≡ ru)
+    → (readUnit (unitOf n f ru) ≡ unitRead.Good (record { number = n; header = f })) × (drop RU-START (unitOf n f ru) ≡ ru)

@@ -4,12 +4,9 @@ use crate::RU_START;
 use crate::UnitRead;
 use header::HeaderBytes;
 use header::HeaderRead;
-use header::Rule;
 use header::read_header::read_header;
 ghost use mathlib.Core.Path.{_≡_};
-ghost use mathlib.Core.Bool.{true};
-ghost use Rattle.header.specs.Rules.{breaks};
-ghost use Rattle.unit.specs.Unit.{numberOf, headerIn, unitReadAs, ruleIn};
+ghost use Rattle.unit.specs.Unit.{numberOf, readUnit};
 
 // The sequence number, high byte first.
 fn number_of(high: u8, low: u8) -> u16
@@ -20,8 +17,7 @@ fn number_of(high: u8, low: u8) -> u16
 
 // What a unit says before its RU.
 pub fn read_unit(unit: &[u8]) -> UnitRead
-    ensures heading { λ r. ⌜ r ≡ unitReadAs (ruleIn r) (now (unit .entry)) ⌝ }
-    ensures named { λ r. ⌜ ((rule : Rule) → r ≡ UnitRead.Breaks rule → breaks rule (headerIn (now (unit .entry))) ≡ true) ⌝ }
+    ensures { λ r. ⌜ r ≡ readUnit (now (unit .entry)) ⌝ }
 {
     if unit.len() < RU_START {
         return UnitRead::TooShort;

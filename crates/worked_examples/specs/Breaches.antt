@@ -3,29 +3,28 @@
 -- Assumes nothing.
 use Prim.Native.Nat.{ℕ}
 use mathlib.Core.Path.{_≡_, refl}
-use mathlib.Core.Bool.{false, cond}
+use mathlib.Core.Bool.{false}
 use mathlib.Core.List.{List, [], _∷_}
-use lib.Dec.{eqb}
 use Rattle.control.specs.declared.State.{State}
 use Rattle.control.specs.declared.State.the-variants.{Reset, Send, Receive, ConfirmOwed, ConfirmAwaited}
+use Rattle.answers.specs.declared.Answer.{Answer}
 use Rattle.calls.specs.Calls as J
 use Rattle.joined.specs.Ends.{normal, takes, onNormal}
 use Rattle.worked_examples.specs.Computed.{computed}
 use Rattle.worked_examples.specs.Stations.{zeros, firstSpeaker, bidder, after, takeRefuses, afterTaking, shortestRecord, firstUnit, secondUnit, thirdUnit, aBid, aPacingAnswer, sending, oneSent, hasBid, receiving}
 use Rattle.calls.specs.Calls.{Station, Verb, plain}
 
--- a take of u at s is refused with this number and sense, whatever rule 21 would name: the record and every lent cell are as before, no unit is
--- made, and u stays on its line
+-- a take of u at s is refused with this answer: the record and every lent cell are as before, no unit is made, and u stays on its line
+abbrev pub RefusedWith : Station → List ℕ → Answer → Type 0
+RefusedWith s u answer = takes normal s u ≡ record { end = s; answer = plain answer; sent = onNormal []; removed = false }
+
+-- with this number and sense
 abbrev pub Refused : Station → List ℕ → ℕ → ℕ → Type 0
-Refused s u number sense =
-    (naming : List ℕ → ℕ)
-    → takes naming normal s u
-    ≡ record {
-      end = s;
-      answer = plain (record { refusal = number; sense = sense; rule = cond (eqb number 21) (naming u) 0; unit = 0 });
-      sent = onNormal [];
-      removed = false;
-    }
+Refused s u number sense = RefusedWith s u (record { refusal = number; sense = sense; rule = 0; unit = 0 })
+
+-- with 21, which names this rule
+abbrev pub Names : Station → List ℕ → ℕ → Type 0
+Names s u rule = RefusedWith s u (record { refusal = 21; sense = 0; rule = rule; unit = 0 })
 
 abbrev pub Accepted : Station → List ℕ → Type 0
 Accepted s u = takeRefuses s u ≡ 0
@@ -74,7 +73,7 @@ pub record Breaches : Type 0 where
   pub four-bytes : Refused receiving (0x00 ∷ 0x02 ∷ 0x03 ∷ 0x90 ∷ []) 20 0x40050000
   pub no-byte : Refused receiving [] 20 0x40050000
   -- do H1 to H6 hold? H5 is broken
-  pub cd-and-ceb : Refused receiving (0x00 ∷ 0x02 ∷ 0x03 ∷ 0x90 ∷ 0x21 ∷ 0x00 ∷ 0x02 ∷ []) 21 0
+  pub cd-and-ceb : Names receiving (0x00 ∷ 0x02 ∷ 0x03 ∷ 0x90 ∷ 0x21 ∷ 0x00 ∷ 0x02 ∷ []) 5
   -- is the RU as above? Empty without a mark; with one it is good; longer than M; a bid's, a grant's and a confirmation's own
   pub empty-ru : Refused receiving (0x00 ∷ 0x02 ∷ 0x03 ∷ 0x90 ∷ 0x00 ∷ []) 22 0x10020000
   pub empty-with-mark : Accepted receiving (0x00 ∷ 0x02 ∷ 0x03 ∷ 0x90 ∷ 0x01 ∷ [])
@@ -154,66 +153,66 @@ unfolding computed
 breached =
     record {
       next-unit = refl;
-      four-bytes = λ naming. refl;
-      no-byte = λ naming. refl;
-      cd-and-ceb = λ naming. refl;
-      empty-ru = λ naming. refl;
+      four-bytes = refl;
+      no-byte = refl;
+      cd-and-ceb = refl;
+      empty-ru = refl;
       empty-with-mark = refl;
-      nine-of-8 = λ naming. refl;
+      nine-of-8 = refl;
       eight-of-8 = refl;
-      bid-ru = λ naming. refl;
-      grant-ru = λ naming. refl;
-      confirmation-ru = λ naming. refl;
-      pacing-on = λ naming. refl;
-      pacing-off = λ naming. refl;
-      none-open = λ naming. refl;
+      bid-ru = refl;
+      grant-ru = refl;
+      confirmation-ru = refl;
+      pacing-on = refl;
+      pacing-off = refl;
+      none-open = refl;
       open-again = refl;
-      none-unanswered = λ naming. refl;
+      none-unanswered = refl;
       one-unanswered = refl;
-      one-left-out = λ naming. refl;
-      same-again = λ naming. refl;
-      pacing-numbered-1 = λ naming. refl;
-      bit-and-number = λ naming. refl;
-      first-in-chain = λ naming. refl;
+      one-left-out = refl;
+      same-again = refl;
+      pacing-numbered-1 = refl;
+      bit-and-number = refl;
+      first-in-chain = refl;
       last-in-chain = refl;
-      no-first = λ naming. refl;
-      bid-in-chain = λ naming. refl;
-      bid-at-bidder = λ naming. refl;
-      bb-in-receive = λ naming. refl;
-      bb-at-speaker = λ naming. refl;
+      no-first = refl;
+      bid-in-chain = refl;
+      bid-at-bidder = refl;
+      bb-in-receive = refl;
+      bb-at-speaker = refl;
       bb-in-reset = refl;
-      no-bb-in-reset = λ naming. refl;
+      no-bb-in-reset = refl;
       states = (refl, refl, refl, refl, refl);
-      data-in-reset = λ naming. refl;
-      data-in-send = λ naming. refl;
-      data-in-owes = λ naming. refl;
-      data-in-waits = λ naming. refl;
-      length-1 = λ naming. refl;
-      part-at-mark = λ naming. refl;
+      data-in-reset = refl;
+      data-in-send = refl;
+      data-in-owes = refl;
+      data-in-waits = refl;
+      length-1 = refl;
+      part-at-mark = refl;
       part-without-mark = refl;
-      another-grant = λ naming. refl;
+      another-grant = refl;
       its-grant = refl;
-      grant-without-bid = λ naming. refl;
-      another-refusal = λ naming. refl;
+      grant-without-bid = refl;
+      another-refusal = refl;
       its-refusal = refl;
-      another-confirmation = λ naming. refl;
+      another-confirmation = refl;
       its-confirmation = refl;
-      confirmation-in-send = λ naming. refl;
+      confirmation-in-send = refl;
     }
 
 pub marked-first : MarkFirst
 unfolding computed
 marked-first =
     record {
-      next-unit = λ naming. refl;
-      no-byte = λ naming. refl;
-      four-bytes = λ naming. refl;
-      bad-header = λ naming. refl;
-      empty-ru = λ naming. refl;
-      none-unanswered = λ naming. refl;
-      another-number = λ naming. refl;
-      no-first = λ naming. refl;
-      bb-in-receive = λ naming. refl;
-      length-1 = λ naming. refl;
-      no-confirmation-awaited = λ naming. refl;
+      next-unit = refl;
+      no-byte = refl;
+      four-bytes = refl;
+      bad-header = refl;
+      empty-ru = refl;
+      none-unanswered = refl;
+      another-number = refl;
+      no-first = refl;
+      bb-in-receive = refl;
+      length-1 = refl;
+      no-confirmation-awaited = refl;
     }

@@ -11,6 +11,7 @@ use Rattle.joined.specs.Ends.{openedWith}
 use Rattle.worked_examples.specs.Computed.{computed}
 use Rattle.worked_examples.specs.Stations.{zeros, session, firstSpeaker, bidder, after, makes, unitsMade, refuses, taking, takeRefuses, afterTaking, takesRefuse, flushed, firstUnit, secondUnit, thirdUnit, aBid, aPacingAnswer, sending, oneSent, twoSent, hasBid, receiving}
 use Rattle.worked_examples.specs.Breaches.{Breaches, MarkFirst, breached, marked-first}
+use Rattle.worked_examples.specs.RulesNamed.{RulesNamed, rules-named}
 use Rattle.calls.specs.Calls.{Station, Verb}
 
 -- ---- "Last sequence number sent and last taken, from 0; the number after 65,535 is 0."
@@ -148,6 +149,7 @@ pub record FurtherRows : Type 0 where
   pub unfinished : Unfinished
   pub breaches : Breaches
   pub mark-first : MarkFirst
+  pub rules : RulesNamed
 
 numbered : Numbers
 unfolding computed
@@ -231,4 +233,5 @@ further =
       unfinished = unfinished-refused;
       breaches = breached;
       mark-first = marked-first;
+      rules = rules-named;
     }

@@ -2,5 +2,6 @@ pub mod Computed
 pub mod Stations
 pub mod Table
 pub mod Breaches
+pub mod RulesNamed
 pub mod Further
 pub mod Conversations

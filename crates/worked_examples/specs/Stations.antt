@@ -46,12 +46,8 @@ refuses s v = acts s v .answer .answer .answer .refusal
 
 -- ---- takes
 
--- a choice of the rule that 21 names; a row about a header that breaks one says what it is for every choice
-abbrev pub anyRule : List ℕ → ℕ
-anyRule u = 0
-
 abbrev pub taking : Station → List ℕ → Took Lane Station Reply (List ℕ)
-taking s u = takes anyRule normal s u
+taking s u = takes normal s u
 
 -- its refusal number
 abbrev pub takeRefuses : Station → List ℕ → ℕ
@@ -72,7 +68,7 @@ abbrev pub joined : ℕ → ℕ → Both Lane Station Verb Reply (List ℕ)
 joined window max = openedBoth (session 0 window max) (session 1 window max) (buffers window max) (buffers window max)
 
 abbrev pub runs : Both Lane Station Verb Reply (List ℕ) → List (At Lane Verb) → Both Lane Station Verb Reply (List ℕ)
-runs s l = run sameLane acts (takes anyRule) s l
+runs s l = run sameLane acts takes s l
 
 -- ---- W 3 and M 64
 

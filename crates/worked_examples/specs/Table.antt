@@ -1,24 +1,19 @@
 -- Document 01's table 'Proved examples', a row a field, W 3 and M 64 unless said. One statement, proved by computation.
 -- Assumes nothing.
 use Prim.Native.Nat.{ℕ}
-use mathlib.Core.Path.{_≡_, refl, sym, ap, subst, _∙_}
+use mathlib.Core.Path.{_≡_, refl}
 use mathlib.Core.Bool.{Bool, true, false}
 use mathlib.Core.List.{List, [], _∷_}
-use lib.Dec.{T}
 use lib.ListN.{take}
 use Rattle.logical_record.specs.Records.{wholeRecords}
 use Rattle.logical_record.specs.declared.Position.the-variants.{Between}
-use Rattle.header.specs.Rules.{bytes, keeps, breaks, ruleNumber, headerGood}
-use Rattle.header.specs.declared.Rule.{Rule}
-use Rattle.header.specs.declared.Rule.the-variants.{H1, H2, H3, H4, H5, H6}
-use Rattle.unit.specs.Unit.{headerIn}
+use Rattle.header.specs.Rules.{bytes, headerGood}
 use Rattle.control.specs.FieldChanged.{setState}
 use Rattle.control.specs.declared.State.the-variants.{ConfirmOwed}
 use Rattle.control.specs.declared.WhatReceived.the-variants as mark
 use Rattle.end.specs.Outcome.{withControl, withOwed}
-use Rattle.end.specs.RuleNamed.{NamesBroken}
 use Rattle.calls.specs.Calls as J
-use Rattle.joined.specs.Ends.{normal, acts, takes}
+use Rattle.joined.specs.Ends.{normal, acts}
 use Rattle.joined.specs.Histories.{bytesInSendBuffer}
 use Rattle.worked_examples.specs.Computed.{computed}
 use Rattle.worked_examples.specs.Stations.{zeros, firstSpeaker, bidder, after, makes, refuses, taking, takeRefuses, shortestRecord, flushed, aBid, sending, receiving}
@@ -98,13 +93,8 @@ pub record Table : Type 0 where
   pub good-header : headerGood (bytes 0x03 0x90 0x20) ≡ true
   pub good-taken : takeRefuses receiving goodUnit ≡ 0
   pub good-mark : taking receiving goodUnit .end .end .control .mark ≡ mark.Turn
-  -- header 03 90 21, there: it breaks H5 and no other rule, so that a rule named as promised (`NamesBroken`) is 5; the answer is 21, H5
-  pub breaks-H5 : NamesBroken 5 (bytes 0x03 0x90 0x21)
-  pub breaks-no-other : (n : ℕ) → NamesBroken n (bytes 0x03 0x90 0x21) → n ≡ 5
-  pub bad-header :
-      (naming : List ℕ → ℕ)
-      → NamesBroken (naming badUnit) (headerIn badUnit)
-      → takes naming normal receiving badUnit .answer .answer .answer ≡ record { refusal = 21; sense = 0; rule = 5; unit = 0 }
+  -- header 03 90 21, there: 21, and the rule is H5
+  pub bad-header : taking receiving badUnit .answer .answer .answer ≡ record { refusal = 21; sense = 0; rule = 5; unit = 0 }
   -- LL 00 02 given: accepted, a whole record; the place is between records, and the end carries the record
   pub good-length : refuses sending (Verb.sendData length2) ≡ 0
   pub whole-record : wholeRecords (bytesInSendBuffer length2Given) ≡ (0x00 ∷ 0x02 ∷ []) ∷ []
@@ -122,19 +112,6 @@ pub record Table : Type 0 where
   pub read-third : copied (after holding (read4 ∷ read4 ∷ [])) read4 ≡ 0x00 ∷ []
   pub not-complete-again : complete (after holding (read4 ∷ read4 ∷ [])) read4 ≡ false
 
--- of the six rules only H5 is broken by 03 90 21
-only-H5 : (r : Rule) → breaks r (bytes 0x03 0x90 0x21) ≡ true → ruleNumber r ≡ 5
-unfolding keeps
-only-H5 H1 e = absurd (subst T (sym e) tt)
-only-H5 H2 e = absurd (subst T (sym e) tt)
-only-H5 H3 e = absurd (subst T (sym e) tt)
-only-H5 H4 e = absurd (subst T (sym e) tt)
-only-H5 H5 e = refl
-only-H5 H6 e = absurd (subst T (sym e) tt)
-
-names-5 : (n : ℕ) → NamesBroken n (bytes 0x03 0x90 0x21) → n ≡ 5
-names-5 n b = b .number-is ∙ only-H5 (b .rule) (b .is-broken)
-
 pub proved : Table
 unfolding computed
 proved =
@@ -149,9 +126,7 @@ proved =
       good-header = refl;
       good-taken = refl;
       good-mark = refl;
-      breaks-H5 = record { rule = H5; number-is = refl; is-broken = refl };
-      breaks-no-other = names-5;
-      bad-header = λ naming b. ap (λ (n : ℕ). record { refusal = 21; sense = 0; rule = n; unit = 0 }) (names-5 (naming badUnit) b);
+      bad-header = refl;
       good-length = refl;
       whole-record = refl;
       whole-place = refl;

@@ -9,7 +9,8 @@ pub fn proved_examples()
     ensures { λ _. ⌜ Table ⌝ }
 {}
 
-// The number after 65,535; credit and open raised by W; a second allocate; an unfinished record; a forged unit for each of 20 to 29; 13.
+// The number after 65,535; credit and open raised by W; a second allocate; an unfinished record; a forged unit for each of 20 to 29; 13; the rule
+// that 21 names.
 pub fn further_examples()
     ensures { λ _. ⌜ FurtherRows ⌝ }
 {}

@@ -31,9 +31,9 @@ returns-2 c =
     λ send buffer waiting es us vs hw hf.
     let b = benchOf (a .end) send (now (a .unit)) (now (a .inbox)) buffer (a .from) waiting (a .to) (now (a .far)) in
     let n = counted (a .to) (now (a .far)) vs false hf (sym (c .before .before .before .before .before .before .before .before .before .before .before .before .before .before .before .before .before .is-full .ensures) ∙ c .before .before .before .before .before .before .before .before .before .before .before .before .before .before .before .before .if1 .left) in
-    let fit = offer-fits (now (a .taken)) b (d .result) (r .result) (d .last .1 .1 .0) (d .last .1 .1 .1 .0) (r .ensures) (d .ensures .0) in
-    offer-step (now (a .taken)) b (d .result) (r .result) (d .last .1 .1 .0) (d .last .1 .1 .1 .0) (r .ensures) (d .ensures .0)
-    (c .before .before .deliver .result) (c .before .before .deliver .last .1 .0) es us vs (d .ensures .1) hw
+    let fit = offer-fits (now (a .taken)) b (d .result) (r .result) (d .last .1 .1 .0) (d .last .1 .1 .1 .0) (r .ensures) (d .ensures) in
+    offer-step (now (a .taken)) b (d .result) (r .result) (d .last .1 .1 .0) (d .last .1 .1 .1 .0) (r .ensures) (d .ensures)
+    (c .before .before .deliver .result) (c .before .before .deliver .last .1 .0) es us vs hw
     (c .before .before .deliver .ensures vs hf (leb-false 512 (length vs) n) (fit .short) (fit .there)) n
 
 pub step-offer-spec : {M : Type 1} → statement M

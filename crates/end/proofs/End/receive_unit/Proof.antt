@@ -11,15 +11,13 @@ join-requires : tie.Need-join-requires
 join-requires c κs = λ x.
     let a = c .before .before .before .before .before .args in
     take-rooms (a .self) (now (a .taken)) (now (a .inbox)) (length (now (a .unit)))
-    (λ z. x (ap (λ (y : Done). y .end .receiving .held) (c .before .receive-unit-decision .ensures .0) ∙ z))
+    (λ z. x (ap (λ (y : Done). y .end .receiving .held) (c .before .receive-unit-decision .ensures) ∙ z))
 
 returns : tie.Need-returns
 returns c = let a = c .before .before .before .before .before .before .before .before .before .before .before .before .before .args in
-    let r = c .before .before .before .before .before .before .before .before .before .receive-unit-decision .ensures in (
-      take-left (a .self) (now (a .taken)) (now (a .inbox)) (now (a .unit)) (c .before .before .before .before .before .before .before .before .before .receive-unit-decision .result) _ _ _
-          (r .0) (c .before .before .before .before .bid-answer .ensures) (c .before .before .before .before .before .before .before .join .ensures) (c .before .before .write-made .ensures),
-      r .1,
-    )
+    let d = c .before .before .before .before .before .before .before .before .before .receive-unit-decision in
+    take-left (a .self) (now (a .taken)) (now (a .inbox)) (now (a .unit)) (d .result) _ _ _ (d .ensures) (c .before .before .before .before .bid-answer .ensures)
+    (c .before .before .before .before .before .before .before .join .ensures) (c .before .before .write-made .ensures)
 
 pub receive-unit-spec : {M : Type 1} → statement M
 receive-unit-spec = tie.close (tie.spec (search needs) join-requires (search needs) (search needs) (search needs) (search needs) returns)
