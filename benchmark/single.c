@@ -2,13 +2,13 @@
  *
  *   single SENDS READS
  *
- * Gives SENDS parts of 512 bytes, takes each unit made at once, then makes READS reads of at most 1,024 bytes. */
+ * Gives SENDS pieces of 512 bytes, takes each unit made at once, then makes READS reads of at most 1,024 bytes. */
 #include "lu62.h"
 
 #include <stdio.h>
 #include <stdlib.h>
 
-enum { PART = 512, RECORD = 1024, MAXIMUM = 1024, WINDOW = 16 };
+enum { PIECE = 512, RECORD = 1024, MAXIMUM = 1024, WINDOW = 16 };
 
 static uint8_t record[RECORD];
 static uint8_t sent_image[LU62_IMAGE], read_image[LU62_IMAGE];
@@ -36,7 +36,7 @@ static void give(unsigned long sends)
 {
     struct lu62_answer answer;
     for (unsigned long i = 0; i < sends; i++) {
-        require(lu62_send_data(sent_image, sizeof sent_image, record + i % 2 * PART, PART, sent_send, sizeof sent_send, sent_unit,
+        require(lu62_send_data(sent_image, sizeof sent_image, record + i % 2 * PIECE, PIECE, sent_send, sizeof sent_send, sent_unit,
                                sizeof sent_unit, &answer));
         if (answer.unit > 0)
             require(lu62_receive_unit(read_image, sizeof read_image, sent_unit, answer.unit, inbox, sizeof inbox, read_unit,

@@ -63,8 +63,8 @@ static size_t by_library(uint32_t max, uint8_t window, size_t records)
     require(lu62_allocate(sent_image, sizeof sent_image, sent_unit, sizeof sent_unit, &answer));
     for (size_t i = 0; i < records; i++)
         for (size_t at = 0; at < RECORD; at += max) {
-            size_t part = RECORD - at < max ? RECORD - at : max;
-            require(lu62_send_data(sent_image, sizeof sent_image, record + at, part, sent_send, sizeof sent_send,
+            size_t piece = RECORD - at < max ? RECORD - at : max;
+            require(lu62_send_data(sent_image, sizeof sent_image, record + at, piece, sent_send, sizeof sent_send,
                                    sent_unit, sizeof sent_unit, &answer));
             if (answer.unit > 0)
                 carried += carry(answer.unit, inbox_length, window, &place);
@@ -84,16 +84,16 @@ static size_t by_memcpy(uint32_t max, size_t records)
     size_t carried = 0;
     for (size_t i = 0; i < records; i++)
         for (size_t at = 0; at < RECORD; at += max) {
-            size_t part = RECORD - at < max ? RECORD - at : max;
-            memcpy(sent_send, record + at, part);
+            size_t piece = RECORD - at < max ? RECORD - at : max;
+            memcpy(sent_send, record + at, piece);
             keep();
-            memcpy(sent_unit + 5, sent_send, part);
+            memcpy(sent_unit + 5, sent_send, piece);
             keep();
-            memcpy(read_inbox, sent_unit + 5, part);
+            memcpy(read_inbox, sent_unit + 5, piece);
             keep();
-            memcpy(buffer, read_inbox, part);
+            memcpy(buffer, read_inbox, piece);
             keep();
-            carried += part;
+            carried += piece;
         }
     return carried;
 }

@@ -13,14 +13,15 @@ static const struct {
     const char *name;
     enum fault fault;
 } faults[] = {
-    {"--garbage", FAULT_GARBAGE}, {"--short", FAULT_SHORT},     {"--gone", FAULT_GONE},
-    {"--silent", FAULT_SILENT},   {"--dropped", FAULT_DROPPED},
+    {"--garbage", FAULT_GARBAGE}, {"--short", FAULT_SHORT},     {"--gone", FAULT_GONE},       {"--silent", FAULT_SILENT},
+    {"--early", FAULT_EARLY},     {"--forever", FAULT_FOREVER}, {"--dropped", FAULT_DROPPED},
 };
 
 static int usage(void)
 {
     fprintf(stderr,
-            "usage: batch [--counts] [--limit MS] [--pause MS] [--garbage | --short | --gone | --silent | --dropped]\n"
+            "usage: batch [--counts] [--limit MS] [--pause MS]\n"
+            "             [--garbage | --short | --gone | --silent | --early | --forever | --dropped]\n"
             "  --counts     print what was counted to standard error\n"
             "  --limit MS   give a conversation up that has stood still for so many milliseconds (default %d)\n"
             "  --pause MS   wait so long after a refused bid before the next (default %d)\n"

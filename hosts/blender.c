@@ -1,5 +1,6 @@
 /* The blender: asks for the tables of its campaigns and prints the figures that it blends by. It is the bidder. A figure is printed
- * only from a record that has been read to its end, as the record has it, and is found by the columns that the table names. */
+ * only from records that have been read to their end, as they have it. It is found by the column that the table names: by the part of
+ * the row and the place in that part's record, never by what has come before it on the line. */
 #include "session.h"
 
 #include <errno.h>
@@ -15,26 +16,40 @@ enum {
     CAMPAIGNS = sizeof campaigns / sizeof campaigns[0],
     COLUMNS = sizeof column_names / sizeof column_names[0],
     LONGEST_VALUE = 10,
-    MOST_ROWS = 9999,
     MOST_REVISED = 8,
     LONGEST_REVISED = 63
 };
 
-/* Where a column stands in a row's text. */
+/* Where a column stands: in which part of a row, counted from 1, and where in the text of that part. */
 struct column {
     bool known;
+    size_t part;
     size_t offset;
     size_t width;
+};
+
+/* How much of a table has come. */
+enum progress {
+    NOT_ASKED,
+    ASKED,     /* the query has been given */
+    ANNOUNCED, /* the number of rows is known */
+    ROWS,      /* the columns are known, and parts of rows are to come */
+    WHOLE      /* the last part has come, and says that none follows */
+};
+
+struct table {
+    enum progress progress;
+    size_t rows_announced, row_parts; /* how many rows there are to be, and how many parts each has */
+    size_t rows, parts;               /* how many whole rows have come, and how many parts of the next */
+    struct column columns[COLUMNS];
+    char values[COLUMNS][LONGEST_VALUE + 1]; /* of the row that is coming */
 };
 
 struct blender {
     struct session session;
     struct outgoing query;
-    size_t campaign;     /* the one asked for, or to be asked for next */
-    bool asked;          /* the query has been given and the table is awaited */
-    bool columns_known;  /* the table's columns have been named */
-    size_t rows, rows_announced;
-    struct column columns[COLUMNS];
+    size_t campaign; /* the one asked for, or to be asked for next */
+    struct table table;
     char revised[MOST_REVISED][LONGEST_REVISED + 1];
     size_t revised_count;
     bool revision_here;  /* this conversation of the laboratory's has brought its record */
@@ -54,54 +69,92 @@ __attribute__((format(printf, 2, 3))) static bool print(struct blender *blender,
     return !blender->session.failed;
 }
 
-/* One column of the record that names them: offset and width follow the name. */
+/* A record that stands alone must not say that another part follows it. */
+static bool stands_alone(struct blender *blender)
+{
+    if (blender->session.record.more)
+        session_fail(&blender->session, "a record that stands alone says that another part follows");
+    return !blender->session.failed;
+}
+
+/* Whether the part that has come, already counted, says rightly that another follows, or that the table ends with it. */
+static bool goes_on_rightly(struct blender *blender)
+{
+    struct table *table = &blender->table;
+    bool more = blender->session.record.more, last = table->rows == table->rows_announced;
+    if (more && last)
+        session_fail(&blender->session, "its table goes on after the last of the %zu rows that it announced", table->rows_announced);
+    else if (!more && !last)
+        session_fail(&blender->session, "its table ends early: part %zu of row %zu has not come, and it announced %zu rows",
+                     table->parts + 1, table->rows + 1, table->rows_announced);
+    else
+        table->progress = last ? WHOLE : ROWS;
+    return !blender->session.failed;
+}
+
+static void take_announcement(struct blender *blender)
+{
+    struct text rest = record_text(&blender->session.record), name, none;
+    if (!stands_alone(blender))
+        return;
+    if (!text_word(&rest, &name) || !text_is(name, campaigns[blender->campaign])) {
+        session_fail(&blender->session, "it announces another table than that of campaign %s", campaigns[blender->campaign]);
+        return;
+    }
+    if (!text_next_number(&rest, MOST_ROWS, &blender->table.rows_announced) || text_word(&rest, &none)) {
+        session_fail(&blender->session, "it announces a table and does not say how many rows it has, at most %d", MOST_ROWS);
+        return;
+    }
+    blender->table.progress = ANNOUNCED;
+}
+
+/* One column of the part that names them: part, offset and width follow the name. */
 static bool take_column(struct blender *blender, struct text name, struct text *rest)
 {
     struct column column = {.known = true};
-    if (!text_next_number(rest, LU62_RECORD_MOST, &column.offset) || !text_next_number(rest, LU62_RECORD_MOST, &column.width)) {
-        session_fail(&blender->session, "its table has a column without offset and width");
+    if (!text_next_number(rest, blender->table.row_parts, &column.part) || column.part == 0 ||
+        !text_next_number(rest, LU62_RECORD_MOST, &column.offset) || !text_next_number(rest, LU62_RECORD_MOST, &column.width)) {
+        session_fail(&blender->session, "its table has a column without part, offset and width");
         return false;
     }
     for (size_t i = 0; i < COLUMNS; i++) {
         if (!text_is(name, column_names[i]))
             continue;
-        if (blender->columns[i].known) {
+        if (blender->table.columns[i].known) {
             session_fail(&blender->session, "its table names the column %s twice", column_names[i]);
             return false;
         }
-        blender->columns[i] = column;
+        blender->table.columns[i] = column;
     }
     return true;
 }
 
 static void take_columns(struct blender *blender)
 {
+    struct table *table = &blender->table;
     struct text rest = record_text(&blender->session.record), name;
-    if (blender->columns_known) {
-        session_fail(&blender->session, "it names the columns of one table twice");
-        return;
-    }
-    if (!text_next_number(&rest, MOST_ROWS, &blender->rows_announced)) {
-        session_fail(&blender->session, "its table does not say how many rows it has, at most %d", MOST_ROWS);
+    if (!text_next_number(&rest, MOST_PARTS, &table->row_parts) || table->row_parts == 0) {
+        session_fail(&blender->session, "its table does not say how many parts a row has, 1 to %d", MOST_PARTS);
         return;
     }
     while (text_word(&rest, &name))
         if (!take_column(blender, name, &rest))
             return;
     for (size_t i = 0; i < COLUMNS; i++)
-        if (!blender->columns[i].known) {
+        if (!table->columns[i].known) {
             session_fail(&blender->session, "its table has no column %s", column_names[i]);
             return;
         }
-    blender->columns_known = true;
-    (void)print(blender, "campaign %s\n%-10s %10s %10s\n", campaigns[blender->campaign], "batch", "viscosity", "sulphur");
+    if (goes_on_rightly(blender))
+        (void)print(blender, "campaign %s\n%-10s %10s %10s\n", campaigns[blender->campaign], "batch", "viscosity", "sulphur");
 }
 
-/* One value of a row: a single word and the blanks that fill its column. */
-static bool value(struct blender *blender, size_t column, char *value_text)
+/* One value out of the part that has come: a single word and the blanks that fill its column. */
+static bool take_value(struct blender *blender, size_t column)
 {
     struct text row = record_text(&blender->session.record), word, none;
-    size_t offset = blender->columns[column].offset, width = blender->columns[column].width;
+    size_t offset = blender->table.columns[column].offset, width = blender->table.columns[column].width;
+    char *value = blender->table.values[column];
     if (offset > row.length || width > row.length - offset) {
         session_fail(&blender->session, "a row of its table ends before the column %s", column_names[column]);
         return false;
@@ -116,27 +169,72 @@ static bool value(struct blender *blender, size_t column, char *value_text)
                      column_names[column]);
         return false;
     }
-    memcpy(value_text, word.bytes, word.length);
-    value_text[word.length] = '\0';
+    memcpy(value, word.bytes, word.length);
+    value[word.length] = '\0';
     return true;
 }
 
-static void take_row(struct blender *blender)
+/* Counts the part that has come, which must call itself the one that is due. `row_whole` says whether its row ends with it. */
+static bool count_part(struct blender *blender, size_t *part, bool *row_whole)
 {
-    char values[COLUMNS][LONGEST_VALUE + 1];
-    if (!blender->columns_known) {
-        session_fail(&blender->session, "it sends a row before it has named the columns");
-        return;
+    struct table *table = &blender->table;
+    struct text rest = record_text(&blender->session.record);
+    size_t row;
+    if (!text_next_number(&rest, MOST_ROWS, &row) || !text_next_number(&rest, MOST_PARTS, part)) {
+        session_fail(&blender->session, "it sends a part of a row without the numbers of row and part");
+        return false;
     }
-    if (blender->rows == blender->rows_announced) {
-        session_fail(&blender->session, "it sends more than the %zu rows that it announced", blender->rows_announced);
-        return;
+    if (row != table->rows + 1 || *part != table->parts + 1) {
+        session_fail(&blender->session, "it sends part %zu of row %zu where part %zu of row %zu is due", *part, row, table->parts + 1,
+                     table->rows + 1);
+        return false;
     }
+    table->parts++;
+    *row_whole = table->parts == table->row_parts;
+    if (*row_whole) {
+        table->rows++;
+        table->parts = 0;
+    }
+    return true;
+}
+
+/* A row is printed when its last part has come, if all its parts are right. */
+static void take_part(struct blender *blender)
+{
+    struct table *table = &blender->table;
+    size_t part;
+    bool row_whole;
+    if (!count_part(blender, &part, &row_whole) || !goes_on_rightly(blender))
+        return;
     for (size_t i = 0; i < COLUMNS; i++)
-        if (!value(blender, i, values[i]))
+        if (table->columns[i].part == part && !take_value(blender, i))
             return;
-    blender->rows++;
-    (void)print(blender, "%-10s %10s %10s\n", values[0], values[1], values[2]);
+    if (row_whole)
+        (void)print(blender, "%-10s %10s %10s\n", table->values[0], table->values[1], table->values[2]);
+}
+
+/* A record of the answer to a query: the announcement, the part that names the columns, the parts of the rows. */
+static void take_answer(struct blender *blender, uint8_t kind)
+{
+    enum progress progress = blender->table.progress;
+    if (progress == WHOLE)
+        session_fail(&blender->session, "it sends a record after the last part of its table");
+    else if (kind == RECORD_ANNOUNCEMENT && progress == ASKED)
+        take_announcement(blender);
+    else if (kind == RECORD_COLUMNS && progress == ANNOUNCED)
+        take_columns(blender);
+    else if (kind == RECORD_ROW && progress == ROWS)
+        take_part(blender);
+    else if (kind == RECORD_ANNOUNCEMENT)
+        session_fail(&blender->session, "it announces one table twice");
+    else if (kind == RECORD_COLUMNS && progress == ASKED)
+        session_fail(&blender->session, "it names the columns of a table that it has not announced");
+    else if (kind == RECORD_COLUMNS)
+        session_fail(&blender->session, "it names the columns of one table twice");
+    else if (kind == RECORD_ROW)
+        session_fail(&blender->session, "it sends a row before it has named the columns");
+    else
+        session_fail(&blender->session, "it sends a record that is not expected here");
 }
 
 static void take_revised(struct blender *blender)
@@ -166,37 +264,42 @@ static void take_last_revised(struct blender *blender)
     blender->no_more_revised = true;
 }
 
+/* The one record of a conversation that the laboratory began. */
+static void take_revision(struct blender *blender, uint8_t kind)
+{
+    bool expected = (kind == RECORD_REVISED || kind == RECORD_LAST_REVISED) && !blender->revision_here && !blender->no_more_revised;
+    blender->revision_here = expected;
+    if (!expected)
+        session_fail(&blender->session, "it sends a record that is not expected here");
+    else if (!stands_alone(blender))
+        return;
+    else if (kind == RECORD_REVISED)
+        take_revised(blender);
+    else
+        take_last_revised(blender);
+}
+
 static void take_record(struct blender *blender)
 {
     uint8_t kind = record_kind(&blender->session.record);
-    bool revision = (kind == RECORD_REVISED || kind == RECORD_LAST_REVISED) && !blender->asked && !blender->revision_here &&
-                    !blender->no_more_revised;
     if (!text_printable(record_text(&blender->session.record)))
         session_fail(&blender->session, "it sends a record with a byte that cannot be printed");
-    else if (kind == RECORD_COLUMNS && blender->asked)
-        take_columns(blender);
-    else if (kind == RECORD_ROW && blender->asked)
-        take_row(blender);
-    else if (revision && kind == RECORD_REVISED)
-        take_revised(blender);
-    else if (revision)
-        take_last_revised(blender);
+    else if (blender->table.progress == NOT_ASKED)
+        take_revision(blender, kind);
     else
-        session_fail(&blender->session, "it sends a record that is not expected here");
-    blender->revision_here = revision;
+        take_answer(blender, kind);
 }
 
 /* The end of the blender's own conversation: the table must have come whole. */
 static void end_table(struct blender *blender)
 {
-    if (!blender->columns_known || blender->rows != blender->rows_announced) {
-        session_fail(&blender->session, "it ends a table after %zu rows of %zu", blender->rows, blender->rows_announced);
+    struct table *table = &blender->table;
+    if (table->progress != WHOLE) {
+        session_fail(&blender->session, "it ends the conversation before its table is whole, after %zu rows of %zu", table->rows,
+                     table->rows_announced);
         return;
     }
-    blender->asked = false;
-    blender->columns_known = false;
-    blender->rows = blender->rows_announced = 0;
-    memset(blender->columns, 0, sizeof blender->columns);
+    memset(table, 0, sizeof *table);
     blender->campaign++;
 }
 
@@ -216,7 +319,7 @@ static void take_mark(struct blender *blender)
         return;
     }
     /* The conversation that ends is the blender's own if its query has been given, else one with a revised figure. */
-    if (mark != LU62_MARK_CONFIRM && blender->asked)
+    if (mark != LU62_MARK_CONFIRM && blender->table.progress != NOT_ASKED)
         end_table(blender);
     else if (mark != LU62_MARK_CONFIRM)
         end_revision(blender);
@@ -229,16 +332,17 @@ static void take_mark(struct blender *blender)
 static bool ask(struct blender *blender)
 {
     struct session *session = &blender->session;
-    if (blender->asked || blender->campaign == CAMPAIGNS)
+    if (blender->table.progress != NOT_ASKED || blender->campaign == CAMPAIGNS)
         return false;
     if (lu62_end_state(&session->end) != LU62_SEND)
         return session_allocate(session) == LU62_ACCEPTED;
-    if (blender->query.length == 0 && !session_set(session, &blender->query, RECORD_QUERY, text_of(campaigns[blender->campaign])))
+    struct text campaign = text_of(campaigns[blender->campaign]);
+    if (blender->query.length == 0 && !session_set(session, &blender->query, RECORD_QUERY, campaign, false))
         return false;
     if (!session_give(session, &blender->query) || session_turn(session, blender->campaign % 2 == 1) != LU62_ACCEPTED)
         return false;
     blender->query.length = 0;
-    blender->asked = true;
+    blender->table.progress = ASKED;
     return true;
 }
 

@@ -5,10 +5,20 @@
 #include <stdlib.h>
 #include <string.h>
 
-enum { MOST_COLUMNS = 5, WIDEST_ROW = 512, MISBEHAVING_TABLE = 1, MISBEHAVING_ROW = 2 };
+enum {
+    MOST_COLUMNS = 6,
+    LONGEST_TEXT = 512,
+    /* Where the values of a part begin: behind the row's number, the part's, and a blank after each. */
+    VALUES_AT = 8,
+    /* The table in which a fault is shown, and its part: the second of the third row. */
+    MISBEHAVING_TABLE = 1,
+    MISBEHAVING_PART = 6
+};
 
+/* A column, and in which part of a row it stands, counted from 1. The columns of a part follow one another. */
 struct column {
     const char *name;
+    size_t part;
     size_t width;
 };
 
@@ -20,6 +30,7 @@ struct batch {
 
 struct table {
     const char *campaign;
+    size_t row_parts; /* how many parts a row has */
     struct column columns[MOST_COLUMNS];
     const struct batch *batches;
     size_t batch_count;
@@ -39,12 +50,21 @@ static const struct batch diesel[] = {
     {"DI-1001", "2.84", "0.00091"}, {"DI-1002", "2.91", "0.00087"}, {"DI-1003", "2.79", "0.00095"},
 };
 
-/* The layouts differ, so that a reader must find its columns by the record that names them. */
+/* The layouts differ, so that a reader must find its columns by the part that names them. */
 static const struct table tables[] = {
-    {"MARINE-05", {{"remarks", 130}, {"sulphur", 8}, {"viscosity", 8}, {"batch", 8}}, marine, sizeof marine / sizeof marine[0]},
-    {"FUEL-380", {{"batch", 8}, {"viscosity", 8}, {"sulphur", 8}, {"remarks", 203}}, fuel, sizeof fuel / sizeof fuel[0]},
+    {"MARINE-05",
+     1,
+     {{"remarks", 1, 130}, {"sulphur", 1, 8}, {"viscosity", 1, 8}, {"batch", 1, 8}},
+     marine,
+     sizeof marine / sizeof marine[0]},
+    {"FUEL-380",
+     2,
+     {{"batch", 1, 8}, {"method", 1, 40}, {"viscosity", 1, 8}, {"sulphur", 2, 8}, {"remarks", 2, 203}},
+     fuel,
+     sizeof fuel / sizeof fuel[0]},
     {"DIESEL-10",
-     {{"batch", 8}, {"method", 150}, {"viscosity", 8}, {"remarks", 250}, {"sulphur", 8}},
+     3,
+     {{"method", 1, 150}, {"sulphur", 1, 8}, {"batch", 2, 8}, {"remarks", 3, 250}, {"viscosity", 3, 8}},
      diesel,
      sizeof diesel / sizeof diesel[0]},
 };
@@ -57,11 +77,11 @@ enum stage {
     IDLE,
     REVISION,       /* a revised figure is being given */
     REVISION_ENDED, /* the end has been asked for, with confirmation */
-    COLUMNS,        /* the record that names the columns is being given */
-    COLUMNS_ASKED,  /* its confirmation is awaited */
-    ROWS,
-    LEAVING, /* part of a row has been given and the laboratory goes away */
-    TABLE,   /* the rows have been given */
+    ANNOUNCING,     /* the table's announcement is being given */
+    ANNOUNCED,      /* its confirmation is awaited */
+    PARTS,          /* the table's parts are being given */
+    LEAVING,        /* the front of a part is being given, and then the laboratory goes away */
+    TABLE,          /* all parts have been given */
     TABLE_ENDED
 };
 
@@ -71,7 +91,7 @@ struct laboratory {
     enum fault fault;
     enum stage stage;
     const struct table *table;
-    size_t row;
+    size_t part; /* the table's part being given: 0 names the columns, then come the parts of the rows */
     size_t revisions_due; /* how many may have been sent by now, the last record included */
     size_t revisions_sent;
     bool done;
@@ -81,29 +101,68 @@ static bool set_revision(struct laboratory *lab)
 {
     char count[16];
     if (lab->revisions_sent < REVISED)
-        return session_set(&lab->session, &lab->record, RECORD_REVISED, text_of(revised[lab->revisions_sent]));
+        return session_set(&lab->session, &lab->record, RECORD_REVISED, text_of(revised[lab->revisions_sent]), false);
     (void)snprintf(count, sizeof count, "%d", (int)REVISED);
-    return session_set(&lab->session, &lab->record, RECORD_LAST_REVISED, text_of(count));
+    return session_set(&lab->session, &lab->record, RECORD_LAST_REVISED, text_of(count), false);
 }
 
-/* Puts the columns behind the number of rows that stands in `text`. */
+static bool set_announcement(struct laboratory *lab)
+{
+    char text[64];
+    int length = snprintf(text, sizeof text, "%s %zu", lab->table->campaign, lab->table->batch_count);
+    if (length < 0 || (size_t)length >= sizeof text) {
+        session_fail(&lab->session, "the announcement of a table does not fit");
+        return false;
+    }
+    return session_set(&lab->session, &lab->record, RECORD_ANNOUNCEMENT, text_of(text), false);
+}
+
+/* How many parts the table has: the one that names the columns, and those of its rows. */
+static size_t parts_of(const struct table *table)
+{
+    return 1 + table->batch_count * table->row_parts;
+}
+
+static bool misbehaves_now(const struct laboratory *lab, enum fault fault)
+{
+    return lab->fault == fault && lab->table == &tables[MISBEHAVING_TABLE] && lab->part == MISBEHAVING_PART;
+}
+
+/* What the part at hand says: every part but the last, that another follows. */
+static bool more_follows(const struct laboratory *lab)
+{
+    bool last = lab->part + 1 == parts_of(lab->table);
+    if (misbehaves_now(lab, FAULT_EARLY))
+        return false;
+    return !last || (lab->fault == FAULT_FOREVER && lab->table == &tables[MISBEHAVING_TABLE]);
+}
+
+/* Where a column stands in the text of its part: behind the columns of the part that are named before it. */
+static size_t offset_of(const struct table *table, size_t column)
+{
+    size_t offset = VALUES_AT;
+    for (size_t i = 0; i < column; i++)
+        if (table->columns[i].part == table->columns[column].part)
+            offset += table->columns[i].width;
+    return offset;
+}
+
 static bool set_columns(struct laboratory *lab)
 {
-    char text[WIDEST_ROW];
-    size_t offset = 0;
-    int length = snprintf(text, sizeof text, "%zu", lab->table->batch_count);
+    char text[LONGEST_TEXT];
+    int length = snprintf(text, sizeof text, "%zu", lab->table->row_parts);
     for (size_t i = 0; i < MOST_COLUMNS && lab->table->columns[i].name != NULL; i++) {
         const struct column *column = &lab->table->columns[i];
         size_t room = sizeof text - (size_t)length;
-        int written = snprintf(text + length, room, " %s %zu %zu", column->name, offset, column->width);
+        int written = snprintf(text + length, room, " %s %zu %zu %zu", column->name, column->part, offset_of(lab->table, i),
+                               column->width);
         if (written < 0 || (size_t)written >= room) {
             session_fail(&lab->session, "the columns of a table do not fit");
             return false;
         }
         length += written;
-        offset += column->width;
     }
-    return session_set(&lab->session, &lab->record, RECORD_COLUMNS, text_of(text));
+    return session_set(&lab->session, &lab->record, RECORD_COLUMNS, text_of(text), more_follows(lab));
 }
 
 /* The value of a column that the blender asks for, or NULL for one of those that it does not. */
@@ -127,10 +186,10 @@ static void fill_remarks(char *place, size_t width)
         place[i] = words[i % (sizeof words - 1)];
 }
 
-/* Puts a value at the front of its column, which is blank. A figure that does not fit is not cut. */
-static bool put_value(struct laboratory *lab, char *place, const struct column *column)
+/* Puts a batch's value at the front of its column, which is blank. A figure that does not fit is not cut. */
+static bool put_value(struct laboratory *lab, char *place, const struct column *column, const struct batch *batch)
 {
-    const char *value = value_of(&lab->table->batches[lab->row], column->name);
+    const char *value = value_of(batch, column->name);
     if (value == NULL) {
         fill_remarks(place, column->width);
         return true;
@@ -143,31 +202,41 @@ static bool put_value(struct laboratory *lab, char *place, const struct column *
     return true;
 }
 
-static bool set_row(struct laboratory *lab)
+/* One part of a row: the numbers of both, counted from 1, and the values of the columns that stand in this part. */
+static bool set_row_part(struct laboratory *lab)
 {
-    char text[WIDEST_ROW];
-    size_t offset = 0;
-    memset(text, ' ', sizeof text);
-    for (size_t i = 0; i < MOST_COLUMNS && lab->table->columns[i].name != NULL; i++) {
-        const struct column *column = &lab->table->columns[i];
-        if (column->width >= sizeof text - offset) {
-            session_fail(&lab->session, "a row for it does not fit");
+    char text[LONGEST_TEXT];
+    const struct table *table = lab->table;
+    size_t row = (lab->part - 1) / table->row_parts, part = 1 + (lab->part - 1) % table->row_parts;
+    size_t end = VALUES_AT;
+    if (snprintf(text, sizeof text, "%4zu %2zu ", row + 1, part) != VALUES_AT) {
+        session_fail(&lab->session, "the numbers of a row and its part do not fit");
+        return false;
+    }
+    memset(text + VALUES_AT, ' ', sizeof text - VALUES_AT);
+    for (size_t i = 0; i < MOST_COLUMNS && table->columns[i].name != NULL; i++) {
+        const struct column *column = &table->columns[i];
+        size_t offset = offset_of(table, i);
+        if (column->part != part)
+            continue;
+        end = offset + column->width;
+        if (end >= sizeof text) {
+            session_fail(&lab->session, "a part of a row for it does not fit");
             return false;
         }
-        if (!put_value(lab, text + offset, column))
+        if (!put_value(lab, text + offset, column, &table->batches[row]))
             return false;
-        offset += column->width;
     }
-    text[offset] = '\0';
-    return session_set(&lab->session, &lab->record, RECORD_ROW, text_of(text));
+    text[end] = '\0';
+    return session_set(&lab->session, &lab->record, RECORD_ROW, text_of(text), more_follows(lab));
 }
 
-static bool misbehaves_now(const struct laboratory *lab, enum fault fault)
+static bool set_part(struct laboratory *lab)
 {
-    return lab->fault == fault && lab->table == &tables[MISBEHAVING_TABLE] && lab->row == MISBEHAVING_ROW;
+    return lab->part == 0 ? set_columns(lab) : set_row_part(lab);
 }
 
-/* Puts bytes on the line that no call has made, after all rows given so far, and leaves. */
+/* Puts bytes on the line that no call has made, after all parts given so far, and leaves. */
 static bool send_nonsense(struct laboratory *lab, const char *bytes, size_t length)
 {
     if (session_flush(&lab->session) != LU62_ACCEPTED)
@@ -183,6 +252,10 @@ static void take_query(struct laboratory *lab)
     struct text text = record_text(&lab->session.record);
     if (record_kind(&lab->session.record) != RECORD_QUERY) {
         session_fail(&lab->session, "its record is no query");
+        return;
+    }
+    if (lab->session.record.more) {
+        session_fail(&lab->session, "its query says that another part follows, and a query is one record alone");
         return;
     }
     if (lab->table != NULL) {
@@ -211,8 +284,8 @@ static void take_mark(struct laboratory *lab)
         session_fail(&lab->session, "it has given the turn and asked nothing");
         return;
     }
-    if (set_columns(lab))
-        lab->stage = COLUMNS;
+    if (set_announcement(lab))
+        lab->stage = ANNOUNCING;
 }
 
 static bool begin_revision(struct laboratory *lab)
@@ -223,32 +296,32 @@ static bool begin_revision(struct laboratory *lab)
     return set_revision(lab);
 }
 
-/* Gives the row at hand; true when it has been given whole and the next is to come. */
-static bool give_row(struct laboratory *lab)
+/* Gives the part at hand; true when it has been given whole and the next is to come. */
+static bool give_part(struct laboratory *lab)
 {
     if (misbehaves_now(lab, FAULT_GARBAGE))
         return send_nonsense(lab, "garbage", 7);
     if (misbehaves_now(lab, FAULT_SHORT))
         return send_nonsense(lab, "\0\1\3", 3);
     if (misbehaves_now(lab, FAULT_SILENT)) {
-        /* The rows before are sent when credit allows; no byte more is given. */
+        /* The parts before are sent when credit allows; no byte more is given. */
         (void)session_flush(&lab->session);
         return false;
     }
     if (misbehaves_now(lab, FAULT_GONE)) {
-        /* The figures of this row are in the part given; the record goes on after them. */
+        /* By then all figures of this row have been given; the record goes on after them. */
         lab->record.length = 100;
         lab->stage = LEAVING;
         return true;
     }
     if (!session_give(&lab->session, &lab->record))
         return false;
-    lab->row++;
-    /* Some rows go out at once, others wait for more bytes: a unit may end anywhere. */
-    if (lab->row % 2 == 0)
+    lab->part++;
+    /* Some parts go out at once, others wait for more bytes: a unit may end anywhere. */
+    if (lab->part % 2 == 0)
         (void)session_flush(&lab->session);
-    if (lab->row < lab->table->batch_count)
-        return set_row(lab);
+    if (lab->part < parts_of(lab->table))
+        return set_part(lab);
     lab->stage = TABLE;
     return true;
 }
@@ -282,6 +355,9 @@ static bool settle(struct laboratory *lab)
 static bool end_table(struct laboratory *lab)
 {
     bool confirm = lab->table == &tables[MISBEHAVING_TABLE];
+    /* The end will be refused; before that the blender is to get the part that says another follows. */
+    if (confirm && lab->fault == FAULT_FOREVER && session_flush(&lab->session) != LU62_ACCEPTED)
+        return false;
     if (session_end(&lab->session, confirm) != LU62_ACCEPTED)
         return false;
     lab->session.lose_confirmation = confirm && lab->fault == FAULT_DROPPED;
@@ -301,19 +377,19 @@ static bool speak(struct laboratory *lab)
         lab->revisions_sent++;
         lab->stage = REVISION_ENDED;
         return true;
-    case COLUMNS:
+    case ANNOUNCING:
         if (!session_give(session, &lab->record) || session_confirm(session) != LU62_ACCEPTED)
             return false;
-        lab->stage = COLUMNS_ASKED;
+        lab->stage = ANNOUNCED;
         return true;
-    case COLUMNS_ASKED:
+    case ANNOUNCED:
         if (lu62_end_state(&session->end) != LU62_SEND)
             return false;
-        lab->row = 0;
-        lab->stage = ROWS;
-        return set_row(lab);
-    case ROWS:
-        return give_row(lab);
+        lab->part = 0;
+        lab->stage = PARTS;
+        return set_part(lab);
+    case PARTS:
+        return give_part(lab);
     case LEAVING:
         return leave(lab);
     case TABLE:

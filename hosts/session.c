@@ -83,59 +83,69 @@ static void got_on(struct session *session)
     session->bids_in_vain = 0;
 }
 
-/* Puts the unit that a call made, if any, on the line. */
-static uint32_t carried(struct session *session, uint32_t refusal)
+/* Puts the unit that the last call made, if any, on the line. */
+static void put_unit(struct session *session)
 {
+    if (session->end.answer.unit == 0)
+        return;
+    session->units_made++;
+    if (!line_put(&session->line, session->end.unit, session->end.answer.unit))
+        session_fail(session, "the line takes no more units");
+}
+
+/* The same after a call that may be refused. A refusal that no waiting mends ends the conversation, with a message that says what the
+ * call was to do. */
+static uint32_t carried(struct session *session, const char *purpose, uint32_t refusal)
+{
+    char what[96];
     if (refusal == LU62_NO_CREDIT)
         session->waits_for_credit++;
-    if (refusal != LU62_ACCEPTED && refusal != LU62_WRONG_STATE && refusal != LU62_NO_CREDIT)
-        session_refused(session, "a call was refused", &session->end.answer);
-    if (session->end.answer.unit > 0) {
-        session->units_made++;
-        if (!line_put(&session->line, session->end.unit, session->end.answer.unit))
-            session_fail(session, "the line takes no more units");
+    if (refusal != LU62_ACCEPTED && refusal != LU62_WRONG_STATE && refusal != LU62_NO_CREDIT) {
+        (void)snprintf(what, sizeof what, "the %s's own call to %s was refused", session->name, purpose);
+        session_refused(session, what, &session->end.answer);
     }
+    put_unit(session);
     return refusal;
 }
 
 /* The same for a call that moves the conversation on. */
-static uint32_t moved_on(struct session *session, uint32_t refusal)
+static uint32_t moved_on(struct session *session, const char *purpose, uint32_t refusal)
 {
     if (refusal == LU62_ACCEPTED)
         got_on(session);
-    return carried(session, refusal);
+    return carried(session, purpose, refusal);
 }
 
 uint32_t session_allocate(struct session *session)
 {
     if (clock_ms() < session->bid_from)
         return LU62_WRONG_STATE;
-    return carried(session, lu62_end_allocate(&session->end));
+    return carried(session, "begin the conversation", lu62_end_allocate(&session->end));
 }
 
 uint32_t session_flush(struct session *session)
 {
-    return carried(session, lu62_end_flush(&session->end));
+    return carried(session, "send what was given", lu62_end_flush(&session->end));
 }
 
 uint32_t session_confirm(struct session *session)
 {
-    return carried(session, lu62_end_confirm(&session->end));
+    return carried(session, "have what was given confirmed", lu62_end_confirm(&session->end));
 }
 
 uint32_t session_turn(struct session *session, bool confirm)
 {
-    return moved_on(session, lu62_end_prepare_to_receive(&session->end, confirm));
+    return moved_on(session, "give the turn", lu62_end_prepare_to_receive(&session->end, confirm));
 }
 
 uint32_t session_end(struct session *session, bool confirm)
 {
-    return moved_on(session, lu62_end_deallocate(&session->end, confirm));
+    return moved_on(session, "end the conversation", lu62_end_deallocate(&session->end, confirm));
 }
 
 uint32_t session_confirmed(struct session *session)
 {
-    return carried(session, lu62_end_confirmed(&session->end));
+    return carried(session, "confirm", lu62_end_confirmed(&session->end));
 }
 
 /* Kind and text, which stand between LL and the check. */
@@ -145,7 +155,7 @@ static uint32_t check_of(const uint8_t *bytes, size_t length)
     return text_crc(checked);
 }
 
-bool session_set(struct session *session, struct outgoing *record, char kind, struct text text)
+bool session_set(struct session *session, struct outgoing *record, char kind, struct text text, bool more)
 {
     char check[RECORD_CHECK_DIGITS + 1];
     if (text.length > sizeof record->bytes - RECORD_TEXT_AT - RECORD_CHECK_DIGITS) {
@@ -154,8 +164,9 @@ bool session_set(struct session *session, struct outgoing *record, char kind, st
     }
     record->length = RECORD_TEXT_AT + text.length + RECORD_CHECK_DIGITS;
     record->given = 0;
-    record->bytes[0] = (uint8_t)(record->length / 256);
-    record->bytes[1] = (uint8_t)(record->length % 256);
+    size_t ll = record->length + (more ? LU62_MORE_FOLLOWS : 0);
+    record->bytes[0] = (uint8_t)(ll / 256);
+    record->bytes[1] = (uint8_t)(ll % 256);
     record->bytes[2] = (uint8_t)kind;
     memcpy(record->bytes + RECORD_TEXT_AT, text.bytes, text.length);
     (void)snprintf(check, sizeof check, "%08" PRIX32, check_of(record->bytes, record->length));
@@ -175,20 +186,21 @@ static bool check_fits(const struct record *record)
 bool session_give(struct session *session, struct outgoing *record)
 {
     while (record->given < record->length) {
-        /* Parts of many lengths, so that records, parts and units end in different places. */
-        size_t part = 1 + session->parts * 7 % SMALLEST_MAXIMUM;
-        if (part > record->length - record->given)
-            part = record->length - record->given;
-        if (moved_on(session, lu62_end_send_data(&session->end, record->bytes + record->given, part)) != LU62_ACCEPTED)
+        /* Pieces of many lengths, so that records, pieces and units end in different places. */
+        size_t piece = 1 + session->pieces * 7 % SMALLEST_MAXIMUM;
+        if (piece > record->length - record->given)
+            piece = record->length - record->given;
+        uint32_t refusal = lu62_end_send_data(&session->end, record->bytes + record->given, piece);
+        if (moved_on(session, "give a piece of a record", refusal) != LU62_ACCEPTED)
             return false;
-        record->given += part;
-        session->parts++;
+        record->given += piece;
+        session->pieces++;
     }
     return true;
 }
 
 /* Puts the bytes just read behind those of the record read before. */
-static enum reading joined(struct session *session, const uint8_t *part, size_t copied)
+static enum reading joined(struct session *session, const uint8_t *piece, size_t copied)
 {
     struct record *record = &session->record;
     /* No record is longer than the buffer; the test keeps that true even if this program has a fault. */
@@ -196,24 +208,25 @@ static enum reading joined(struct session *session, const uint8_t *part, size_t 
         session_fail(session, "a record is too long");
         return READ_NOTHING;
     }
-    memcpy(record->bytes + record->length, part, copied);
+    memcpy(record->bytes + record->length, piece, copied);
     record->length += copied;
+    record->more = session->end.answer.more != 0;
     session->record_whole = session->end.answer.complete != 0;
     if (session->record_whole && !check_fits(record)) {
         session_fail(session, "it sends a record whose check does not fit it");
         return READ_NOTHING;
     }
-    return session->record_whole ? READ_RECORD : READ_PART;
+    return session->record_whole ? READ_RECORD : READ_PIECE;
 }
 
 enum reading session_read(struct session *session)
 {
-    uint8_t part[17];
+    uint8_t piece[17];
     if (session->record_whole) {
         session->record.length = 0;
         session->record_whole = false;
     }
-    uint32_t refusal = lu62_end_receive(&session->end, part, sizeof part);
+    uint32_t refusal = lu62_end_receive(&session->end, piece, sizeof piece);
     if (refusal == LU62_NOTHING_TO_READ)
         return READ_NOTHING;
     if (refusal != LU62_ACCEPTED) {
@@ -222,7 +235,7 @@ enum reading session_read(struct session *session)
     }
     if (session->end.answer.mark != LU62_MARK_CONFIRM)
         got_on(session);
-    return session->end.answer.mark != LU62_MARK_NONE ? READ_MARK : joined(session, part, session->end.answer.copied);
+    return session->end.answer.mark != LU62_MARK_NONE ? READ_MARK : joined(session, piece, session->end.answer.copied);
 }
 
 uint8_t record_kind(const struct record *record)
@@ -278,7 +291,7 @@ static bool take_unit(struct session *session)
     session->units_taken++;
     note_bids(session, bid_before);
     line_drop(&session->line);
-    (void)carried(session, refusal);
+    put_unit(session);
     return true;
 }
 
@@ -294,7 +307,7 @@ static bool exchange(struct session *session)
         return true;
     if (lu62_end_send_pacing_response(&session->end) == LU62_ACCEPTED) {
         session->pacing_responses++;
-        (void)carried(session, LU62_ACCEPTED);
+        put_unit(session);
         moved = true;
     }
     return moved;

@@ -23,9 +23,10 @@ enum {
 struct record {
     uint8_t bytes[LU62_RECORD_MOST];
     size_t length;
+    bool more; /* of a whole record: it is a part that another part follows */
 };
 
-/* A record being given, part by part as credit allows. */
+/* A record being given, piece by piece as credit allows. */
 struct outgoing {
     uint8_t bytes[LU62_RECORD_MOST];
     size_t length;
@@ -33,7 +34,7 @@ struct outgoing {
 };
 
 /* What one read found. */
-enum reading { READ_NOTHING, READ_PART, READ_RECORD, READ_MARK };
+enum reading { READ_NOTHING, READ_PIECE, READ_RECORD, READ_MARK };
 
 struct session {
     const char *name;    /* this program, for messages */
@@ -44,7 +45,7 @@ struct session {
     struct line line;
     struct record record;
     bool record_whole; /* the record has been read to its end */
-    size_t parts;      /* parts given so far; makes the lengths of parts differ */
+    size_t pieces;     /* pieces given so far; makes the lengths of pieces differ */
     int64_t limit_ms, pause_ms;
     int64_t moved_at;          /* when the conversation last got on */
     int64_t bid_from;          /* when the next bid may be made */
@@ -72,9 +73,9 @@ uint32_t session_turn(struct session *session, bool confirm);
 uint32_t session_end(struct session *session, bool confirm);
 uint32_t session_confirmed(struct session *session);
 
-/* Begins a record of this kind and text, with LL before and the check behind them. False, with a message, if the text does not
- * fit. */
-bool session_set(struct session *session, struct outgoing *record, char kind, struct text text);
+/* Begins a record of this kind and text, with LL before and the check behind them; `more` if it is a part that another part follows.
+ * False, with a message, if the text does not fit. */
+bool session_set(struct session *session, struct outgoing *record, char kind, struct text text, bool more);
 
 /* Gives as much of the record as credit allows. True if all of it has been given. */
 bool session_give(struct session *session, struct outgoing *record);

@@ -43,8 +43,8 @@ extern "C" {
 /* The version of this interface, and of archive and crate that belong to it; and an image's first byte, which is raised with each
  * change of what an image holds. An image kept by a library of another format is refused, and not misread: with BAD_BUFFER if
  * its length is another too, else with BAD_RECORD. */
-#define LU62_VERSION "0.2.0"
-#define LU62_FORMAT 2
+#define LU62_VERSION "0.3.0"
+#define LU62_FORMAT 3
 
 /* Sizes, in bytes. W is a window, 1 to 63; M is a maximum RU, 8 to 1,024. */
 #define LU62_IMAGE 42
@@ -52,13 +52,17 @@ extern "C" {
 #define LU62_INBOX(w, m) ((w) * (m))
 #define LU62_INBOX_MOST 65535
 
-/* Limits of a session's windows and maximum RUs, and of a logical record (its two LL bytes are counted). */
+/* Limits of a session's windows and maximum RUs. */
 #define LU62_WINDOW_LEAST 1
 #define LU62_WINDOW_MOST 63
 #define LU62_MAXIMUM_LEAST 8
 #define LU62_MAXIMUM_MOST 1024
+
+/* A logical record begins with LL, two bytes, high byte first. The top bit of LL says that another part follows: a table may be sent
+ * as several logical records, its parts, each but the last with this bit on. The other 15 bits are the record's length, LL counted. */
 #define LU62_RECORD_LEAST 2
 #define LU62_RECORD_MOST 32767
+#define LU62_MORE_FOLLOWS 0x8000
 
 /* Roles. One end of a session is the first speaker, the other is the bidder. */
 #define LU62_FIRST_SPEAKER 0
@@ -73,8 +77,8 @@ extern "C" {
 #define LU62_BAD_RECORD 5         /* the image holds no record that calls can leave */
 #define LU62_BAD_LENGTH 6         /* no bytes or more than M given; an empty buffer to read into */
 #define LU62_WRONG_STATE 7        /* the state, or a bid under way, does not allow the call */
-#define LU62_BAD_LL 8             /* a logical record's length is under 2 or over 32,767 */
-#define LU62_UNFINISHED_RECORD 9  /* the last record given is not whole */
+#define LU62_BAD_LL 8             /* a logical record's length, LL without its top bit, is under 2 */
+#define LU62_UNFINISHED_RECORD 9  /* the last record given is not whole, or says that another part follows */
 #define LU62_NO_CREDIT 10         /* a request must go and the partner has not made room for it */
 #define LU62_NOTHING_TO_PACE 11   /* no pacing response is owed, or the inbox has no room for a window yet */
 #define LU62_NOTHING_TO_READ 12   /* no byte is held and no mark stands */
@@ -90,7 +94,7 @@ extern "C" {
 #define LU62_BAD_STATE 26         /* data where this end does not receive */
 #define LU62_BAD_PACING 27        /* more requests than the window allows, a wrong pacing bit, a pacing response unasked */
 #define LU62_BAD_RESPONSE 28      /* a response to nothing that this end has asked */
-#define LU62_BAD_RECORDS 29       /* a bad LL, or a record not whole where data says that it ends */
+#define LU62_BAD_RECORDS 29       /* a bad LL; or, at a mark, a record that is not whole or says that another part follows */
 
 /* From here on a refusal number is a breach of protocol by the partner. */
 #define LU62_FIRST_BREACH LU62_SHORT_UNIT
@@ -118,7 +122,7 @@ extern "C" {
 #define LU62_CONFIRM_OWED 3       /* this end must call lu62_confirmed */
 #define LU62_CONFIRM_AWAITED 4    /* this end waits for the partner's confirmation */
 
-/* What a call answers. A refusal has zeros in the last four fields. */
+/* What a call answers. A refusal has zeros in the last five fields. */
 struct lu62_answer {
     uint32_t refusal;   /* LU62_ACCEPTED, or the number of the refusal */
     uint32_t sense;     /* sense data of the refusal, 0 where it has none */
@@ -126,6 +130,7 @@ struct lu62_answer {
     uint32_t unit;      /* length of the unit made, 0 for none */
     uint32_t copied;    /* lu62_receive: bytes copied to the caller's buffer */
     uint32_t complete;  /* lu62_receive: 1 if the last byte copied ends a logical record, else 0 */
+    uint32_t more;      /* lu62_receive: 1 if that record is a part that another part follows, else 0; 0 unless complete */
     uint32_t mark;      /* lu62_receive: the mark answered, LU62_MARK_NONE for none */
 };
 
@@ -144,15 +149,14 @@ uint32_t lu62_allocate(uint8_t *image, size_t image_length, uint8_t *unit, size_
 
 /* Gives 1 to M bytes of logical records to be sent. They need not begin or end where a record does. They are kept in `send` until
  * it is over-full; then one unit of M bytes is made.
- * A record's length is asked when its second byte is given. So a first LL byte of 80 to FF, given as the last byte of a call, is
- * accepted, though no second byte can follow it: from then on send data is refused with BAD_LL whatever is given, and confirm,
- * prepare_to_receive and deallocate with UNFINISHED_RECORD. A host that cuts records anywhere must see to it that LL is in range.
+ * A record's length is asked when its second byte is given. A first LL byte alone is accepted, whatever it is, and some second byte
+ * can follow it: the record under way can always be completed.
  * Lent: the bytes (only read), send, unit. Refusals: BAD_BUFFER, BAD_RECORD, BAD_LENGTH, WRONG_STATE, BAD_LL, NO_CREDIT (only
  * where a unit must go; give the same bytes again when a pacing response has been taken). */
 uint32_t lu62_send_data(uint8_t *image, size_t image_length, const uint8_t *bytes, size_t bytes_length,
                         uint8_t *send, size_t send_length, uint8_t *unit, size_t unit_length, struct lu62_answer *answer);
 
-/* Sends the bytes kept in `send`, if any, without waiting for more. The record need not be whole.
+/* Sends the bytes kept in `send`, if any, without waiting for more. The record need not be whole, and another part may follow it.
  * Lent: send (only read), unit. Refusals: BAD_BUFFER, BAD_RECORD, WRONG_STATE, NO_CREDIT (only if bytes are kept). */
 uint32_t lu62_flush(uint8_t *image, size_t image_length, const uint8_t *send, size_t send_length,
                     uint8_t *unit, size_t unit_length, struct lu62_answer *answer);
@@ -192,7 +196,8 @@ uint32_t lu62_receive_unit(uint8_t *image, size_t image_length, const uint8_t *t
                            uint8_t *inbox, size_t inbox_length, uint8_t *unit, size_t unit_length, struct lu62_answer *answer);
 
 /* Reads bytes of the current logical record, its LL included, never past its end, as many as are held and fit `buffer`; or, with
- * all bytes read, the mark. It makes no unit.
+ * all bytes read, the mark. It makes no unit. With `complete` a record, or a part of a table, has been read to its end; `more` says
+ * then whether another part follows. A table is whole with the part that is complete and has no `more`; no mark comes before.
  * Lent: inbox, buffer (1 byte or more). Refusals: BAD_BUFFER, BAD_RECORD, BAD_LENGTH, BAD_LL (only if somebody has written to the
  * inbox), NOTHING_TO_READ. */
 uint32_t lu62_receive(uint8_t *image, size_t image_length, uint8_t *inbox, size_t inbox_length,
@@ -237,8 +242,8 @@ static inline const char *lu62_refusal_text(uint32_t refusal)
     case LU62_BAD_RECORD: return "the end's record is not one that calls can leave";
     case LU62_BAD_LENGTH: return "no bytes, or too many";
     case LU62_WRONG_STATE: return "the state does not allow the call";
-    case LU62_BAD_LL: return "a logical record's length is out of range";
-    case LU62_UNFINISHED_RECORD: return "the last record given is not whole";
+    case LU62_BAD_LL: return "a logical record's length is under 2";
+    case LU62_UNFINISHED_RECORD: return "the last record given is not whole, or says that another part follows";
     case LU62_NO_CREDIT: return "no credit for a request";
     case LU62_NOTHING_TO_PACE: return "no pacing response is due";
     case LU62_NOTHING_TO_READ: return "nothing to read";
@@ -252,7 +257,7 @@ static inline const char *lu62_refusal_text(uint32_t refusal)
     case LU62_BAD_STATE: return "data came where this end does not receive";
     case LU62_BAD_PACING: return "the unit does not fit the pacing window";
     case LU62_BAD_RESPONSE: return "a response to nothing asked";
-    case LU62_BAD_RECORDS: return "a bad record length, or a record not whole at its end";
+    case LU62_BAD_RECORDS: return "a bad record length, or a mark behind a record not whole or with another part to follow";
     default: return "no refusal has this number";
     }
 }

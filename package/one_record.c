@@ -33,7 +33,7 @@ static void open_host(struct host *host, uint8_t role)
 
 int main(void)
 {
-    /* Two bytes for the record's length, themselves counted, and five of data. */
+    /* Two bytes for the record's length, themselves counted, and five of data. Their top bit is off: no other part follows. */
     static const uint8_t record[] = {0x00, 0x07, 'V', '4', '6', '.', '1'};
     struct host laboratory, blender;
     uint8_t buffer[100];

@@ -22,7 +22,8 @@
 //! let (far_send, mut far_unit, mut far_inbox) = ([0; M], [0; unit_length(M)], [0; inbox_length(W as usize, M)]);
 //! let mut blender = End::open(terms(Role::Bidder), &far_send, &far_unit, &far_inbox)?;
 //!
-//! // The laboratory gives a record, its length in front, and ends the conversation: the record goes out as one unit.
+//! // The laboratory gives a record, its length in front, and ends the conversation: the record goes out as one unit. The top bit of
+//! // the length is off, so no other part follows.
 //! let record = b"\x00\x07V46.1";
 //! assert_eq!(laboratory.allocate(&mut unit)?.unit, 0);
 //! assert_eq!(laboratory.send_data(record, &mut send, &mut unit)?.unit, 0);
@@ -32,7 +33,7 @@
 //! assert_eq!(blender.receive_unit(&unit[..made], &mut far_inbox, &mut far_unit)?.unit, 0);
 //! let mut buffer = [0; 100];
 //! let read = blender.receive(&mut far_inbox, &mut buffer)?;
-//! assert_eq!((&buffer[..read.copied], read.complete), (&record[..], true));
+//! assert_eq!((&buffer[..read.copied], read.complete, read.more), (&record[..], true, false));
 //! assert_eq!(blender.receive(&mut far_inbox, &mut buffer)?.mark, Some(Mark::End));
 //! # Ok(())
 //! # }
@@ -49,7 +50,11 @@ pub use refusal::{Reason, Refusal};
 pub const IMAGE: usize = 42;
 
 /// The first of those bytes, raised with each change of what they hold.
-pub const FORMAT: u8 = 2;
+pub const FORMAT: u8 = 3;
+
+/// The top bit of LL, a logical record's first two bytes: another part follows. The other 15 bits are the record's length, LL counted,
+/// 2 to 32,767.
+pub const MORE_FOLLOWS: u16 = 0x8000;
 
 /// The largest inbox.
 pub const INBOX_MOST: usize = 65_535;
@@ -162,6 +167,9 @@ pub struct ReadAnswer {
     pub copied: usize,
     /// Whether the last of them ends a logical record.
     pub complete: bool,
+    /// Whether the record that ends with them is a part that another part follows; `false` unless `complete`. A table sent as several
+    /// parts is whole with the part that is complete and that none follows.
+    pub more: bool,
     /// The mark answered, if any. Then no byte was copied.
     pub mark: Option<Mark>,
 }
@@ -242,8 +250,8 @@ impl End {
 
     /// Gives bytes of logical records, cut anywhere, to be sent.
     ///
-    /// A record's length is asked when its second byte is given. So a first LL byte of 80 to FF, given as the last byte of a call, is
-    /// accepted, though no second byte can follow it: from then on send data is refused with [`Reason::BadLl`].
+    /// A table may be given as several records, its parts, each but the last with [`MORE_FOLLOWS`] in its LL. After such a part confirm,
+    /// turn and end are refused with [`Reason::UnfinishedRecord`]. A record's length is asked when its second byte is given.
     pub fn send_data(&mut self, bytes: &[u8], send: &mut [u8], unit: &mut [u8]) -> Result<Answer, Refusal> {
         outcome(raw::send_data(&mut self.image, bytes, send, unit))
     }
@@ -287,6 +295,7 @@ impl End {
     pub fn receive(&mut self, inbox: &mut [u8], buffer: &mut [u8]) -> Result<ReadAnswer, Refusal> {
         let raw = raw::receive(&mut self.image, inbox, buffer);
         let mark = Mark::from_number(raw.mark);
-        outcome(raw).map(|_| ReadAnswer { copied: raw.copied as usize, complete: raw.complete != 0, mark })
+        let (complete, more) = (raw.complete != 0, raw.more != 0);
+        outcome(raw).map(|_| ReadAnswer { copied: raw.copied as usize, complete, more, mark })
     }
 }

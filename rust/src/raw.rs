@@ -11,6 +11,7 @@ pub struct Answer {
     pub unit: u32,
     pub copied: u32,
     pub complete: u32,
+    pub more: u32,
     pub mark: u32,
 }
 

@@ -48,10 +48,10 @@ reasons! {
     BadLength = 6, "no bytes, or too many";
     /// The state, or a bid under way, does not allow the call.
     WrongState = 7, "the state does not allow the call";
-    /// A logical record's length is under 2 or over 32,767.
-    BadLl = 8, "a logical record's length is out of range";
-    /// The last record given is not whole.
-    UnfinishedRecord = 9, "the last record given is not whole";
+    /// A logical record's length, LL without its top bit, is under 2.
+    BadLl = 8, "a logical record's length is under 2";
+    /// The last record given is not whole, or is a part that says another follows.
+    UnfinishedRecord = 9, "the last record given is not whole, or says that another part follows";
     /// A request must go and the partner has not made room for it.
     NoCredit = 10, "no credit for a request";
     /// No pacing response is owed, or the inbox has no room for a window yet.
@@ -78,8 +78,8 @@ reasons! {
     BadPacing = 27, "the unit does not fit the pacing window";
     /// A response to nothing that this end has asked.
     BadResponse = 28, "a response to nothing asked";
-    /// A bad LL, or a record not whole where data says that it ends.
-    BadRecords = 29, "a bad record length, or a record not whole at its end";
+    /// A bad LL; or, at a mark, a record that is not whole or is a part that says another follows.
+    BadRecords = 29, "a bad record length, or a mark behind a record not whole or with another part to follow";
 }
 
 impl Reason {

@@ -1,5 +1,6 @@
-//! The safe calls as a program uses them: one record from one end to the other, a turn, a confirmation and the end.
-use lu62::{inbox_length, unit_length, End, Mark, Reason, Role, Session, State, FORMAT};
+//! The safe calls as a program uses them: one record from one end to the other, a turn, a confirmation and the end; a table in several
+//! parts.
+use lu62::{inbox_length, unit_length, End, Mark, Reason, Role, Session, State, FORMAT, MORE_FOLLOWS};
 
 const WINDOW: u8 = 3;
 const MAX: usize = 8;
@@ -42,8 +43,8 @@ fn a_conversation() {
     // Ten bytes need two units of at most eight.
     let record = [0x00, 0x0A, 1, 2, 3, 4, 5, 6, 7, 8];
     let mut units = Vec::new();
-    for part in record.chunks(4) {
-        let made = laboratory.end.send_data(part, &mut laboratory.send, &mut laboratory.unit).expect("credit is there");
+    for piece in record.chunks(4) {
+        let made = laboratory.end.send_data(piece, &mut laboratory.send, &mut laboratory.unit).expect("credit is there");
         units.push(laboratory.unit[..made.unit].to_vec());
     }
     let made = laboratory.end.prepare_to_receive(true, &laboratory.send, &mut laboratory.unit).expect("a whole record");
@@ -66,6 +67,56 @@ fn a_conversation() {
     let taken = laboratory.end.receive_unit(&confirmation, &mut laboratory.inbox, &mut laboratory.unit);
     assert!(taken.is_ok());
     assert_eq!(laboratory.end.state(), Some(State::Receive));
+}
+
+// Reads parts until one that no other follows, each without its LL.
+fn read_table(host: &mut Host) -> Vec<Vec<u8>> {
+    let mut parts = Vec::new();
+    let mut part = Vec::new();
+    loop {
+        let mut buffer = [0; 3];
+        let answer = host.end.receive(&mut host.inbox, &mut buffer).expect("there is something to read");
+        part.extend(&buffer[..answer.copied]);
+        assert!(answer.complete || !answer.more, "more parts are told of only with the end of one");
+        if answer.complete {
+            parts.push(part.split_off(2));
+            part.clear();
+            if !answer.more {
+                return parts;
+            }
+        }
+    }
+}
+
+#[test]
+fn a_table_in_three_parts() {
+    let mut laboratory = host(Role::FirstSpeaker);
+    let mut blender = host(Role::Bidder);
+    assert_eq!(laboratory.end.allocate(&mut laboratory.unit).expect("Reset").unit, 0);
+
+    // Fourteen bytes in two units of at most eight; the second part has no byte but its LL.
+    let table = [&b"V46.1"[..], b"", b"S91"];
+    let mut units = Vec::new();
+    for (i, text) in table.iter().enumerate() {
+        let follows = if i + 1 < table.len() { MORE_FOLLOWS } else { 0 };
+        let ll = (text.len() as u16 + 2) | follows;
+        let part = [&ll.to_be_bytes()[..], text].concat();
+        let made = laboratory.end.send_data(&part, &mut laboratory.send, &mut laboratory.unit).expect("credit is there");
+        units.push(laboratory.unit[..made.unit].to_vec());
+        // A table may end only with its last part.
+        if follows != 0 {
+            let refusal = laboratory.end.deallocate(false, &laboratory.send, &mut laboratory.unit).unwrap_err();
+            assert_eq!(refusal.reason, Reason::UnfinishedRecord);
+        }
+    }
+    let made = laboratory.end.deallocate(false, &laboratory.send, &mut laboratory.unit).expect("the table is whole");
+    units.push(laboratory.unit[..made.unit].to_vec());
+    for unit in units.iter().filter(|unit| !unit.is_empty()) {
+        let answer = blender.end.receive_unit(unit, &mut blender.inbox, &mut blender.unit).expect("units in order");
+        assert_eq!(answer.unit, 0);
+    }
+    assert_eq!(read_table(&mut blender), table);
+    assert_eq!(read(&mut blender), (Vec::new(), Some(Mark::End)));
 }
 
 #[test]

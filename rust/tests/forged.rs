@@ -10,7 +10,7 @@ use common::pages::Area;
 use common::{at, put_word, word, Random};
 use lu62::raw;
 use lu62::{FORMAT, IMAGE};
-use plain::{Follow, Mark, Place, State, Window};
+use plain::{Follow, Mark, Place, State, Window, WHOLE};
 use std::ops::Range;
 
 const SEED: u64 = 0x6C75_3632_0002;
@@ -260,9 +260,11 @@ fn window(image: &[u8], at: usize) -> Option<Window> {
 fn place(image: &[u8], at: usize) -> Option<Place> {
     let value = word(image, at + 1) as u16;
     match (image[at], value) {
-        (0, 0) => Some(Place::Between),
-        (1, 0..=255) => Some(Place::AfterFirst(value as u8)),
-        (2, _) => Some(Place::Left(value)),
+        (0, 0) => Some(Place::Between(false)),
+        (1, 0) => Some(Place::Between(true)),
+        (2, _) => Some(Place::Left(value, false)),
+        (3, _) => Some(Place::Left(value, true)),
+        (4, 0..=255) => Some(Place::AfterFirst(value as u8)),
         _ => None,
     }
 }
@@ -311,9 +313,11 @@ fn put_window(image: &mut [u8], at: usize, window: Window) {
 
 fn put_place(image: &mut [u8], at: usize, place: Place) {
     let (kind, value) = match place {
-        Place::Between => (0, 0),
-        Place::AfterFirst(byte) => (1, u16::from(byte)),
-        Place::Left(left) => (2, left),
+        Place::Between(false) => (0, 0),
+        Place::Between(true) => (1, 0),
+        Place::Left(left, false) => (2, left),
+        Place::Left(left, true) => (3, left),
+        Place::AfterFirst(byte) => (4, u16::from(byte)),
     };
     image[at] = kind;
     put_word(image, at + 1, usize::from(value));
@@ -411,12 +415,13 @@ fn by_plain(call: Call, block: &mut Block, opening: &Opening, confirm: u8) -> pl
 }
 
 fn random_place(random: &mut Random) -> Place {
+    let more = random.chance(1, 2);
     match random.below(5) {
         0 => Place::AfterFirst(random.byte()),
-        1 => Place::AfterFirst(0),
-        2 => Place::Left(random.range(1, 20) as u16),
-        3 => Place::Left(random.range(1, 32765) as u16),
-        _ => Place::Between,
+        1 => Place::AfterFirst(if more { 0x80 } else { 0 }),
+        2 => Place::Left(random.range(1, 20) as u16, more),
+        3 => Place::Left(random.range(1, 32765) as u16, more),
+        _ => Place::Between(more),
     }
 }
 
@@ -481,7 +486,7 @@ fn random_end(random: &mut Random) -> plain::End {
         out_max: out_max as u16,
         out_held: out_held as u16,
         out_number: if random.chance(1, 8) { 65535 } else { random.next() as u16 },
-        given: if whole { Place::Between } else { random_place(random) },
+        given: if whole { WHOLE } else { random_place(random) },
         into,
         in_max: in_max as u16,
         inbox: inbox as u16,
@@ -494,25 +499,32 @@ fn random_end(random: &mut Random) -> plain::End {
     }
 }
 
-// Writes record lengths into bytes so that records go on from `from`. With `end_whole` the last record ends with the bytes.
-fn put_records(random: &mut Random, bytes: &mut [u8], from: Place, end_whole: bool) {
-    let mut i = match from {
-        Place::Between => 0,
-        Place::AfterFirst(high) => match bytes.len() {
-            0 => 0,
-            n => {
-                let ll = if end_whole { n + 1 } else { random.range(2, 255) };
-                if high == 0 && ll <= 255 {
-                    bytes[0] = ll as u8;
-                }
-                usize::from(u16::from_be_bytes([high, bytes[0]])).saturating_sub(1)
+// The first and last good lengths and the bad ones, without and with the top bit.
+const EDGES: [u16; 8] = [0x0000, 0x0001, 0x0002, 0x7FFF, 0x8000, 0x8001, 0x8002, 0xFFFF];
+
+// Where in the bytes the record ends that is under way at `from`. The second byte of its LL is written if it is to come.
+fn put_rest(random: &mut Random, bytes: &mut [u8], from: Place, end_whole: bool) -> usize {
+    match from {
+        Place::Between(_) => 0,
+        Place::Left(left, _) => usize::from(left),
+        Place::AfterFirst(_) if bytes.is_empty() => 0,
+        Place::AfterFirst(high) => {
+            let length = if end_whole { bytes.len() + 1 } else { random.range(2, 255) };
+            if high & 0x7F == 0 && length <= 255 {
+                bytes[0] = length as u8;
             }
-        },
-        Place::Left(left) => usize::from(left),
-    };
+            usize::from(u16::from_be_bytes([high & 0x7F, bytes[0]])).saturating_sub(1)
+        }
+    }
+}
+
+// Writes record lengths into bytes so that records go on from `from`, some as parts that another follows. With `end_whole` the last
+// record ends with the bytes, and mostly no other part follows it.
+fn put_records(random: &mut Random, bytes: &mut [u8], from: Place, end_whole: bool) {
+    let mut i = put_rest(random, bytes, from, end_whole);
     while i < bytes.len() {
         let rest = bytes.len() - i;
-        let ll = if rest == 1 {
+        let length = if rest == 1 {
             0
         } else if end_whole && (rest < 4 || random.chance(1, 2)) {
             rest
@@ -521,12 +533,17 @@ fn put_records(random: &mut Random, bytes: &mut [u8], from: Place, end_whole: bo
         } else {
             random.range(2, 40)
         };
-        let [high, low] = (ll as u16).to_be_bytes();
+        let more = random.chance(1, if end_whole && length == rest { 8 } else { 3 });
+        let mut ll = length as u16 + if more { 0x8000 } else { 0 };
+        if random.chance(1, 16) {
+            ll = random.pick(&EDGES);
+        }
+        let [high, low] = ll.to_be_bytes();
         bytes[i] = high;
         if rest > 1 {
             bytes[i + 1] = low;
         }
-        i += ll.max(1);
+        i += length.max(1);
     }
 }
 
@@ -562,7 +579,7 @@ fn data_ru(random: &mut Random, end: &plain::End, marks: bool) -> Vec<u8> {
     if marks && random.chance(3, 4) {
         // Long enough for the record under way to end in it, if it can.
         length = match end.taken {
-            Place::Left(left) if usize::from(left) <= max => usize::from(left),
+            Place::Left(left, _) if usize::from(left) <= max => usize::from(left),
             Place::AfterFirst(_) => length.max(1),
             _ => length,
         };
@@ -680,7 +697,7 @@ fn random_opening(random: &mut Random) -> Opening {
 fn put_image(random: &mut Random, mut end: plain::End, image: &mut [u8]) {
     if random.chance(1, 16) {
         // With no byte left, or with more than the longest record leaves.
-        let forged = Place::Left(random.pick(&[0, 32766, 32767, 32768, 65535]));
+        let forged = Place::Left(random.pick(&[0, 32766, 32767, 32768, 65535]), random.chance(1, 2));
         match random.below(3) {
             0 => end.given = forged,
             1 => end.taken = forged,
@@ -688,6 +705,12 @@ fn put_image(random: &mut Random, mut end: plain::End, image: &mut [u8]) {
         }
     }
     encode(&end, image);
+    if random.chance(1, 16) {
+        // Any kind of place from the first to one past the last, with any number.
+        let place = random.pick(&[at::GIVEN, at::TAKEN, at::READ]);
+        image[place] = random.below(6) as u8;
+        put_word(image, place + 1, random.pick(&[0, 0, 1, 2, 255, 256, 32765, 32766, 65535]));
+    }
     if random.chance(1, 4) {
         for _ in 0..random.range(1, 2) {
             let cell = &mut image[random.below(IMAGE)];
@@ -778,7 +801,7 @@ fn check_refused(call: Call, before: &Block, after: &Block, answer: &raw::Answer
     } else {
         assert_eq!(answer.rule, 0, "a rule named with {}", answer.refusal);
     }
-    assert_eq!([answer.unit, answer.copied, answer.complete, answer.mark], [0; 4], "a refusal has zeros");
+    assert_eq!([answer.unit, answer.copied, answer.complete, answer.more, answer.mark], [0; 5], "a refusal has zeros");
     if call == Call::Open && before.image.len() == IMAGE {
         let (format, zeros) = after.cells[after.image.clone()].split_at(1);
         assert!(format == [FORMAT] && zeros.iter().all(|&cell| cell == 0), "a refused opening leaves the format and zeros");
@@ -809,6 +832,7 @@ fn kept_cells(call: Call, before: &Block, after: &Block, answer: &raw::Answer) -
             assert!(copied <= before.buffer.len() && copied <= held);
             assert_eq!(copied == 0, answer.mark != 0, "a read gives bytes or a mark");
             assert!(answer.complete <= 1 && (copied > 0 || answer.complete == 0) && answer.mark <= 5);
+            assert!(answer.more <= answer.complete, "more parts are told of only with the end of one");
             let left = before.inbox.start..before.inbox.start + held - copied;
             vec![left, before.buffer.start..before.buffer.start + copied]
         }
@@ -824,7 +848,8 @@ fn check(call: Call, before: &Block, after: &Block, answer: &raw::Answer, openin
     }
     assert_eq!((answer.sense, answer.rule), (0, 0), "an accepted call has no sense and no rule");
     if call != Call::Read {
-        assert_eq!([answer.copied, answer.complete, answer.mark], [0; 3], "only a read copies bytes or answers a mark");
+        let told = [answer.copied, answer.complete, answer.more, answer.mark];
+        assert_eq!(told, [0; 4], "only a read copies bytes, tells of records or answers a mark");
     }
     let mut may = vec![before.image.clone()];
     if call == Call::Open {
@@ -865,6 +890,7 @@ impl Bench {
             unit: ANSWER_GUARD,
             copied: ANSWER_GUARD,
             complete: ANSWER_GUARD,
+            more: ANSWER_GUARD,
             mark: ANSWER_GUARD,
         };
         let mut guarded = [guard; 3];
@@ -889,6 +915,7 @@ impl Bench {
             unit: answer.unit,
             copied: answer.copied,
             complete: answer.complete != 0,
+            more: answer.more != 0,
             mark: answer.mark,
         };
         assert_eq!(told, other, "call {i}, {call:?}: the plain end answers otherwise");
@@ -902,6 +929,8 @@ fn forged_calls() {
     let mut block = Block::new();
     let mut bench = Bench::new();
     let mut seen = [[0usize; 30]; 11];
+    // Reads inside a record, at its end, and at the end of a part that another follows.
+    let mut reads = [0usize; 3];
     for i in 0..CALLS {
         // Takes have the most questions.
         let which = if random.chance(1, 4) { 9 } else { random.below(ALL.len()) };
@@ -911,8 +940,11 @@ fn forged_calls() {
         let confirm = random.pick(&[0, 0, 1, 1, 2, 255]);
         let answer = bench.tried(i, call, &mut block, &opening, confirm);
         seen[which][answer.refusal as usize] += 1;
+        reads[(answer.complete + answer.more) as usize] += usize::from(answer.copied > 0);
     }
     println!("forged: seed {SEED:#x}, {CALLS} calls, each against pages that cannot be touched too");
+    println!("forged: reads inside a record, at its end, and at the end of a part that another follows: {reads:?}");
+    assert!(reads.iter().all(|&n| n >= 1000), "hardly any read of one kind");
     for (call, counts) in ALL.iter().zip(&seen) {
         let told: Vec<String> = (0..30).filter(|&n| counts[n] > 0).map(|n| format!("{n}: {}", counts[n])).collect();
         println!("forged: {call:?}: {}", told.join(", "));
@@ -950,15 +982,15 @@ fn accepting(call: Call) -> (plain::End, Vec<u8>) {
         out_max: MAX,
         out_held: 0,
         out_number: 1,
-        given: Place::Between,
+        given: WHOLE,
         // For a pacing response a whole window has been taken; for a read its first unit, whose bytes are in the inbox.
         into: Window { place: u8::from(call == Call::Read), pending: matches!(call, Call::Pace | Call::Read), ..window },
         in_max: MAX,
         inbox: INBOX,
         in_held: if call == Call::Read { 4 } else { 0 },
         in_number: 1,
-        taken: Place::Between,
-        read: Place::Between,
+        taken: WHOLE,
+        read: WHOLE,
         bid_number: 0,
         owed_number: 1,
     };
@@ -1004,19 +1036,28 @@ fn later_calls() -> impl Iterator<Item = Call> {
 fn record_places_at_their_bounds() {
     let mut bench = Bench::new();
     for call in later_calls() {
-        for which in 0..3 {
-            for left in [0, 1, 2, 32764, 32765, 32766, 32767, 32768, 65535] {
-                let (mut end, gift) = accepting(call);
-                let place = Place::Left(left);
-                match which {
-                    0 => end.given = place,
-                    1 => end.taken = place,
-                    _ => end.read = place,
+        for place in [at::GIVEN, at::TAKEN, at::READ] {
+            for kind in 0..=6 {
+                for number in [0, 1, 2, 255, 256, 32764, 32765, 32766, 32767, 32768, 65535] {
+                    let (end, gift) = accepting(call);
+                    let mut block = laid(&end, &gift, &GOOD_INBOX, [0; 4]);
+                    let start = block.image.start + place;
+                    block.cells[start] = kind;
+                    put_word(&mut block.cells, start + 1, number);
+                    let answer = bench.tried(0, call, &mut block, &AN_OPENING, 0);
+                    let good = match kind {
+                        0 | 1 => number == 0,
+                        2 | 3 => (1..=32765).contains(&number),
+                        4 => number <= 255,
+                        _ => false,
+                    };
+                    assert_eq!(
+                        answer.refusal != 5,
+                        good,
+                        "{call:?}, place {place} of kind {kind} and {number}: {}",
+                        answer.refusal
+                    );
                 }
-                let mut block = laid(&end, &gift, &GOOD_INBOX, [0; 4]);
-                let answer = bench.tried(0, call, &mut block, &AN_OPENING, 0);
-                let outside = !(1..=32765).contains(&left);
-                assert_eq!(answer.refusal == 5, outside, "{call:?} with {left} bytes left at place {which}: {}", answer.refusal);
             }
         }
     }
@@ -1025,11 +1066,13 @@ fn record_places_at_their_bounds() {
 #[test]
 fn record_lengths_at_their_bounds() {
     let mut bench = Bench::new();
-    for ll in [0u16, 1, 2, 3, 255, 256, 32766, 32767, 32768, 32769, 65534, 65535] {
-        let good = (2..=32767).contains(&ll);
+    let others = [0x0003, 0x00FF, 0x0100, 0x7FFE, 0x8003, 0x80FF, 0x8100, 0xFFFE];
+    for ll in EDGES.into_iter().chain(others) {
+        let good = ll & 0x7FFF >= 2;
         let [high, low] = ll.to_be_bytes();
-        // Both bytes at once, or the second alone after a first that was accepted before.
-        for (place, bytes) in [(Place::Between, vec![high, low]), (Place::AfterFirst(high), vec![low])] {
+        // Both bytes at once, after a part of either kind, or the second alone after a first that was accepted before.
+        let befores = [Place::Between(false), Place::Between(true), Place::AfterFirst(high)];
+        for (place, bytes) in befores.into_iter().zip([vec![high, low], vec![high, low], vec![low]]) {
             for call in [Call::SendData, Call::Take, Call::Read] {
                 let (mut end, _) = accepting(call);
                 let mut gift = bytes.clone();
@@ -1047,7 +1090,56 @@ fn record_lengths_at_their_bounds() {
                 let mut block = laid(&end, &gift, &bytes, [0; 4]);
                 let answer = bench.tried(1, call, &mut block, &AN_OPENING, 0);
                 let bad = if call == Call::Take { 29 } else { 8 };
-                assert_eq!(answer.refusal, if good { 0 } else { bad }, "{call:?} of LL {ll}, {} bytes of it", bytes.len());
+                assert_eq!(answer.refusal, if good { 0 } else { bad }, "{call:?} of LL {ll:04X}, {} bytes of it", bytes.len());
+                // A read of LL alone ends the record only where there is nothing else in it.
+                let ends = call == Call::Read && ll & 0x7FFF == 2;
+                assert_eq!(
+                    (answer.complete, answer.more),
+                    (u32::from(ends), u32::from(ends && ll > 0x7FFF)),
+                    "read of LL {ll:04X}"
+                );
+            }
+        }
+    }
+}
+
+// A mark behind a part that another follows, however the part ends, and the calls that would make one.
+#[test]
+fn parts_at_a_mark() {
+    let mut bench = Bench::new();
+    for more in [false, true] {
+        let top = if more { 0x80 } else { 0x00 };
+        let ways = [
+            (Place::Between(more), vec![]),
+            (Place::Left(1, more), vec![0x41]),
+            (WHOLE, vec![top, 0x02]),
+            (Place::Between(true), vec![top, 0x03, 0x41]),
+            (Place::AfterFirst(top), vec![0x03, 0x41]),
+        ];
+        for (place, bytes) in ways {
+            // Turn, end and confirmation are refused where another part is to follow; a unit with no mark is not.
+            for (byte1, byte2) in [(0x91, 0x00), (0x91, 0x20), (0x91, 0x01), (0x21, 0x00), (0x21, 0x20), (0x21, 0x01)] {
+                let marks = byte1 & 0x20 != 0 || byte2 != 0;
+                let (mut end, _) = accepting(Call::Take);
+                end.taken = place;
+                let gift = [&[0x00, 0x02, 0x03, byte1, byte2], &bytes[..]].concat();
+                let mut block = laid(&end, &gift, &[], [0; 4]);
+                let answer = bench.tried(3, Call::Take, &mut block, &AN_OPENING, 0);
+                let expected = match (marks, more, bytes.is_empty()) {
+                    (true, true, _) => 29,
+                    (false, _, true) => 22,
+                    _ => 0,
+                };
+                assert_eq!(answer.refusal, expected, "header 03 {byte1:02X} {byte2:02X}, {place:?}, {bytes:02X?}");
+            }
+        }
+        for call in [Call::Confirm, Call::Turn, Call::Deallocate] {
+            for confirm in 0..2 {
+                let (mut end, gift) = accepting(call);
+                end.given = Place::Between(more);
+                let mut block = laid(&end, &gift, &[], [0; 4]);
+                let answer = bench.tried(4, call, &mut block, &AN_OPENING, confirm);
+                assert_eq!(answer.refusal, if more { 9 } else { 0 }, "{call:?} with another part to follow: {more}");
             }
         }
     }

@@ -1,6 +1,6 @@
 //! The crate and include/lu62.h say the same: refusals by number and in words, states, marks and roles by number, sizes, format and
 //! version.
-use lu62::{inbox_length, unit_length, End, Mark, Reason, Role, Session, State, FORMAT, IMAGE, INBOX_MOST};
+use lu62::{inbox_length, unit_length, End, Mark, Reason, Role, Session, State, FORMAT, IMAGE, INBOX_MOST, MORE_FOLLOWS};
 use std::collections::BTreeMap;
 
 const HEADER: &str = include_str!("../../include/lu62.h");
@@ -45,6 +45,8 @@ fn sizes_format_and_version_are_the_same() {
     assert_eq!(number("LU62_IMAGE"), IMAGE);
     assert_eq!(number("LU62_FORMAT"), usize::from(FORMAT));
     assert_eq!(number("LU62_INBOX_MOST"), INBOX_MOST);
+    assert_eq!(definitions["LU62_MORE_FOLLOWS"], format!("{MORE_FOLLOWS:#X}"));
+    assert_eq!(number("LU62_RECORD_MOST"), usize::from(!MORE_FOLLOWS));
     assert!(HEADER.contains("#define LU62_UNIT(m) ((m) + 5)\n") && unit_length(8) == 8 + 5);
     assert!(HEADER.contains("#define LU62_INBOX(w, m) ((w) * (m))\n") && inbox_length(3, 8) == 3 * 8);
     assert_eq!(definitions["LU62_VERSION"], format!("\"{}\"", env!("CARGO_PKG_VERSION")));

@@ -2,8 +2,11 @@
 //!
 //! After every call: the ends are not both in Send; a take was not refused as a breach; the number of bytes accepted and not yet read
 //! is that of the bytes in the inbox, on the line and in the send buffer; requests made and credit left are the windows allowed.
-//! At every read: each byte is the next of those accepted at the other end, none past the end of a record, and what is complete and
-//! which cells change is right. At every send data: 8 is answered for a bad LL and for nothing else.
+//! At every read: each byte is the next of those accepted at the other end, none past the end of a record, and what is complete,
+//! whether more parts follow and which cells change is right. At every send data: 8 is answered for a bad LL and for nothing else. At
+//! every confirm, turn and end: 9 is answered in Send for a record that is not whole or that another part follows, and for nothing
+//! else. At every read that completes a table (parts joined by what the reads say, until one that no other follows): it is the first
+//! table given that has not been read.
 //!
 //! At times: the bytes in the inbox, on the line and in the send buffer are compared with those accepted, one by one. That is after
 //! every call while fewer than 256 bytes are under way; with more, once in as many calls as there are 256s of them; and at the end
@@ -15,7 +18,7 @@ mod common;
 
 use common::{at, credit, word, Random};
 use lu62::{Answer, End, ReadAnswer, Reason, Refusal, Role, Session};
-use plain::{walk, Place};
+use plain::{walk, Place, WHOLE};
 use std::collections::VecDeque;
 
 const SEED: u64 = 0x6C75_3632_0001;
@@ -66,9 +69,56 @@ struct Side {
     on_line: usize,
     given: Place,
     read: Place,
+    tables: Tables,
     requests: usize,
     pacing_taken: usize,
     records_read: usize,
+}
+
+// A table: the bytes of its parts, LL included.
+type Table = Vec<Vec<u8>>;
+
+// The tables that one side gives, told from the bytes alone, and the one that it reads, told from what its reads say.
+#[derive(Default)]
+struct Tables {
+    // Whole tables accepted here and not yet read at the partner, oldest first.
+    given: VecDeque<Table>,
+    // The parts accepted of the next table, and what has been accepted of its next part.
+    giving: Table,
+    part_given: Vec<u8>,
+    // The same of what has been read here.
+    reading: Table,
+    part_read: Vec<u8>,
+}
+
+impl Tables {
+    fn give(&mut self, bytes: &[u8]) {
+        for &byte in bytes {
+            self.part_given.push(byte);
+            if ended(&self.part_given) {
+                let part = std::mem::take(&mut self.part_given);
+                let last = part[0] < 0x80;
+                self.giving.push(part);
+                if last {
+                    self.given.push_back(std::mem::take(&mut self.giving));
+                }
+            }
+        }
+    }
+
+    // Bytes read. Gives the table that is whole with them, if one is.
+    fn read(&mut self, bytes: &[u8], complete: bool, more: bool) -> Option<Table> {
+        self.part_read.extend(bytes);
+        if complete {
+            self.reading.push(std::mem::take(&mut self.part_read));
+        }
+        (complete && !more).then(|| std::mem::take(&mut self.reading))
+    }
+}
+
+// Whether a part has as many bytes as its LL says.
+fn ended(part: &[u8]) -> bool {
+    part.len() >= 2 && part.len() == (usize::from(part[0]) * 256 + usize::from(part[1])) % 0x8000
 }
 
 #[derive(Default)]
@@ -80,6 +130,14 @@ struct Seen {
     bid_refusals: usize,
     marks: [usize; 6],
     records: usize,
+    parts: usize,
+    tables: usize,
+    tables_of_parts: usize,
+    most_parts: usize,
+    // 9 because a record is not whole, and because another part is to follow.
+    unfinished: [usize; 2],
+    // LLs given, by the edge values below.
+    edges: [usize; EDGES.len()],
     units_a_record: usize,
     whole_checks: usize,
     compared: usize,
@@ -87,7 +145,33 @@ struct Seen {
     wrapped: usize,
 }
 
+// The first and last good LLs and the bad ones, without and with the top bit.
+const EDGES: [u16; 8] = [0x0000, 0x0001, 0x0002, 0x7FFF, 0x8000, 0x8001, 0x8002, 0xFFFF];
+
 impl Seen {
+    // The LLs that begin in these bytes, up to the first bad one, if they are among the edge values.
+    fn count_edges(&mut self, mut place: Place, bytes: &[u8]) {
+        let mut rest = bytes;
+        while let [first, second, ..] = rest {
+            let ll = u16::from_be_bytes([*first, *second]);
+            let skipped = match place {
+                Place::Between(_) => {
+                    if let Some(edge) = EDGES.iter().position(|&edge| edge == ll) {
+                        self.edges[edge] += 1;
+                    }
+                    2
+                }
+                Place::AfterFirst(_) => 1,
+                Place::Left(left, _) => rest.len().min(usize::from(left)),
+            };
+            let Some(after) = walk(place, &rest[..skipped]) else {
+                return;
+            };
+            place = after;
+            rest = &rest[skipped..];
+        }
+    }
+
     fn count(&mut self, call: &Call, outcome: &Outcome) {
         self.calls += 1;
         let place = match call {
@@ -112,16 +196,52 @@ impl Seen {
             _ => self.accepted[place] += 1,
         }
     }
+
+    fn print(&self, runs: usize) {
+        println!(
+            "joined: seed {SEED:#x}, {} calls in {runs} runs, {} records read, {} of them with another part to follow, \
+             {} tables read, {} of several parts, {} other orders compared ({} more were the first again), {} comparisons of all bytes",
+            self.calls,
+            self.records,
+            self.parts,
+            self.tables,
+            self.tables_of_parts,
+            self.compared,
+            self.alike,
+            self.whole_checks
+        );
+        println!("joined: accepted by call {:?}", self.accepted);
+        println!("joined: refused by number {:?}", self.refused);
+        println!("joined: 9 for a record not whole, and for a part that another follows {:?}", self.unfinished);
+        println!("joined: LLs given {EDGES:04X?}: {:?}", self.edges);
+        println!("joined: at most {} parts in a table", self.most_parts);
+        println!("joined: bids granted {}, refused {}; marks read {:?}", self.grants, self.bid_refusals, self.marks);
+    }
+
+    // Runs that never reach a rule would show nothing about it.
+    fn assert_reached(&self) {
+        assert!(self.calls >= 1_000_000 && self.compared >= 100);
+        assert!(self.accepted.iter().all(|&n| n >= 1000));
+        assert!([6, 7, 8, 9, 10, 11, 12, 13].iter().all(|&n: &usize| self.refused[n] >= 1000));
+        assert!(self.grants >= 1000 && self.bid_refusals >= 1000);
+        assert!(self.marks[1..].iter().all(|&n| n >= 1000));
+        assert!(self.records >= 10_000 && self.units_a_record >= 20);
+        assert!(self.parts >= 10_000 && self.tables_of_parts >= 10_000 && self.most_parts >= 10);
+        assert!(self.unfinished.iter().all(|&n| n >= 1000));
+        assert!(self.edges.iter().all(|&n| n >= 20));
+    }
 }
 
 impl Side {
     // Bytes given here: 8 is answered for a bad LL and for nothing else.
-    fn note_given(&mut self, bytes: &[u8], result: &Result<Answer, Refusal>) {
+    fn note_given(&mut self, bytes: &[u8], result: &Result<Answer, Refusal>, seen: &mut Seen) {
         let after = walk(self.given, bytes);
         match result {
             Ok(_) => {
+                seen.count_edges(self.given, bytes);
                 self.given = after.expect("an accepted LL is in range");
                 self.unread.extend(bytes);
+                self.tables.give(bytes);
             }
             Err(refusal) => {
                 let image = self.end.image();
@@ -131,7 +251,19 @@ impl Side {
                     fits && image[at::STATE] == 1 && after.is_none(),
                     "8 is for a bad LL given in Send: {refusal}"
                 );
+                if refusal.reason == Reason::BadLl {
+                    seen.count_edges(self.given, bytes);
+                }
             }
+        }
+    }
+
+    // A confirm, turn or end made here in this state: 9 is answered where the last record is not whole or another part is to follow it.
+    fn note_closed(&self, state: u8, result: &Result<Answer, Refusal>, seen: &mut Seen) {
+        let refused = result.is_err_and(|refusal| refusal.reason == Reason::UnfinishedRecord);
+        assert_eq!(refused, state == 1 && self.given != WHOLE, "9 at record place {:?}", self.given);
+        if refused {
+            seen.unfinished[usize::from(self.given == Place::Between(true))] += 1;
         }
     }
 }
@@ -178,8 +310,9 @@ impl Pair {
                 line: VecDeque::new(),
                 unread: VecDeque::new(),
                 on_line: 0,
-                given: Place::Between,
-                read: Place::Between,
+                given: WHOLE,
+                read: WHOLE,
+                tables: Tables::default(),
                 requests: 0,
                 pacing_taken: 0,
                 records_read: 0,
@@ -231,11 +364,14 @@ impl Pair {
         Outcome::Called(result)
     }
 
-    // What the outcome adds to the histories, with the checks that belong to this one call.
-    fn note(&mut self, who: usize, call: &Call, outcome: &Outcome, seen: &mut Seen) {
+    // What the outcome adds to the histories, with the checks that belong to this one call. `state` is that before the call.
+    fn note(&mut self, who: usize, call: &Call, state: u8, outcome: &Outcome, seen: &mut Seen) {
         seen.count(call, outcome);
         match (call, outcome) {
-            (Call::SendData(bytes), Outcome::Called(result)) => self.sides[who].note_given(bytes, result),
+            (Call::SendData(bytes), Outcome::Called(result)) => self.sides[who].note_given(bytes, result, seen),
+            (Call::Confirm | Call::Turn(_) | Call::Deallocate(_), Outcome::Called(result)) => {
+                self.sides[who].note_closed(state, result, seen);
+            }
             (Call::Read(cells), Outcome::Read(result, buffer)) => {
                 let copied = result.map_or(0, |answer| answer.copied);
                 assert_eq!(buffer[copied..], cells[copied..], "cells past the bytes copied keep what they had");
@@ -261,13 +397,22 @@ impl Pair {
             assert_eq!(Some(*byte), giver.unread.pop_front(), "byte {i} read is not the next byte accepted");
             reader.read = walk(reader.read, &[*byte]).expect("an LL read is in range");
             let last = i + 1 == bytes.len();
-            assert!(last || reader.read != Place::Between, "a read went past the end of a record");
+            assert!(last || !matches!(reader.read, Place::Between(_)), "a read went past the end of a record");
         }
-        assert_eq!(answer.complete, !bytes.is_empty() && reader.read == Place::Between);
+        assert_eq!(answer.complete, !bytes.is_empty() && matches!(reader.read, Place::Between(_)));
+        assert_eq!(answer.more, answer.complete && reader.read == Place::Between(true));
         assert_eq!(answer.mark.is_some(), bytes.is_empty());
+        assert!(answer.mark.is_none() || reader.read == WHOLE, "a mark was read inside a table");
         if answer.complete {
             reader.records_read += 1;
             seen.records += 1;
+            seen.parts += usize::from(answer.more);
+        }
+        if let Some(table) = reader.tables.read(bytes, answer.complete, answer.more) {
+            seen.tables += 1;
+            seen.tables_of_parts += usize::from(table.len() > 1);
+            seen.most_parts = seen.most_parts.max(table.len());
+            assert_eq!(Some(table), giver.tables.given.pop_front(), "a table read is not the next table given");
         }
         seen.marks[answer.mark.map_or(0, |mark| mark as usize + 1)] += 1;
     }
@@ -309,6 +454,8 @@ struct Habits {
     read: usize,
     // How often, of 16, an end in Send with a whole record closes in one of the ways.
     close: usize,
+    // How often, of 16, a record is a part that another follows.
+    parts: usize,
     longest_record: usize,
     longest_read: usize,
     largest_gift: usize,
@@ -328,56 +475,54 @@ fn habits(random: &mut Random, sizes: &Sizes) -> Habits {
         take: random.range(2, 14),
         read: random.range(2, 14),
         close: random.range(1, 12),
+        parts: random.pick(&[0, 0, 2, 5, 12]),
         longest_record,
         longest_read: if random.chance(1, 2) { random.range(1, 20) } else { random.range(1, 3000) },
         largest_gift: if random.chance(1, 3) { 9 } else { 1024 },
     }
 }
 
-// Bytes of records that go on from `place`. With `bad`, an LL among them is out of range.
-fn gift(random: &mut Random, mut place: Place, length: usize, longest: usize, bad: bool) -> Vec<u8> {
+// An LL: with `bad` one that is refused, else one of a record of at most `longest` bytes, with the top bit on in `parts` of 16.
+fn ll(random: &mut Random, longest: usize, parts: usize, bad: bool) -> u16 {
+    if bad {
+        return random.pick(&[0x0000, 0x0001, 0x8000, 0x8001]);
+    }
+    let length = match random.below(16) {
+        0..=3 => 2,
+        4..=7 => random.range(2, longest.min(9)),
+        8..=10 => longest,
+        _ => random.range(2, longest),
+    };
+    length as u16 + if random.chance(parts, 16) { 0x8000 } else { 0 }
+}
+
+// Bytes of records that go on from `place`. With `bad`, an LL among them is refused.
+fn gift(random: &mut Random, mut place: Place, length: usize, longest: usize, parts: usize, bad: bool) -> Vec<u8> {
     let mut bytes = vec![0; length];
     random.fill(&mut bytes);
     let mut i = 0;
     while i < length {
+        let from = i;
         match place {
-            Place::Between => {
-                let ll = match random.below(4) {
-                    0 => 2,
-                    1 => random.range(2, longest.min(9)),
-                    _ => random.range(2, longest),
-                };
-                let ll = if bad { random.pick(&[0, 1, 0x8000, 0xFFFF]) } else { ll };
-                let [high, low] = (ll as u16).to_be_bytes();
-                bytes[i] = high;
-                i += 1;
-                place = Place::AfterFirst(high);
-                if i < length {
-                    bytes[i] = low;
-                    i += 1;
-                    place = match ll {
-                        0..=2 => Place::Between,
-                        _ => Place::Left((ll as u16 - 2).min(32765)),
-                    };
-                }
+            Place::Between(_) => {
+                let ll = ll(random, longest, parts, bad).to_be_bytes();
+                i = length.min(i + 2);
+                bytes[from..i].copy_from_slice(&ll[..i - from]);
             }
             Place::AfterFirst(high) => {
-                // LL 00 00 and 00 01 are bad; with any other first byte up to 7F every second byte is good.
-                let low = match (high, bad) {
+                // LL 00 00, 00 01, 80 00 and 80 01 are bad; with any other first byte every second byte is good.
+                bytes[i] = match (high & 0x7F, bad) {
                     (0, true) => random.below(2) as u8,
                     (0, false) => random.range(2, 255) as u8,
                     _ => random.byte(),
                 };
-                bytes[i] = low;
                 i += 1;
-                let ll = u16::from_be_bytes([high, low]);
-                place = if ll <= 2 { Place::Between } else { Place::Left(ll - 2) };
             }
-            Place::Left(left) => {
-                let skipped = (length - i).min(usize::from(left));
-                i += skipped;
-                place = if skipped == usize::from(left) { Place::Between } else { Place::Left(left - skipped as u16) };
-            }
+            Place::Left(left, _) => i = length.min(i + usize::from(left)),
+        }
+        match walk(place, &bytes[from..i]) {
+            Some(after) => place = after,
+            None => return bytes,
         }
     }
     bytes
@@ -387,15 +532,10 @@ fn send_data(random: &mut Random, side: &Side, max: usize, habits: &Habits) -> C
     let length = match (side.given, random.below(8)) {
         (_, 0) => max,
         // Often exactly to the end of the record, so that it can be closed.
-        (Place::Left(left), 1..=3) if usize::from(left) <= max => usize::from(left),
+        (Place::Left(left, _), 1..=3) if usize::from(left) <= max => usize::from(left),
         _ => random.range(1, max.min(habits.largest_gift)),
     };
-    let bytes = gift(random, side.given, length, habits.longest_record, false);
-    // An end whose last byte given is a first LL byte of 80 or more could never send again.
-    match walk(side.given, &bytes) {
-        Some(Place::AfterFirst(0x80..)) | None => Call::Flush,
-        Some(_) => Call::SendData(bytes),
-    }
+    Call::SendData(gift(random, side.given, length, habits.longest_record, habits.parts, false))
 }
 
 fn read(random: &mut Random, habits: &Habits) -> Call {
@@ -418,7 +558,7 @@ fn odd_call(random: &mut Random, side: &Side, max: usize, habits: &Habits) -> Ca
         8 => Call::Read(Vec::new()),
         9 => Call::SendData(vec![0; if random.chance(1, 2) { 0 } else { max + 1 }]),
         10 => {
-            let bytes = gift(random, side.given, max.min(64), habits.longest_record.min(40), true);
+            let bytes = gift(random, side.given, max.min(64), habits.longest_record.min(40), habits.parts, true);
             if walk(side.given, &bytes).is_none() {
                 Call::SendData(bytes)
             } else {
@@ -427,6 +567,14 @@ fn odd_call(random: &mut Random, side: &Side, max: usize, habits: &Habits) -> Ca
         }
         11 => send_data(random, side, max, habits),
         _ => read(random, habits),
+    }
+}
+
+fn closes(given: Place, random: &mut Random, habits: &Habits) -> bool {
+    match given {
+        WHOLE => random.chance(habits.close, 16),
+        Place::Between(true) => random.chance(1, 16),
+        _ => false,
     }
 }
 
@@ -447,7 +595,8 @@ fn choose(random: &mut Random, side: &Side, max: usize, habits: &Habits) -> Call
     }
     match image[at::STATE] {
         0 => Call::Allocate,
-        1 if side.given == Place::Between && random.chance(habits.close, 16) => match random.below(4) {
+        // After a part that another follows, confirm, turn and end are tried too, but not often: they are refused.
+        1 if closes(side.given, random, habits) => match random.below(4) {
             0 => Call::Confirm,
             1 => Call::Deallocate(random.chance(1, 2)),
             2 => Call::Flush,
@@ -583,8 +732,9 @@ fn run(random: &mut Random, sizes: &Sizes, habits: &Habits, calls: usize, compar
         if call == Call::Take && made.pair.sides[who].line.is_empty() {
             continue;
         }
+        let state = made.pair.sides[who].end.image()[at::STATE];
         let outcome = made.pair.call(who, &call);
-        made.pair.note(who, &call, &outcome, seen);
+        made.pair.note(who, &call, state, &outcome, seen);
         check_after(&made.pair, sizes, &mut until_whole, seen);
         if compare {
             lists[who].push(call);
@@ -607,8 +757,17 @@ fn joined_ends() {
     for window in [7, 63] {
         let least = usize::from(window) * 8;
         let little = Sizes { window: [window, window], max: [8, 8], send: [8, 8], unit: [13, 13], inbox: [2 * least, 2 * least] };
-        let eager =
-            Habits { odd: 1, stay: 8, take: 10, read: 9, close: 3, longest_record: 40, longest_read: 64, largest_gift: 1024 };
+        let eager = Habits {
+            odd: 1,
+            stay: 8,
+            take: 10,
+            read: 9,
+            close: 3,
+            parts: 4,
+            longest_record: 40,
+            longest_read: 64,
+            largest_gift: 1024,
+        };
         run(&mut random, &little, &eager, 1_000_000, false, &mut seen);
     }
     assert!(seen.wrapped >= 2, "the sequence numbers did not wrap");
@@ -621,23 +780,6 @@ fn joined_ends() {
         run(&mut random, &sizes, &habits, calls, runs % 4 == 0, &mut seen);
         runs += 1;
     }
-    println!(
-        "joined: seed {SEED:#x}, {} calls in {} runs, {} records read, {} other orders compared ({} more were the first again), {} comparisons of all bytes",
-        seen.calls,
-        runs + 2,
-        seen.records,
-        seen.compared,
-        seen.alike,
-        seen.whole_checks
-    );
-    println!("joined: accepted by call {:?}", seen.accepted);
-    println!("joined: refused by number {:?}", seen.refused);
-    println!("joined: bids granted {}, refused {}; marks read {:?}", seen.grants, seen.bid_refusals, seen.marks);
-    // Runs that never reach a rule would show nothing about it.
-    assert!(seen.calls >= 1_000_000 && seen.compared >= 100);
-    assert!(seen.accepted.iter().all(|&n| n >= 1000));
-    assert!([6, 7, 8, 9, 10, 11, 12, 13].iter().all(|&n: &usize| seen.refused[n] >= 1000));
-    assert!(seen.grants >= 1000 && seen.bid_refusals >= 1000);
-    assert!(seen.marks[1..].iter().all(|&n| n >= 1000));
-    assert!(seen.records >= 10_000 && seen.units_a_record >= 20);
+    seen.print(runs + 2);
+    seen.assert_reached();
 }

@@ -2,7 +2,8 @@
  * a unit is dropped, doubled, cut, exchanged with the next or held back. The blender must print a correct front part of its table
  * and stop with a message, or print the whole table; never a wrong figure, and never later than its time limit allows: MOST_MS has
  * room for a unit held back, for both programs' limits one after the other, and for a machine that does other work. (Units carry no
- * checksum; that a changed byte of data is found too, the ninth kind of fault, is the records' own.)
+ * checksum; that a changed byte of data is found too, the ninth kind of fault, is the records' own. So it is with the tenth, the top
+ * bit of an LL turned over, by which a table would end early or go on.)
  *
  *   fuzz EXPECTED SEED RUNS     EXPECTED is the file with the whole table; RUNS for each kind of fault
  *
@@ -11,6 +12,7 @@
 
 #include "../../hosts/clock.h"
 #include "../../hosts/line.h"
+#include "lu62.h"
 
 #include <inttypes.h>
 #include <poll.h>
@@ -32,12 +34,25 @@ enum {
     RU_AT = 5
 };
 
-enum kind { NUMBER_BYTE, HEADER_BYTE, LENGTH_BYTE, DROPPED, DOUBLED, CUT, EXCHANGED, HELD_BACK, DATA_BYTE, KINDS, NO_FAULT = KINDS };
+enum kind {
+    NUMBER_BYTE,
+    HEADER_BYTE,
+    LENGTH_BYTE,
+    DROPPED,
+    DOUBLED,
+    CUT,
+    EXCHANGED,
+    HELD_BACK,
+    DATA_BYTE,
+    TOP_BIT,
+    KINDS,
+    NO_FAULT = KINDS
+};
 
 static const char *const kind_names[] = {"a number byte changed", "a header byte changed", "a length byte changed",
                                          "a unit dropped",        "a unit doubled",        "a unit cut",
                                          "two units exchanged",   "a unit held back",      "a data byte changed",
-                                         "no fault"};
+                                         "a top bit turned over", "no fault"};
 
 struct line_fault {
     enum kind kind;
@@ -54,6 +69,11 @@ struct way {
     uint8_t kept[LINE_IN];
     size_t kept_length; /* a unit that lets the next pass; 0 for none */
     bool shut;
+    /* Where the records passed on have come to: bytes left of the last, and its first LL byte if the second is to come. */
+    size_t left;
+    bool after_first;
+    uint8_t first;
+    bool turned; /* a top bit has been turned over */
 };
 
 /* The generator SplitMix64. */
@@ -80,8 +100,37 @@ static void change(uint8_t *byte, uint64_t choice)
     *byte ^= choice % 4 != 0 ? (uint8_t)(1u << (choice >> 8) % 8) : by != 0 ? by : 1;
 }
 
-/* Passes a unit on with the fault. */
-static void pass_faulty(struct way *way, const struct line_fault *fault, const uint8_t *unit, size_t length)
+/* Goes over the records in a unit. Gives where in the unit the first record begins that does, else the unit's length. */
+static size_t first_record(struct way *way, const uint8_t *unit, size_t length)
+{
+    size_t begins = length;
+    bool data = length > RU_AT && unit[HEADER_AT] <= 3;
+    for (size_t i = RU_AT; data && i < length; i++) {
+        if (way->left > 0) {
+            way->left--;
+        } else if (way->after_first) {
+            way->left = (way->first * 256u + unit[i]) % LU62_MORE_FOLLOWS - LU62_RECORD_LEAST;
+            way->after_first = false;
+        } else {
+            way->first = unit[i];
+            way->after_first = true;
+            if (begins == length)
+                begins = i;
+        }
+    }
+    return begins;
+}
+
+/* Whether the fault is shown at this unit: at the one chosen, or, for a top bit, at the first from there on in which a record begins. */
+static bool shown_here(const struct way *way, const struct line_fault *fault, size_t direction, bool record_begins)
+{
+    if (fault->direction != direction)
+        return false;
+    return fault->kind == TOP_BIT ? !way->turned && record_begins && way->units >= fault->unit : way->units == fault->unit;
+}
+
+/* Passes a unit on with the fault. `record` is where the first record begins in it. */
+static void pass_faulty(struct way *way, const struct line_fault *fault, const uint8_t *unit, size_t length, size_t record)
 {
     uint8_t copy[LINE_IN];
     size_t frame = way->to->out_held;
@@ -90,6 +139,10 @@ static void pass_faulty(struct way *way, const struct line_fault *fault, const u
     case NUMBER_BYTE: change(&copy[fault->choice >> 32 & 1], fault->choice); break;
     case HEADER_BYTE: change(&copy[HEADER_AT + (fault->choice >> 32) % 3], fault->choice); break;
     case DATA_BYTE: change(&copy[length > RU_AT ? RU_AT + (fault->choice >> 32) % (length - RU_AT) : HEADER_AT], fault->choice); break;
+    case TOP_BIT:
+        copy[record] ^= 0x80;
+        way->turned = true;
+        break;
     case DROPPED: return;
     case DOUBLED: put(way, copy, length); break;
     case CUT: length = length > RU_AT && fault->choice % 4 != 0 ? RU_AT + (fault->choice >> 8) % (length - RU_AT)
@@ -111,13 +164,14 @@ static void pass(struct way *way, const struct line_fault *fault, size_t directi
     size_t length;
     const uint8_t *unit;
     while (clock_ms() >= way->held_until && (unit = line_front(way->from, &length)) != NULL) {
-        bool here = fault->direction == direction && fault->unit == way->units;
+        size_t record = fault->kind == TOP_BIT ? first_record(way, unit, length) : length;
+        bool here = shown_here(way, fault, direction, record < length);
         if (here && fault->kind == HELD_BACK && way->held_until == 0) {
             way->held_until = clock_ms() + (fault->choice % 2 == 0 ? SHORT_HOLD_MS : LONG_HOLD_MS);
             break;
         }
         if (here)
-            pass_faulty(way, fault, unit, length);
+            pass_faulty(way, fault, unit, length, record);
         else
             put(way, unit, length);
         if (!here && way->kept_length > 0) {
@@ -150,8 +204,13 @@ static void relay(struct way *ways, const struct line_fault *fault)
     }
 }
 
-/* One run. Gives how many units went each way. */
-static void run(const struct line_fault *fault, struct child *lab, struct child *blend, size_t units[2])
+/* What went over the line in one run: how many units each way, and whether a top bit was turned over. */
+struct passage {
+    size_t units[2];
+    bool turned;
+};
+
+static void run(const struct line_fault *fault, struct child *lab, struct child *blend, struct passage *passage)
 {
     static struct line lines[2];
     static struct way ways[2];
@@ -172,7 +231,8 @@ static void run(const struct line_fault *fault, struct child *lab, struct child 
     }
     relay(ways, fault);
     for (size_t i = 0; i < 2; i++)
-        units[i] = ways[i].units;
+        passage->units[i] = ways[i].units;
+    passage->turned = ways[0].turned || ways[1].turned;
     (void)close(one[1]);
     (void)close(two[1]);
     child_wait(blend, MOST_MS);
@@ -220,17 +280,20 @@ static void count_run(struct tally *tally, const struct child *blend)
 }
 
 /* Runs once and exits if something is wrong with it. */
-static void try_fault(const struct line_fault *fault, const char *expected, struct tally *tally, size_t units[2])
+static void try_fault(const struct line_fault *fault, const char *expected, struct tally *tally, struct passage *passage)
 {
     static struct child lab, blend;
     int64_t start = clock_ms();
-    run(fault, &lab, &blend, units);
+    run(fault, &lab, &blend, passage);
     int64_t took = clock_ms() - start;
     const char *what = wrong(&lab, &blend, expected);
     if (what == NULL && took >= MOST_MS)
         what = "it took too long";
     if (what == NULL && fault->kind == NO_FAULT && blend.status != EXIT_SUCCESS)
         what = "it stopped though there was no fault";
+    /* Of every record it is known what its top bit must be. */
+    if (what == NULL && passage->turned && blend.status == EXIT_SUCCESS)
+        what = "a top bit turned over was not noticed";
     count_run(tally, &blend);
     if (what == NULL)
         return;
@@ -243,7 +306,7 @@ int main(int count, char **arguments)
 {
     char expected[CHILD_TEXT];
     struct tally tallies[KINDS + 1] = {{0, 0, 0, 0}};
-    size_t units[2], passed[2];
+    struct passage whole, passage;
     if (count != 4) {
         fprintf(stderr, "usage: fuzz EXPECTED SEED RUNS\n");
         return 2;
@@ -251,12 +314,12 @@ int main(int count, char **arguments)
     read_file(arguments[1], expected, sizeof expected);
     uint64_t random = strtoull(arguments[2], NULL, 10);
     unsigned long runs = strtoul(arguments[3], NULL, 10);
-    try_fault(&(struct line_fault){.kind = NO_FAULT}, expected, &tallies[NO_FAULT], units);
+    try_fault(&(struct line_fault){.kind = NO_FAULT}, expected, &tallies[NO_FAULT], &whole);
     for (unsigned long i = 0; i < runs; i++)
         for (enum kind kind = 0; kind < KINDS; kind++) {
             struct line_fault fault = {kind, next_random(&random) % 3 == 0, 0, next_random(&random)};
-            fault.unit = next_random(&random) % units[fault.direction];
-            try_fault(&fault, expected, &tallies[kind], passed);
+            fault.unit = next_random(&random) % whole.units[fault.direction];
+            try_fault(&fault, expected, &tallies[kind], &passage);
         }
     for (enum kind kind = 0; kind < KINDS; kind++)
         printf("fuzz: %s: %lu runs printed the whole table, %lu stopped at a refusal, %lu at the time limit, %lu otherwise\n",

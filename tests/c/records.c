@@ -12,25 +12,41 @@
 #include <unistd.h>
 
 /* The time limit where it is to be reached, and where it is not, on a machine that does other work too. */
-enum { LIMIT_MS = 400, LONG_LIMIT_MS = 5000, PATIENCE_MS = 10000, MOST_RECORDS = 4, LONG = 600 };
+enum { LIMIT_MS = 400, LONG_LIMIT_MS = 5000, PATIENCE_MS = 10000, MOST_RECORDS = 6, LONG = 600 };
 
 #define HEADINGS "campaign MARINE-05\nbatch       viscosity    sulphur\n"
-#define GOOD_COLUMNS "1 batch 0 8 viscosity 8 8 sulphur 16 8"
-#define GOOD_ROW "MA-0501 179.2   0.093   "
+#define GOOD_COLUMNS "1 batch 1 8 8 viscosity 1 16 8 sulphur 1 24 8"
+#define GOOD_ROW "   1  1 MA-0501 179.2   0.093   "
 #define GOOD_LINE "MA-0501         179.2      0.093\n"
 
-/* A record to be sent: its kind and text, with the text's length where it has a zero byte in it. A kind of WRONG_CHECK is sent as
- * a row whose check does not fit. */
+/* A record to be sent: its kind and text, whether it says that another part follows, and the text's length where it has a zero byte in
+ * it. A kind of WRONG_CHECK is sent as a row whose check does not fit. */
 enum { WRONG_CHECK = 1 };
 
 struct odd {
     char kind;
     const char *text;
+    bool more;
     size_t length;
 };
 
-/* How the test's laboratory stops. */
-enum stop { STOP_END, STOP_CLOSE, STOP_SILENT, STOP_HALF_LENGTH, STOP_HALF_UNIT };
+/* A record that stands alone or ends its table, and a part that another follows. */
+#define LAST(kind, text) {kind, text, false, 0}
+#define PART(kind, text) {kind, text, true, 0}
+
+/* A table of one row, and one of two rows of three parts. */
+#define ONE_ROW LAST('A', "MARINE-05 1")
+#define COLUMNS PART('H', GOOD_COLUMNS)
+#define ROW LAST('R', GOOD_ROW)
+#define TWO_ROWS LAST('A', "MARINE-05 2")
+#define WIDE_COLUMNS PART('H', "3 viscosity 3 8 8 batch 1 8 8 sulphur 2 9 8")
+#define FIRST_PART PART('R', "   1  1 MA-0501 ")
+#define SECOND_PART PART('R', "   1  2 -0.093   ")
+#define THIRD_PART PART('R', "   1  3 179.2   ")
+
+/* How the test's laboratory stops: by the end of the conversation, by closing the line, or with the line left open; or by the mark of
+ * the end in a unit whose last part says that another follows, which no call would make. */
+enum stop { STOP_END, STOP_CLOSE, STOP_SILENT, STOP_HALF_LENGTH, STOP_HALF_UNIT, STOP_FORGED_END };
 
 struct record_case {
     const char *name;
@@ -44,71 +60,132 @@ struct record_case {
 static char long_columns[LONG + 64];
 static char long_revised[66];
 
-#define PART "only part of a unit has come, and nothing got on for 400 ms"
-#define LABORATORY_SAYS(what) "laboratory: conversation with the blender ended: time limit: " what "\n"
+#define HALF "only part of a unit has come, and nothing got on for 400 ms"
+#define LABORATORY_SAYS(what) "laboratory: conversation with the blender ended: " what "\n"
 #define SAYS(what) "blender: conversation with the laboratory ended: " what "\n"
+#define ALL_CAME SAYS("it has gone before everything was answered")
+#define CANNOT_PRINT SAYS("it sends a record with a byte that cannot be printed")
+#define ALONE SAYS("a record that stands alone says that another part follows")
 
+/* A blender that finds nothing wrong says only that the laboratory has gone before everything was answered. */
 static const struct record_case cases[] = {
-    {"a good table", false, {{'H', GOOD_COLUMNS, 0}, {'R', GOOD_ROW, 0}}, STOP_END, HEADINGS GOOD_LINE,
-     SAYS("it has gone before everything was answered")},
-    {"a column record of over 600 characters", false, {{'H', long_columns, 0}, {'R', GOOD_ROW, 0}}, STOP_END, HEADINGS GOOD_LINE,
-     SAYS("it has gone before everything was answered")},
-    {"an offset 000016", false, {{'H', "1 batch 0 8 viscosity 8 8 sulphur 000016 8", 0}, {'R', GOOD_ROW, 0}}, STOP_END,
-     HEADINGS GOOD_LINE, SAYS("it has gone before everything was answered")},
-    {"an offset 16x", false, {{'H', "1 batch 0 8 viscosity 8 8 sulphur 16x 8", 0}}, STOP_END, "",
-     SAYS("its table has a column without offset and width")},
-    {"an offset past any record", false, {{'H', "1 batch 0 8 viscosity 8 8 sulphur 4294967312 8", 0}}, STOP_END, "",
-     SAYS("its table has a column without offset and width")},
-    {"a column without width", false, {{'H', "1 batch 0 8 viscosity 8 8 sulphur 16", 0}}, STOP_END, "",
-     SAYS("its table has a column without offset and width")},
-    {"a column named twice", false, {{'H', GOOD_COLUMNS " batch 16 8", 0}}, STOP_END, "",
+    {"a good table", false, {ONE_ROW, COLUMNS, ROW}, STOP_END, HEADINGS GOOD_LINE, ALL_CAME},
+    {"a table without rows", false, {LAST('A', "MARINE-05 0"), LAST('H', GOOD_COLUMNS)}, STOP_END, HEADINGS, ALL_CAME},
+    {"a column record of over 600 characters", false, {ONE_ROW, PART('H', long_columns), ROW}, STOP_END, HEADINGS GOOD_LINE,
+     ALL_CAME},
+    {"an offset 000024", false, {ONE_ROW, PART('H', "1 batch 1 8 8 viscosity 1 16 8 sulphur 1 000024 8"), ROW}, STOP_END,
+     HEADINGS GOOD_LINE, ALL_CAME},
+
+    {"the table of another campaign", false, {LAST('A', "FUEL-380 1")}, STOP_END, "",
+     SAYS("it announces another table than that of campaign MARINE-05")},
+    {"no number of rows", false, {LAST('A', "MARINE-05")}, STOP_END, "",
+     SAYS("it announces a table and does not say how many rows it has, at most 9999")},
+    {"a word behind the number of rows", false, {LAST('A', "MARINE-05 1 2")}, STOP_END, "",
+     SAYS("it announces a table and does not say how many rows it has, at most 9999")},
+    {"an announcement with another part to follow", false, {PART('A', "MARINE-05 1")}, STOP_CLOSE, "", ALONE},
+    {"a table announced twice", false, {ONE_ROW, ONE_ROW}, STOP_END, "", SAYS("it announces one table twice")},
+    {"no table behind the announcement", false, {ONE_ROW}, STOP_END, "",
+     SAYS("it ends the conversation before its table is whole, after 0 rows of 1")},
+    {"a conversation ended without an answer", false, {{0, NULL, false, 0}}, STOP_END, "",
+     SAYS("it ends the conversation before its table is whole, after 0 rows of 0")},
+
+    {"columns without an announcement", false, {COLUMNS}, STOP_CLOSE, "",
+     SAYS("it names the columns of a table that it has not announced")},
+    {"no number of parts", false, {ONE_ROW, PART('H', "batch 1 8 8 viscosity 1 16 8 sulphur 1 24 8")}, STOP_CLOSE, "",
+     SAYS("its table does not say how many parts a row has, 1 to 99")},
+    {"rows of no part", false, {ONE_ROW, PART('H', "0 batch 1 8 8 viscosity 1 16 8 sulphur 1 24 8")}, STOP_CLOSE, "",
+     SAYS("its table does not say how many parts a row has, 1 to 99")},
+    {"a column in part 0", false, {ONE_ROW, PART('H', "1 batch 0 8 8 viscosity 1 16 8 sulphur 1 24 8")}, STOP_CLOSE, "",
+     SAYS("its table has a column without part, offset and width")},
+    {"a column in a part that rows have not", false, {ONE_ROW, PART('H', "1 batch 2 8 8 viscosity 1 16 8 sulphur 1 24 8")},
+     STOP_CLOSE, "", SAYS("its table has a column without part, offset and width")},
+    {"an offset 24x", false, {ONE_ROW, PART('H', "1 batch 1 8 8 viscosity 1 16 8 sulphur 1 24x 8")}, STOP_CLOSE, "",
+     SAYS("its table has a column without part, offset and width")},
+    {"an offset past any record", false, {ONE_ROW, PART('H', "1 batch 1 8 8 viscosity 1 16 8 sulphur 1 4294967320 8")}, STOP_CLOSE,
+     "", SAYS("its table has a column without part, offset and width")},
+    {"a column without width", false, {ONE_ROW, PART('H', "1 batch 1 8 8 viscosity 1 16 8 sulphur 1 24")}, STOP_CLOSE, "",
+     SAYS("its table has a column without part, offset and width")},
+    {"a column named twice", false, {ONE_ROW, PART('H', GOOD_COLUMNS " batch 1 16 8")}, STOP_CLOSE, "",
      SAYS("its table names the column batch twice")},
-    {"no column for sulphur", false, {{'H', "1 batch 0 8 viscosity 8 8", 0}}, STOP_END, "", SAYS("its table has no column sulphur")},
-    {"columns named twice", false, {{'H', GOOD_COLUMNS, 0}, {'R', GOOD_ROW, 0}, {'H', GOOD_COLUMNS, 0}}, STOP_END,
-     HEADINGS GOOD_LINE, SAYS("it names the columns of one table twice")},
-    {"no number of rows", false, {{'H', "batch 0 8 viscosity 8 8 sulphur 16 8", 0}}, STOP_END, "",
-     SAYS("its table does not say how many rows it has, at most 9999")},
-    {"a row before its columns", false, {{'R', GOOD_ROW, 0}}, STOP_END, "", SAYS("it sends a row before it has named the columns")},
-    {"a row too many", false, {{'H', GOOD_COLUMNS, 0}, {'R', GOOD_ROW, 0}, {'R', GOOD_ROW, 0}}, STOP_END, HEADINGS GOOD_LINE,
-     SAYS("it sends more than the 1 rows that it announced")},
-    {"a row too few", false, {{'H', GOOD_COLUMNS, 0}}, STOP_END, HEADINGS, SAYS("it ends a table after 0 rows of 1")},
-    {"a row that is too short", false, {{'H', GOOD_COLUMNS, 0}, {'R', "MA-0501 179.2   0.093", 0}}, STOP_END, HEADINGS,
+    {"no column for sulphur", false, {ONE_ROW, PART('H', "1 batch 1 8 8 viscosity 1 16 8")}, STOP_CLOSE, "",
+     SAYS("its table has no column sulphur")},
+    {"columns named twice", false, {ONE_ROW, COLUMNS, COLUMNS}, STOP_CLOSE, HEADINGS,
+     SAYS("it names the columns of one table twice")},
+
+    {"a row before its columns", false, {ONE_ROW, ROW}, STOP_END, "", SAYS("it sends a row before it has named the columns")},
+    {"a row without its number", false, {ONE_ROW, COLUMNS, LAST('R', "MA-0501 179.2   0.093   ")}, STOP_END, HEADINGS,
+     SAYS("it sends a part of a row without the numbers of row and part")},
+    {"a row that is too short", false, {ONE_ROW, COLUMNS, LAST('R', "   1  1 MA-0501 179.2   0.093")}, STOP_END, HEADINGS,
      SAYS("a row of its table ends before the column sulphur")},
     {"a value of 11 characters", false,
-     {{'H', "1 batch 0 8 viscosity 8 8 sulphur 16 11", 0}, {'R', "MA-0501 179.2   0.093456789", 0}}, STOP_END, HEADINGS,
-     SAYS("a row of its table has over 10 characters in the column sulphur")},
-    {"two words in a value", false, {{'H', GOOD_COLUMNS, 0}, {'R', "MA-0501 179.2   0.0 93  ", 0}}, STOP_END, HEADINGS,
+     {ONE_ROW, PART('H', "1 batch 1 8 8 viscosity 1 16 8 sulphur 1 24 11"), LAST('R', "   1  1 MA-0501 179.2   0.093456789")},
+     STOP_END, HEADINGS, SAYS("a row of its table has over 10 characters in the column sulphur")},
+    {"two words in a value", false, {ONE_ROW, COLUMNS, LAST('R', "   1  1 MA-0501 179.2   0.0 93  ")}, STOP_END, HEADINGS,
      SAYS("a row of its table has not one word in the column sulphur")},
-    {"no word in a value", false, {{'H', GOOD_COLUMNS, 0}, {'R', "MA-0501 179.2           ", 0}}, STOP_END, HEADINGS,
+    {"no word in a value", false, {ONE_ROW, COLUMNS, LAST('R', "   1  1 MA-0501 179.2           ")}, STOP_END, HEADINGS,
      SAYS("a row of its table has not one word in the column sulphur")},
-    {"a zero byte in a value", false, {{'H', GOOD_COLUMNS, 0}, {'R', "MA-0501 179\0002   0.093   ", 24}}, STOP_END, HEADINGS,
-     SAYS("it sends a record with a byte that cannot be printed")},
-    {"a newline in a value", false, {{'H', GOOD_COLUMNS, 0}, {'R', "MA-0501 1\nX 2   0.093   ", 0}}, STOP_END, HEADINGS,
-     SAYS("it sends a record with a byte that cannot be printed")},
-    {"an escape in a value", false, {{'H', GOOD_COLUMNS, 0}, {'R', "MA-0501 \033[2J    0.093   ", 0}}, STOP_END, HEADINGS,
-     SAYS("it sends a record with a byte that cannot be printed")},
-    {"a changed byte in a row", false, {{'H', GOOD_COLUMNS, 0}, {WRONG_CHECK, GOOD_ROW, 0}}, STOP_END, HEADINGS,
+    {"a zero byte in a value", false, {ONE_ROW, COLUMNS, {'R', "   1  1 MA-0501 179\0002   0.093   ", false, 32}}, STOP_END, HEADINGS,
+     CANNOT_PRINT},
+    {"a newline in a value", false, {ONE_ROW, COLUMNS, LAST('R', "   1  1 MA-0501 1\nX 2   0.093   ")}, STOP_END, HEADINGS,
+     CANNOT_PRINT},
+    {"an escape in a value", false, {ONE_ROW, COLUMNS, LAST('R', "   1  1 MA-0501 \033[2J    0.093   ")}, STOP_END, HEADINGS,
+     CANNOT_PRINT},
+    {"a changed byte in a row", false, {ONE_ROW, COLUMNS, LAST(WRONG_CHECK, GOOD_ROW)}, STOP_END, HEADINGS,
      SAYS("it sends a record whose check does not fit it")},
-    {"a newline in a revised figure", true, {{'N', "FU-3803 sulphur\n0.491", 0}}, STOP_END, "",
-     SAYS("it sends a record with a byte that cannot be printed")},
-    {"a revised figure of 65 characters", true, {{'N', long_revised, 0}}, STOP_END, "",
-     SAYS("it sends a revised figure of over 63 characters")},
-    {"two revised figures in one conversation", true, {{'N', "a", 0}, {'N', "b", 0}}, STOP_END, "",
+    {"a record of no kind", false, {ONE_ROW, COLUMNS, LAST('X', "")}, STOP_END, HEADINGS,
      SAYS("it sends a record that is not expected here")},
-    {"a conversation without a record", true, {{0, NULL, 0}}, STOP_END, "",
-     SAYS("it ends a conversation in which it has sent nothing")},
-    {"a wrong number of revised figures", true, {{'Z', "1", 0}}, STOP_END, "",
-     SAYS("its number of revised figures is not the 0 that came")},
-    {"a record of no kind", false, {{'H', GOOD_COLUMNS, 0}, {'X', "", 0}}, STOP_END, HEADINGS,
-     SAYS("it sends a record that is not expected here")},
-    {"gone in the middle of the conversation", false, {{'H', GOOD_COLUMNS, 0}, {'R', GOOD_ROW, 0}}, STOP_CLOSE, HEADINGS GOOD_LINE,
+
+    {"a row in three parts", false, {TWO_ROWS, WIDE_COLUMNS, FIRST_PART, SECOND_PART, THIRD_PART}, STOP_CLOSE, HEADINGS GOOD_LINE,
      SAYS("it has gone in the middle of the conversation")},
-    {"silence", false, {{'H', GOOD_COLUMNS, 0}, {'R', GOOD_ROW, 0}}, STOP_SILENT, HEADINGS GOOD_LINE,
+    {"a row whose last part does not come", false, {TWO_ROWS, WIDE_COLUMNS, FIRST_PART, SECOND_PART}, STOP_CLOSE, HEADINGS,
+     SAYS("it has gone in the middle of the conversation")},
+    {"a part of a row left out", false, {TWO_ROWS, WIDE_COLUMNS, FIRST_PART, THIRD_PART}, STOP_CLOSE, HEADINGS,
+     SAYS("it sends part 3 of row 1 where part 2 of row 1 is due")},
+    {"a part of a row sent twice", false, {TWO_ROWS, WIDE_COLUMNS, FIRST_PART, FIRST_PART}, STOP_CLOSE, HEADINGS,
+     SAYS("it sends part 1 of row 1 where part 2 of row 1 is due")},
+    {"a row left out", false, {TWO_ROWS, WIDE_COLUMNS, PART('R', "   2  1 MA-0502 ")}, STOP_CLOSE, HEADINGS,
+     SAYS("it sends part 1 of row 2 where part 1 of row 1 is due")},
+    {"a row sent twice", false, {TWO_ROWS, COLUMNS, PART('R', GOOD_ROW), PART('R', GOOD_ROW)}, STOP_CLOSE, HEADINGS GOOD_LINE,
+     SAYS("it sends part 1 of row 1 where part 1 of row 2 is due")},
+    {"a column in the part of another", false,
+     {TWO_ROWS, PART('H', "3 viscosity 3 8 8 batch 1 8 8 sulphur 3 9 8"), FIRST_PART, SECOND_PART, THIRD_PART}, STOP_CLOSE, HEADINGS,
+     SAYS("a row of its table ends before the column sulphur")},
+
+    {"a table that ends with its columns", false, {ONE_ROW, LAST('H', GOOD_COLUMNS)}, STOP_END, "",
+     SAYS("its table ends early: part 1 of row 1 has not come, and it announced 1 rows")},
+    {"a table that ends within a row", false, {TWO_ROWS, WIDE_COLUMNS, LAST('R', "   1  1 MA-0501 ")}, STOP_END, HEADINGS,
+     SAYS("its table ends early: part 2 of row 1 has not come, and it announced 2 rows")},
+    {"a table that ends before its last row", false, {TWO_ROWS, COLUMNS, ROW}, STOP_END, HEADINGS,
+     SAYS("its table ends early: part 1 of row 2 has not come, and it announced 2 rows")},
+    {"a table that goes on after its last row", false, {ONE_ROW, COLUMNS, PART('R', GOOD_ROW)}, STOP_CLOSE, HEADINGS,
+     SAYS("its table goes on after the last of the 1 rows that it announced")},
+    {"a table without rows that goes on", false, {LAST('A', "MARINE-05 0"), COLUMNS}, STOP_CLOSE, "",
+     SAYS("its table goes on after the last of the 0 rows that it announced")},
+    {"a row after the table", false, {ONE_ROW, COLUMNS, ROW, LAST('R', "   2  1 MA-0502 181.6   0.088   ")}, STOP_END,
+     HEADINGS GOOD_LINE, SAYS("it sends a record after the last part of its table")},
+    {"the end behind a part that another follows", false, {TWO_ROWS, COLUMNS, PART('R', GOOD_ROW)}, STOP_FORGED_END, HEADINGS,
+     SAYS("a unit from it was refused: refusal 29 (a bad record length, or a mark behind a record not whole or with another part to "
+          "follow), sense 00000000")},
+
+    {"a newline in a revised figure", true, {LAST('N', "FU-3803 sulphur\n0.491")}, STOP_END, "", CANNOT_PRINT},
+    {"a revised figure of 65 characters", true, {LAST('N', long_revised)}, STOP_END, "",
+     SAYS("it sends a revised figure of over 63 characters")},
+    {"a revised figure with another part to follow", true, {PART('N', "FU-3803 sulphur 0.491")}, STOP_CLOSE, "", ALONE},
+    {"two revised figures in one conversation", true, {LAST('N', "a"), LAST('N', "b")}, STOP_END, "",
+     SAYS("it sends a record that is not expected here")},
+    {"a conversation without a record", true, {{0, NULL, false, 0}}, STOP_END, "",
+     SAYS("it ends a conversation in which it has sent nothing")},
+    {"a wrong number of revised figures", true, {LAST('Z', "1")}, STOP_END, "",
+     SAYS("its number of revised figures is not the 0 that came")},
+    {"the last word on revised figures with another part to follow", true, {PART('Z', "0")}, STOP_CLOSE, "", ALONE},
+
+    {"gone in the middle of the conversation", false, {TWO_ROWS, COLUMNS, PART('R', GOOD_ROW)}, STOP_CLOSE, HEADINGS GOOD_LINE,
+     SAYS("it has gone in the middle of the conversation")},
+    {"silence", false, {TWO_ROWS, COLUMNS, PART('R', GOOD_ROW)}, STOP_SILENT, HEADINGS GOOD_LINE,
      SAYS("time limit: nothing got on for 400 ms, in state Receive")},
-    {"half a length", false, {{'H', GOOD_COLUMNS, 0}, {'R', GOOD_ROW, 0}}, STOP_HALF_LENGTH, HEADINGS GOOD_LINE,
-     SAYS("time limit: " PART)},
-    {"half a unit", false, {{'H', GOOD_COLUMNS, 0}, {'R', GOOD_ROW, 0}}, STOP_HALF_UNIT, HEADINGS GOOD_LINE,
-     SAYS("time limit: " PART)},
+    {"half a length", false, {TWO_ROWS, COLUMNS, PART('R', GOOD_ROW)}, STOP_HALF_LENGTH, HEADINGS GOOD_LINE,
+     SAYS("time limit: " HALF)},
+    {"half a unit", false, {TWO_ROWS, COLUMNS, PART('R', GOOD_ROW)}, STOP_HALF_UNIT, HEADINGS GOOD_LINE, SAYS("time limit: " HALF)},
 };
 
 static int failures;
@@ -165,7 +242,7 @@ static bool give(struct session *session, const struct odd *odd)
     struct text text = text_of(odd->text);
     if (odd->length > 0)
         text.length = odd->length;
-    if (!session_set(session, &record, odd->kind == WRONG_CHECK ? RECORD_ROW : odd->kind, text))
+    if (!session_set(session, &record, odd->kind == WRONG_CHECK ? RECORD_ROW : odd->kind, text, odd->more))
         return false;
     if (odd->kind == WRONG_CHECK)
         record.bytes[RECORD_TEXT_AT]++;
@@ -178,10 +255,16 @@ static bool give(struct session *session, const struct odd *odd)
 /* Sends all that has been given, and then as the case says. */
 static void stop_as(struct session *session, enum stop stop)
 {
-    uint32_t refusal;
-    while ((refusal = stop == STOP_END ? session_end(session, false) : session_flush(session)) == LU62_NO_CREDIT)
+    /* The unit that flush makes is the last in its chain; weight 01 of its header's last byte says that the conversation ends. */
+    size_t header_end = LINE_LENGTH_BYTES + LU62_UNIT(0) - 1;
+    size_t frame = session->line.out_held;
+    while ((stop == STOP_END ? session_end(session, false) : session_flush(session)) == LU62_NO_CREDIT) {
         if (!exchange_once(session))
             return;
+        frame = session->line.out_held;
+    }
+    if (stop == STOP_FORGED_END)
+        session->line.out[frame + header_end] |= 0x01;
     line_send(&session->line);
     if (stop == STOP_HALF_LENGTH && send(session->line.socket, "\0", 1, MSG_NOSIGNAL) != 1)
         cannot("send");
@@ -204,7 +287,7 @@ static void run_case(const struct record_case *the)
 {
     static struct session session;
     static struct child child;
-    bool closes = the->stop == STOP_END || the->stop == STOP_CLOSE;
+    bool closes = the->stop == STOP_END || the->stop == STOP_CLOSE || the->stop == STOP_FORGED_END;
     struct options options = {.limit_ms = closes ? LONG_LIMIT_MS : LIMIT_MS, .pause_ms = DEFAULT_PAUSE_MS};
     int sockets[2];
     if (socketpair(AF_UNIX, SOCK_STREAM, 0, sockets) < 0)
@@ -242,20 +325,72 @@ static void laboratory_waits(const char *name, const char *bytes, size_t length,
     expect(strcmp(child.err, says) == 0, name, "another message", &child);
 }
 
+/* What the laboratory says to a query. */
+static const struct query_case {
+    const char *name;
+    struct odd query;
+    const char *says;
+} queries[] = {
+    {"a query with another part to follow", PART('Q', "MARINE-05"),
+     LABORATORY_SAYS("its query says that another part follows, and a query is one record alone")},
+    {"a query for no campaign", LAST('Q', "MARINE"), LABORATORY_SAYS("it asks for a campaign that is not here")},
+    {"a row in place of a query", LAST('R', GOOD_ROW), LABORATORY_SAYS("its record is no query")},
+};
+
+/* Reads the laboratory's first revised figure, confirms it, and bids until the laboratory lets this end send. */
+static bool come_to_ask(struct session *session)
+{
+    while (lu62_end_state(&session->end) != LU62_SEND) {
+        if (lu62_end_state(&session->end) == LU62_RESET && !lu62_end_bid_pending(&session->end))
+            (void)session_allocate(session);
+        if (!exchange_once(session))
+            return false;
+        while (session_read(session) != READ_NOTHING)
+            ;
+        if (lu62_end_state(&session->end) == LU62_CONFIRM_OWED)
+            (void)session_confirmed(session);
+    }
+    return true;
+}
+
+/* The laboratory with a blender that asks so, and sends the query without giving the turn. */
+static void laboratory_answers(const struct query_case *the)
+{
+    static struct session session;
+    static struct child child;
+    struct options options = {.limit_ms = LONG_LIMIT_MS, .pause_ms = DEFAULT_PAUSE_MS};
+    int sockets[2];
+    if (socketpair(AF_UNIX, SOCK_STREAM, 0, sockets) < 0)
+        cannot("socketpair");
+    child_start(&child, laboratory, sockets[0], &sockets[1], 1, &options);
+    (void)close(sockets[0]);
+    if (!session_open_blender(&session, sockets[1], &options))
+        exit(EXIT_FAILURE);
+    if (come_to_ask(&session) && give(&session, &the->query))
+        stop_as(&session, STOP_CLOSE);
+    child_wait(&child, PATIENCE_MS);
+    (void)close(sockets[1]);
+    expect(child.status == EXIT_FAILURE && child.out[0] == '\0', the->name, "the exit status is not 1, or something was printed", &child);
+    expect(strcmp(child.err, the->says) == 0, the->name, "another message", &child);
+}
+
 int main(void)
 {
     size_t count = sizeof cases / sizeof cases[0];
-    (void)snprintf(long_columns, sizeof long_columns, "1 %0*d 0 8 batch 0 8 viscosity 8 8 sulphur 16 8", LONG, 0);
+    (void)snprintf(long_columns, sizeof long_columns, "1 %0*d 1 0 8 batch 1 8 8 viscosity 1 16 8 sulphur 1 24 8", LONG, 0);
     (void)snprintf(long_revised, sizeof long_revised, "%-60s0.491", "FU-3803 sulphur");
     for (size_t i = 0; i < count; i++)
         run_case(&cases[i]);
-    laboratory_waits("a silent blender", "", 0, LABORATORY_SAYS("nothing got on for 400 ms, in state ConfirmAwaited"));
-    laboratory_waits("a blender that sends half a length", "\0", 1, LABORATORY_SAYS(PART));
-    laboratory_waits("a blender that sends half a unit", "\0\020\0\1\2", 5, LABORATORY_SAYS(PART));
+    laboratory_waits("a silent blender", "", 0, LABORATORY_SAYS("time limit: nothing got on for 400 ms, in state ConfirmAwaited"));
+    laboratory_waits("a blender that sends half a length", "\0", 1, LABORATORY_SAYS("time limit: " HALF));
+    laboratory_waits("a blender that sends half a unit", "\0\020\0\1\2", 5, LABORATORY_SAYS("time limit: " HALF));
+    for (size_t i = 0; i < sizeof queries / sizeof queries[0]; i++)
+        laboratory_answers(&queries[i]);
     if (failures != 0) {
         fprintf(stderr, "records: %d differences\n", failures);
         return EXIT_FAILURE;
     }
-    printf("records: %zu odd partners; the program printed what was sent or nothing, and said why it stopped\n", count + 3);
+    count += 3 + sizeof queries / sizeof queries[0];
+    printf("records: %zu odd partners; the program printed what was sent or nothing, and said why it stopped\n", count);
     return EXIT_SUCCESS;
 }

@@ -1,7 +1,8 @@
 /* Examples byte for byte through the C interface: every row of document 01's table, each under the row's own words (`row`), and some
- * of our own beside them (`ours`). Prints how many there were of each, or what differed. */
+ * of our own beside them (`ours`), those of tables in several parts among them. Prints how many there were of each, or what differed. */
 #include "lu62_end.h"
 
+#include <stdbool.h>
 #include <stdio.h>
 #include <stdlib.h>
 #include <string.h>
@@ -84,7 +85,7 @@ static void expect_unit(const struct host *host, const uint8_t *expected, size_t
     const struct lu62_answer *answer = &host->end.answer;
     expect_refusal(host, LU62_ACCEPTED);
     expect_bytes("unit", host->unit, answer->unit, expected, length);
-    expect_number("copied, complete and mark", answer->copied + answer->complete + answer->mark, 0);
+    expect_number("copied, complete, more and mark", answer->copied + answer->complete + answer->more + answer->mark, 0);
 }
 
 #define UNIT(host, ...) \
@@ -252,14 +253,18 @@ static void credit(void)
     expect_refusal(&host, LU62_ACCEPTED);
 }
 
-static void expect_read(struct host *host, const uint8_t *bytes, size_t length, uint32_t complete)
+/* A read of at most four bytes. What it says of the record: `INSIDE` it, at its `END`, or at the end of a part that another follows. */
+enum ends { INSIDE, END, PART_END };
+
+static void expect_read(struct host *host, const uint8_t *bytes, size_t length, enum ends ends)
 {
     uint8_t buffer[4];
     memset(buffer, 0xEE, sizeof buffer);
     (void)lu62_end_receive(&host->end, buffer, sizeof buffer);
     expect_refusal(host, LU62_ACCEPTED);
     expect_bytes("bytes read", buffer, host->end.answer.copied, bytes, length);
-    expect_number("complete", host->end.answer.complete, complete);
+    expect_number("complete", host->end.answer.complete, ends != INSIDE);
+    expect_number("more", host->end.answer.more, ends == PART_END);
     expect_number("mark", host->end.answer.mark, LU62_MARK_NONE);
     for (size_t i = length; i < sizeof buffer; i++)
         expect_number("a cell past the bytes read", buffer[i], 0xEE);
@@ -274,9 +279,9 @@ static void reading(void)
     TAKE(&host, 0x00, 0x01, 0x03, 0x91, 0x80, 0x00, 0x05, 0x41, 0x42, 0x43, 0x00);
     expect_refusal(&host, LU62_ACCEPTED);
     expect_number("bytes in the inbox", lu62_end_inbox_held(&host.end), 6);
-    expect_read(&host, (const uint8_t[]){0x00, 0x05, 0x41, 0x42}, 4, 0);
-    expect_read(&host, (const uint8_t[]){0x43}, 1, 1);
-    expect_read(&host, (const uint8_t[]){0x00}, 1, 0);
+    expect_read(&host, (const uint8_t[]){0x00, 0x05, 0x41, 0x42}, 4, INSIDE);
+    expect_read(&host, (const uint8_t[]){0x43}, 1, END);
+    expect_read(&host, (const uint8_t[]){0x00}, 1, INSIDE);
 
     ours("a read with nothing held");
     (void)lu62_end_receive(&host.end, buffer, sizeof buffer);
@@ -298,25 +303,180 @@ static void numbers(void)
     UNIT(&host, 0x00, 0x00, 0x03, 0x90, 0x00, 0x00, 0x02);
 }
 
-/* A first LL byte of 80 is kept, and no byte can follow it: what lu62.h says at send data. */
-static void a_first_byte_without_a_second(void)
+/* A first LL byte is accepted whatever it is, and some second byte after it: what lu62.h says at send data. */
+static void a_first_byte_alone(void)
 {
     struct host host;
-    ours("a first LL byte of 80");
-    open_sender(&host, 3, 64);
-    SEND(&host, 0x80);
-    expect_refusal(&host, LU62_ACCEPTED);
-    for (unsigned second = 0; second < 256; second++) {
-        uint8_t byte = (uint8_t)second;
-        (void)lu62_end_send_data(&host.end, &byte, 1);
-        expect_refusal(&host, LU62_BAD_LL);
+    ours("each first LL byte alone, and each second byte after it");
+    for (unsigned ll = 0; ll < 65536; ll++) {
+        uint8_t first = (uint8_t)(ll / 256), second = (uint8_t)(ll % 256);
+        open_sender(&host, 3, 64);
+        (void)lu62_end_send_data(&host.end, &first, 1);
+        expect_refusal(&host, LU62_ACCEPTED);
+        (void)lu62_end_send_data(&host.end, &second, 1);
+        expect_refusal(&host, ll % LU62_MORE_FOLLOWS < LU62_RECORD_LEAST ? LU62_BAD_LL : LU62_ACCEPTED);
     }
-    (void)lu62_end_confirm(&host.end);
-    expect_refusal(&host, LU62_UNFINISHED_RECORD);
+}
+
+/* The record place in an image: its kind, and a number of two bytes, low byte first. */
+static void expect_place(const struct host *host, uint8_t kind, uint16_t number)
+{
+    const uint8_t place[] = {kind, (uint8_t)(number % 256), (uint8_t)(number / 256)};
+    expect_bytes("record place", host->end.image + GIVEN_AT, sizeof place, place, sizeof place);
+}
+
+/* Nothing that ends what is given is accepted, and nothing is changed by it. */
+static void expect_unfinished(struct host *host)
+{
+    uint8_t image[LU62_IMAGE];
+    memcpy(image, host->end.image, sizeof image);
+    (void)lu62_end_confirm(&host->end);
+    expect_refusal(host, LU62_UNFINISHED_RECORD);
+    for (int confirm = 0; confirm < 2; confirm++) {
+        (void)lu62_end_prepare_to_receive(&host->end, confirm);
+        expect_refusal(host, LU62_UNFINISHED_RECORD);
+        (void)lu62_end_deallocate(&host->end, confirm);
+        expect_refusal(host, LU62_UNFINISHED_RECORD);
+    }
+    expect_bytes("image", host->end.image, sizeof host->end.image, image, sizeof image);
+}
+
+static void parts_given(void)
+{
+    struct host host;
+    ours("LL 80 00 and LL 80 01 given");
+    open_sender(&host, 3, 64);
+    SEND(&host, 0x80, 0x00);
+    expect_refusal(&host, LU62_BAD_LL);
+    SEND(&host, 0x80, 0x01);
+    expect_refusal(&host, LU62_BAD_LL);
+    expect_place(&host, 0, 0);
+
+    ours("LL 80 02 given, then a turn, an end, a confirm");
+    SEND(&host, 0x80, 0x02);
+    expect_refusal(&host, LU62_ACCEPTED);
+    expect_place(&host, 1, 0);
+    expect_unfinished(&host);
+
+    ours("LL 80 02 sent by flush, then a turn, an end, a confirm");
+    (void)lu62_end_flush(&host.end);
+    UNIT(&host, 0x00, 0x01, 0x03, 0x91, 0x80, 0x80, 0x02);
+    expect_unfinished(&host);
+
+    ours("the last part, then a turn");
+    SEND(&host, 0x00, 0x03, 0x41);
+    expect_place(&host, 0, 0);
     (void)lu62_end_prepare_to_receive(&host.end, 0);
-    expect_refusal(&host, LU62_UNFINISHED_RECORD);
-    (void)lu62_end_deallocate(&host.end, 0);
-    expect_refusal(&host, LU62_UNFINISHED_RECORD);
+    UNIT(&host, 0x00, 0x02, 0x03, 0x90, 0x20, 0x00, 0x03, 0x41);
+}
+
+static void long_parts_given(void)
+{
+    struct host host;
+    ours("LL FF FF and LL 7F FF given");
+    open_sender(&host, 3, 64);
+    SEND(&host, 0xFF, 0xFF, 0x41);
+    expect_refusal(&host, LU62_ACCEPTED);
+    expect_place(&host, 3, LU62_RECORD_MOST - 3);
+    expect_unfinished(&host);
+    open_sender(&host, 3, 64);
+    SEND(&host, 0x7F, 0xFF, 0x41);
+    expect_place(&host, 2, LU62_RECORD_MOST - 3);
+    expect_unfinished(&host);
+}
+
+static void parts_read(void)
+{
+    struct host host;
+    uint8_t buffer[4];
+    ours("LL 80 02 alone is read");
+    open_host(&host, LU62_BIDDER, 3, 64);
+    TAKE(&host, 0x00, 0x01, 0x03, 0x91, 0x80, 0x80, 0x02);
+    expect_refusal(&host, LU62_ACCEPTED);
+    expect_read(&host, (const uint8_t[]){0x80, 0x02}, 2, PART_END);
+    (void)lu62_end_receive(&host.end, buffer, sizeof buffer);
+    expect_refusal(&host, LU62_NOTHING_TO_READ);
+    expect_number("complete and more of a refusal", host.end.answer.complete + host.end.answer.more, 0);
+
+    ours("a mark is read after the last part, and says nothing of parts");
+    TAKE(&host, 0x00, 0x02, 0x03, 0x90, 0x20, 0x80, 0x03, 0x41, 0x00, 0x02);
+    expect_refusal(&host, LU62_ACCEPTED);
+    expect_read(&host, (const uint8_t[]){0x80, 0x03, 0x41}, 3, PART_END);
+    expect_read(&host, (const uint8_t[]){0x00, 0x02}, 2, END);
+    (void)lu62_end_receive(&host.end, buffer, sizeof buffer);
+    expect_refusal(&host, LU62_ACCEPTED);
+    expect_number("mark", host.end.answer.mark, LU62_MARK_TURN);
+    expect_number("complete and more of a mark", host.end.answer.complete + host.end.answer.more, 0);
+}
+
+/* A mark behind a part that another follows, in one unit with it or in the next, breaks the protocol. */
+static void parts_taken_with_a_mark(void)
+{
+    static const uint8_t marks[][2] = {{0x90, 0x20}, {0x90, 0x01}, {0x20, 0x00}, {0x20, 0x20}, {0x20, 0x01}};
+    struct host host;
+    uint8_t image[LU62_IMAGE];
+    ours("each mark behind a part that another follows");
+    for (size_t i = 0; i < sizeof marks / sizeof marks[0]; i++)
+        for (uint8_t top = 0; top < 2; top++) {
+            /* The part ends in this unit, or has ended in the one before; with the bit off the same units are good. */
+            const uint8_t ll = top != 0 ? 0x80 : 0x00;
+            const uint8_t at_once[] = {0x00, 0x02, 0x03, marks[i][0], marks[i][1], 0x80, 0x02, ll, 0x03, 0x41};
+            const uint8_t before[] = {0x00, 0x02, 0x02, 0x90, 0x00, ll, 0x02};
+            const uint8_t behind[] = {0x00, 0x03, 0x01, marks[i][0], marks[i][1]};
+            uint32_t expected = top != 0 ? LU62_BAD_RECORDS : LU62_ACCEPTED;
+            open_receiver(&host);
+            memcpy(image, host.end.image, sizeof image);
+            (void)lu62_end_receive_unit(&host.end, at_once, sizeof at_once);
+            expect_refusal(&host, expected);
+            expect_number("sense", host.end.answer.sense, 0);
+            if (top != 0)
+                expect_bytes("image", host.end.image, sizeof host.end.image, image, sizeof image);
+            open_receiver(&host);
+            (void)lu62_end_receive_unit(&host.end, before, sizeof before);
+            expect_refusal(&host, LU62_ACCEPTED);
+            (void)lu62_end_receive_unit(&host.end, behind, sizeof behind);
+            expect_refusal(&host, expected);
+        }
+}
+
+/* Three parts in two units: the third part's LL is cut between them. */
+static void a_table_cut_over_units(void)
+{
+    struct host laboratory, blender;
+    ours("a table of three parts cut over units");
+    open_sender(&laboratory, 3, 8);
+    open_host(&blender, LU62_BIDDER, 3, 8);
+    SEND(&laboratory, 0x80, 0x05, 0x41, 0x42, 0x43);
+    SEND(&laboratory, 0x80, 0x02);
+    SEND(&laboratory, 0x00, 0x04, 0x44, 0x45);
+    UNIT(&laboratory, 0x00, 0x01, 0x02, 0x91, 0x80, 0x80, 0x05, 0x41, 0x42, 0x43, 0x80, 0x02, 0x00);
+    (void)lu62_end_receive_unit(&blender.end, laboratory.unit, laboratory.end.answer.unit);
+    expect_refusal(&blender, LU62_ACCEPTED);
+    expect_read(&blender, (const uint8_t[]){0x80, 0x05, 0x41, 0x42}, 4, INSIDE);
+    expect_read(&blender, (const uint8_t[]){0x43}, 1, PART_END);
+    expect_read(&blender, (const uint8_t[]){0x80, 0x02}, 2, PART_END);
+    expect_read(&blender, (const uint8_t[]){0x00}, 1, INSIDE);
+    (void)lu62_end_deallocate(&laboratory.end, 0);
+    UNIT(&laboratory, 0x00, 0x02, 0x01, 0x90, 0x01, 0x04, 0x44, 0x45);
+    (void)lu62_end_receive_unit(&blender.end, laboratory.unit, laboratory.end.answer.unit);
+    expect_refusal(&blender, LU62_ACCEPTED);
+    expect_read(&blender, (const uint8_t[]){0x04, 0x44, 0x45}, 3, END);
+}
+
+/* The kinds of a record place in an image, and a number that the kind does not have. */
+static void places_in_an_image(void)
+{
+    struct host host;
+    ours("record places in an image, by kind");
+    open_sender(&host, 3, 64);
+    for (unsigned kind = 0; kind < 256; kind++)
+        for (uint8_t number = 0; number < 2; number++) {
+            bool good = number == 0 ? kind == 0 || kind == 1 || kind == 4 : kind == 2 || kind == 3 || kind == 4;
+            host.end.image[GIVEN_AT] = (uint8_t)kind;
+            host.end.image[GIVEN_AT + 1] = number;
+            (void)lu62_end_confirmed(&host.end);
+            expect_refusal(&host, good ? LU62_WRONG_STATE : LU62_BAD_RECORD);
+        }
 }
 
 static void refused_openings(void)
@@ -363,7 +523,8 @@ static void other_formats(void)
 
 int main(void)
 {
-    _Static_assert(sizeof(struct lu62_answer) == 7 * sizeof(uint32_t), "an answer is seven numbers of 32 bits");
+    _Static_assert(sizeof(struct lu62_answer) == 8 * sizeof(uint32_t), "an answer is eight numbers of 32 bits");
+    _Static_assert(offsetof(struct lu62_answer, more) == 6 * sizeof(uint32_t), "more stands between complete and mark");
     bids();
     a_confirmation();
     data();
@@ -372,7 +533,13 @@ int main(void)
     credit();
     reading();
     numbers();
-    a_first_byte_without_a_second();
+    a_first_byte_alone();
+    parts_given();
+    long_parts_given();
+    parts_read();
+    parts_taken_with_a_mark();
+    a_table_cut_over_units();
+    places_in_an_image();
     refused_openings();
     other_formats();
     if (failures != 0) {

@@ -87,7 +87,7 @@ static int reads(struct room *room, const struct placed *the)
 {
     uint8_t *buffer = at(room, the->buffer);
     return lu62_end_receive(&room->end, buffer, BUFFER) == LU62_ACCEPTED && room->end.answer.complete == 1 &&
-           room->end.answer.copied == sizeof record && memcmp(buffer, record, sizeof record) == 0;
+           room->end.answer.more == 0 && room->end.answer.copied == sizeof record && memcmp(buffer, record, sizeof record) == 0;
 }
 
 static void make_calls(const struct placed *the)

@@ -1,5 +1,5 @@
-//! One end of a basic conversation, in plain safe Rust: what a programmer would write from document 01 without proofs. It is here
-//! to be compared with: by the benchmark for its speed, by the tests for its answers. It shares no code with the library.
+//! One end of a basic conversation, in plain safe Rust: what a programmer would write from documents 01 and 02 without proofs. It is
+//! here to be compared with: by the benchmark for its speed, by the tests for its answers. It shares no code with the library.
 //!
 //! The walk over records skips a record's body at once; it does not go byte by byte. Bytes are moved by `copy_from_slice`.
 
@@ -29,13 +29,17 @@ pub enum Mark {
     ConfirmEnd,
 }
 
-/// A record place: between records, after the first LL byte, or with that many bytes left.
+/// A record place: between records, after the first LL byte, or with that many bytes left. The flag is the top bit of the record's
+/// LL, which says that another part follows.
 #[derive(Clone, Copy, Debug, PartialEq, Eq)]
 pub enum Place {
-    Between,
+    Between(bool),
     AfterFirst(u8),
-    Left(u16),
+    Left(u16, bool),
 }
+
+/// The place of a fresh end: between records, and nothing is to follow.
+pub const WHOLE: Place = Place::Between(false);
 
 /// One direction's window: its size W, the place in it, and the flag of a pacing request not yet answered.
 #[derive(Clone, Copy, Debug, PartialEq, Eq)]
@@ -79,6 +83,7 @@ pub struct Answer {
     pub unit: u32,
     pub copied: u32,
     pub complete: bool,
+    pub more: bool,
     pub mark: u32,
 }
 
@@ -108,11 +113,17 @@ fn refused(number: u32) -> Answer {
     Answer { refusal: number, sense: sense(number), ..Answer::default() }
 }
 
+// Length and top bit of an LL, or none if the length is under 2.
+fn length_of(high: u8, low: u8) -> Option<(u16, bool)> {
+    let ll = u16::from_be_bytes([high, low]);
+    let length = ll & 0x7FFF;
+    (length >= 2).then_some((length, ll != length))
+}
+
 fn after_ll(high: u8, low: u8) -> Option<Place> {
-    match u16::from_be_bytes([high, low]) {
-        0 | 1 | 32768.. => None,
-        2 => Some(Place::Between),
-        ll => Some(Place::Left(ll - 2)),
+    match length_of(high, low)? {
+        (2, more) => Some(Place::Between(more)),
+        (length, more) => Some(Place::Left(length - 2, more)),
     }
 }
 
@@ -120,7 +131,7 @@ fn after_ll(high: u8, low: u8) -> Option<Place> {
 pub fn walk(mut place: Place, mut bytes: &[u8]) -> Option<Place> {
     while let Some((&first, rest)) = bytes.split_first() {
         match place {
-            Place::Between => {
+            Place::Between(_) => {
                 place = Place::AfterFirst(first);
                 bytes = rest;
             }
@@ -128,11 +139,11 @@ pub fn walk(mut place: Place, mut bytes: &[u8]) -> Option<Place> {
                 place = after_ll(high, first)?;
                 bytes = rest;
             }
-            Place::Left(left) => {
+            Place::Left(left, more) => {
                 let skipped = bytes.len().min(left as usize);
                 place = match left - skipped as u16 {
-                    0 => Place::Between,
-                    n => Place::Left(n),
+                    0 => Place::Between(more),
+                    n => Place::Left(n, more),
                 };
                 bytes = &bytes[skipped..];
             }
@@ -169,7 +180,7 @@ impl Window {
 
 fn place_good(place: Place) -> bool {
     match place {
-        Place::Left(left) => (1..=32765).contains(&left),
+        Place::Left(left, _) => (1..=32765).contains(&left),
         _ => true,
     }
 }
@@ -295,14 +306,14 @@ pub fn open(session: Session, send: usize, unit: usize, inbox: usize) -> Result<
         out_max: session.out_max as u16,
         out_held: 0,
         out_number: 0,
-        given: Place::Between,
+        given: WHOLE,
         into: Window { size: session.in_window, place: 0, pending: false },
         in_max: session.in_max as u16,
         inbox: inbox as u16,
         in_held: 0,
         in_number: 0,
-        taken: Place::Between,
-        read: Place::Between,
+        taken: WHOLE,
+        read: WHOLE,
         bid_number: 0,
         owed_number: 0,
     })
@@ -430,7 +441,7 @@ impl End {
             return refused(7);
         }
         let flush = follow == Follow::Stay && !confirm;
-        if !flush && self.given != Place::Between {
+        if !flush && self.given != WHOLE {
             return refused(9);
         }
         if flush && self.out_held == 0 {
@@ -580,7 +591,7 @@ impl End {
         }
         let mark = mark_of(confirm, follow);
         let taken = match walk(self.taken, ru) {
-            Some(place) if mark == Mark::None || place == Place::Between => place,
+            Some(place) if mark == Mark::None || place == WHOLE => place,
             _ => return refused(29),
         };
         self.into.step();
@@ -660,31 +671,31 @@ impl End {
             return refused(6);
         }
         let held = usize::from(self.in_held);
-        let ll = match (self.read, held) {
-            (Place::Between, 2..) => Some((inbox[0], inbox[1])),
-            (Place::AfterFirst(high), 1..) => Some((high, inbox[0])),
-            _ => None,
+        // How many bytes the record still has, its LL counted; one byte of LL is a read by itself.
+        let rest = match (self.read, held) {
+            (Place::Left(left, _), _) => Some(left),
+            (Place::Between(_), 2..) => length_of(inbox[0], inbox[1]).map(|(length, _)| length),
+            (Place::AfterFirst(high), 1..) => length_of(high, inbox[0]).map(|(length, _)| length - 1),
+            _ => Some(1),
         };
-        if ll.is_some_and(|(high, low)| after_ll(high, low).is_none()) {
+        let Some(rest) = rest else {
             return refused(8);
-        }
+        };
         if held == 0 {
             return self.read_mark();
         }
-        let rest = match (self.read, ll) {
-            (Place::Left(left), _) => usize::from(left),
-            (Place::Between, Some((high, low))) => usize::from(u16::from_be_bytes([high, low])),
-            (_, Some((high, low))) => usize::from(u16::from_be_bytes([high, low])) - 1,
-            (_, None) => 1,
-        };
-        let copied = buffer.len().min(held).min(rest);
+        let copied = buffer.len().min(held).min(usize::from(rest));
         buffer[..copied].copy_from_slice(&inbox[..copied]);
         if let Some(place) = walk(self.read, &buffer[..copied]) {
             self.read = place;
         }
         inbox.copy_within(copied..held, 0);
         self.in_held -= copied as u16;
-        Answer { copied: copied as u32, complete: self.read == Place::Between, ..made(0) }
+        let (complete, more) = match self.read {
+            Place::Between(more) => (true, more),
+            _ => (false, false),
+        };
+        Answer { copied: copied as u32, complete, more, ..made(0) }
     }
 
     fn read_mark(&mut self) -> Answer {

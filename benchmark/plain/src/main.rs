@@ -67,8 +67,8 @@ fn run(max: u32, window: u8, records: usize, record: &[u8], lent: &mut [Buffers;
     let mut place = 0;
     accepted(from.end.allocate(from.unit))?;
     for _ in 0..records {
-        for part in record.chunks(max as usize) {
-            let made = accepted(from.end.send_data(part, from.send, from.unit))?;
+        for piece in record.chunks(max as usize) {
+            let made = accepted(from.end.send_data(piece, from.send, from.unit))?;
             if made.unit > 0 {
                 carried += carry(&mut from, &mut to, made.unit as usize, buffer, window, &mut place)?;
             }

@@ -105,10 +105,10 @@ refusedNaming rule q = record { refusal = q; sense = senseOf q; rule = cond (eqb
 abbrev pub refused : ℕ → Answer
 refused q = record { refusal = q; sense = senseOf q; rule = 0; unit = 0 }
 
--- a refusal of a read: nothing copied, not complete, no mark
+-- a refusal of a read: nothing copied, no record complete, so no part that another follows; no mark
 abbrev pub readRefused : ℕ → ReadAnswer
-readRefused q = record { answer = refused q; copied = 0; complete = false; mark = mark.Nothing }
+readRefused q = record { answer = refused q; copied = 0; complete = false; more = false; mark = mark.Nothing }
 
--- a read accepted, by the count copied
-abbrev pub readAccepted : ℕ → Bool → WhatReceived → ReadAnswer
-readAccepted k complete what = record { answer = accepted 0; copied = k; complete = complete; mark = what }
+-- a read accepted: the count copied, whether a record is complete, whether that record is a part that another follows, and the mark
+abbrev pub readAccepted : ℕ → Bool → Bool → WhatReceived → ReadAnswer
+readAccepted k complete more what = record { answer = accepted 0; copied = k; complete = complete; more = more; mark = what }

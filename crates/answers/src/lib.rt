@@ -19,11 +19,13 @@ pub struct Answer {
     pub unit: usize,
 }
 
-// A read's answer has besides: the bytes copied; whether a record is complete; and the mark answered.
+// A read's answer has besides: the bytes copied; whether a record is complete; whether the record completed is a part that another
+// follows; and the mark answered.
 pub struct ReadAnswer {
     pub answer: Answer,
     pub copied: usize,
     pub complete: bool,
+    pub more: bool,
     pub mark: control::WhatReceived,
 }
 
@@ -124,7 +126,7 @@ pub fn rule_number(rule: Rule) -> u8
     }
 }
 
-// A refused read: nothing copied, not complete, no mark.
+// A refused read: nothing copied, no record complete, so no part that another follows; no mark.
 pub fn read_refuse(number: u8) -> ReadAnswer
     ensures { λ r. ⌜ r ≡ readRefused number ⌝ }
 {
@@ -132,31 +134,34 @@ pub fn read_refuse(number: u8) -> ReadAnswer
         answer: refuse(number),
         copied: 0,
         complete: false,
+        more: false,
         mark: WhatReceived::Nothing,
     }
 }
 
 // Bytes read, and no mark.
-pub fn bytes_read(copied: usize, complete: bool) -> ReadAnswer
-    ensures { λ r. ⌜ r ≡ readAccepted copied complete WhatReceived.Nothing ⌝ }
+pub fn bytes_read(copied: usize, complete: bool, more: bool) -> ReadAnswer
+    ensures { λ r. ⌜ r ≡ readAccepted copied complete more WhatReceived.Nothing ⌝ }
 {
     ReadAnswer {
         answer: accept(0),
         copied,
         complete,
+        more,
         mark: WhatReceived::Nothing,
     }
 }
 
-// The mark read, and no byte.
+// The mark read, and no byte: no record is completed.
 pub fn mark_read(c: Control) -> ReadAnswer
-    ensures { λ r. ⌜ r ≡ readAccepted 0 false (c .mark) ⌝ }
+    ensures { λ r. ⌜ r ≡ readAccepted 0 false false (c .mark) ⌝ }
 {
     let mark = c.mark;
     ReadAnswer {
         answer: accept(0),
         copied: 0,
         complete: false,
+        more: false,
         mark,
     }
 }

@@ -45,6 +45,6 @@ actedBy v d send unit inbox buffer =
       sent = unitsOf (d .answer .answer .unit) unit;
     }
 
--- the answer of a call that is no read: nothing copied, no record complete, no mark
+-- the answer of a call that is no read: nothing copied, no record complete, no part that another follows, no mark
 abbrev pub plainDone : Done → ReadDone
 plainDone d = record { answer = plain (d .answer) .answer; end = d .end }

@@ -52,6 +52,7 @@ fn unmade(outcome: Outcome, end: End, from: Line, to: Line) -> Stepped
         answer: none,
         copied: 0,
         complete: false,
+        more: false,
         mark: WhatReceived::Nothing,
     };
     Stepped {

@@ -13,7 +13,7 @@ ghost use Prim.Native.Nat.{ℕ};
 ghost use Rattle.calls.specs.Calls.{called};
 ghost use Rattle.bench.specs.CallMade.{verbOf, isRead, stationOf, actedBy, plainDone};
 
-// The answer of a call that is no read: nothing copied, no record complete, no mark.
+// The answer of a call that is no read: nothing copied, no record complete, no part that another follows, no mark.
 pub(crate) fn plain(done: Done) -> ReadDone
     ensures { λ r. ⌜ r ≡ plainDone done ⌝ }
 {
@@ -23,6 +23,7 @@ pub(crate) fn plain(done: Done) -> ReadDone
         answer: given,
         copied: 0,
         complete: false,
+        more: false,
         mark: WhatReceived::Nothing,
     };
     ReadDone { answer, end }

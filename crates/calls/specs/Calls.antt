@@ -55,7 +55,7 @@ pub record Reply : Type 0 where
   pub buffer : List ℕ
 
 abbrev pub plain : Answer → Reply
-plain a = record { answer = record { answer = a; copied = 0; complete = false; mark = mark.Nothing }; buffer = [] }
+plain a = record { answer = record { answer = a; copied = 0; complete = false; more = false; mark = mark.Nothing }; buffer = [] }
 
 -- the refusal number of a reply
 abbrev pub refusalIn : Reply → ℕ

@@ -6,6 +6,8 @@ use mathlib.Core.Bool.{Bool, true, false, _&&_}
 use mathlib.Core.List.{List, [], _∷_}
 use native.Mathlib.Omega.{arith}
 use Rattle.bools.proofs.Tests.{both}
+use Rattle.logical_record.specs.RecordClaims.{EveryPlaceCanEnd}
+use Rattle.logical_record.specs.declared.Position.the-variants.{Remaining}
 use Rattle.joined.specs.Joined as J
 use Rattle.joined.specs.Joined.{At, first, second, act, Some, step, AllFed}
 use Rattle.joined.specs.Ends.{Lane, sameLane, acts, takes}
@@ -86,7 +88,7 @@ asked =
 
 -- ---- what is said
 
-module _ (claim : Claim) (records : TheRecords) (always : AlwaysGood) where
+module _ (claim : Claim) (records : TheRecords) (always : AlwaysGood) (places : EveryPlaceCanEnd) where
   said : Said
   unfolding computed
   said =
@@ -108,6 +110,10 @@ module _ (claim : Claim) (records : TheRecords) (always : AlwaysGood) where
         records-out = r .out .first-are-read;
         to-come-back = r .back .still-to-come;
         records-back = r .back .first-are-read;
+        tables-to-come-out = r .tables-out .still-to-come;
+        tables-out = r .tables-out .first-are-read;
+        tables-to-come-back = r .tables-back .still-to-come;
+        tables-back = r .tables-back .first-are-read;
         given-two = r .two .given;
         read-one = r .one .read;
         inbox-one = r .one .inbox;
@@ -116,8 +122,11 @@ module _ (claim : Claim) (records : TheRecords) (always : AlwaysGood) where
         read-two = r .two .read;
         inbox-two = r .two .inbox;
         whole-two = r .two .whole;
+        ends-two = places (Remaining true 11000);
         complete-one = r .one .complete;
         complete-two = r .two .complete;
+        more-one = r .one .more;
+        more-two = r .two .more;
         apart-one = r .one .apart;
         apart-two = r .two .apart;
         never-8-one = r .one .never-8;

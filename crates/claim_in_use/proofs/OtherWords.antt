@@ -7,7 +7,8 @@ use mathlib.Core.List.{List, [], _++_}
 use lib.ListN.{length, take}
 use Rattle.logical_record.specs.Positions.{start}
 use Rattle.logical_record.specs.Walk.{walk}
-use Rattle.logical_record.specs.Records.{wholeRecords}
+use Rattle.logical_record.specs.Records.{wholeRecords, wholeTables}
+use Rattle.logical_record.specs.RecordClaims.{EveryPlaceCanEnd}
 use Rattle.pacing.specs.Pacing.{credit}
 use Rattle.control.specs.StateTests.{isSend}
 use Rattle.control.specs.declared.State.{State}
@@ -18,9 +19,9 @@ use Rattle.session.specs.declared.Session.{Session}
 use Rattle.joined.specs.Joined.{Call, At, run}
 use Rattle.joined.specs.Ends.{Lane, normal, sameLane, acts, takes, openedBoth, Buffers}
 use Rattle.joined.specs.Histories.{bytesOnLine, breaches}
-use Rattle.joined.specs.Claim.{Claim, BytesConserved, CreditCounted, ReadsRight, RecordsArrive, TheRecords, AlwaysGood}
+use Rattle.joined.specs.Claim.{Claim, BytesConserved, CreditCounted, ReadsRight, RecordsArrive, TablesArrive, TheRecords, AlwaysGood}
 use Rattle.claim_in_use.specs.OtherWords.{Numbers, speaker, bidder, Opens, InRange, story, each, made, request, pacingAnswer, creditLeft, Ends, OneEnd, hasRead, AtOneEnd, OneWay, Agree, Interleaves, after, TakesFind, SameEnd, AreBytes, offered, KeepsRules, InOtherWords, answer}
-use Rattle.claim_in_use.proofs.Stories.{given-is, read-is, line-is, requests-are, answers-are, no-breach-in, never-in, no-bad-read, takes-say-nothing, ends-there, says-so, none-before}
+use Rattle.claim_in_use.proofs.Stories.{given-is, read-is, line-is, requests-are, answers-are, no-breach-in, never-in, no-bad-read, takes-not-complete, takes-no-more, ends-there, says-so, says-more, none-before}
 use Rattle.claim_in_use.proofs.InRangeAccepted.{accepts, openings}
 use Rattle.claim_in_use.proofs.GivenBytes.{parted, all-bytes, given-bytes}
 use Rattle.claim_in_use.proofs.Orders.{firsts-are, seconds-are, fed}
@@ -35,13 +36,14 @@ counted : (w : ℕ) (x : OneEnd) → CreditCounted w x
 unfolding credit
 counted w x h = rw (requests-are (x .log), answers-are (x .log)) h
 
-at-one-end : (w : ℕ) (x : OneEnd) → breaches (x .log) ≡ 0 → CreditCounted w x → ReadsRight x → AtOneEnd w x
-at-one-end w x b c r =
+at-one-end : (w : ℕ) (x : OneEnd) → breaches (x .log) ≡ 0 → CreditCounted w x → ReadsRight x → EveryPlaceCanEnd → AtOneEnd w x
+at-one-end w x b c r places =
     record {
       no-breach = no-breach-in (x .log) b;
       credit = counted w x c;
       unfinished = ap (walk start) (given-is (x .log)) ∙ r .given;
       finished = λ n. r .whole (not-send (x .end .end .control .state) n);
+      can-finish = places (x .end .end .sending .given);
       read-so-far = ap (walk start) (read-is (x .log)) ∙ r .read;
       in-inbox = r .inbox;
       no-bad-record = no-bad-read (x .log) (r .never-8);
@@ -50,11 +52,13 @@ at-one-end w x b c r =
         says-so (x .log) later earlier v y us e (r .complete),
         none-before (x .log) later earlier v y us e (r .apart),
       );
-      takes-none = takes-say-nothing (x .log) (r .complete);
+      parts = λ later earlier v y us e. says-more (x .log) later earlier v y us e (r .more);
+      takes-none = takes-not-complete (x .log) (r .complete);
+      takes-no-more = takes-no-more (x .log) (r .more);
     }
 
-one-way : (x y : OneEnd) → BytesConserved x y → RecordsArrive x y → OneWay x y
-one-way x y b r =
+one-way : (x y : OneEnd) → BytesConserved x y → RecordsArrive x y → TablesArrive x y → OneWay x y
+one-way x y b r t =
     record {
       bytes =
           given-is (x .log) ∙ b
@@ -68,6 +72,10 @@ one-way x y b r =
       records =
           ap wholeRecords (given-is (x .log)) ∙ r .first-are-read
           ∙ ap (λ (bs : List ℕ). wholeRecords bs ++ r .still-to-come) (sym (read-is (y .log)));
+      tables-to-come = t .still-to-come;
+      tables =
+          ap wholeTables (given-is (x .log)) ∙ t .first-are-read
+          ∙ ap (λ (bs : List ℕ). wholeTables bs ++ t .still-to-come) (sym (read-is (y .log)));
     }
 
 same-end : (x y : OneEnd) → x ≡ y → SameEnd x y
@@ -78,7 +86,7 @@ same-end x y e =
       answers = ap (λ (z : OneEnd). each answer (story (z .log))) e;
     }
 
-module _ (claim : Claim) (records : TheRecords) (always : AlwaysGood) where
+module _ (claim : Claim) (records : TheRecords) (always : AlwaysGood) (places : EveryPlaceCanEnd) where
   agrees : (n : Numbers) (b c : Buffers) → InRange n b c → (l : List (At Lane Verb)) → Agree n (after n b c l)
   agrees n b c r l =
       let p = after n b c l in
@@ -87,10 +95,10 @@ module _ (claim : Claim) (records : TheRecords) (always : AlwaysGood) where
       let k = records (speaker n) (bidder n) b c l o in
       record {
         one-sends = λ x y. j .not-both (ap isSend x) (ap isSend y);
-        at-one = at-one-end (n .window-out) (p .one) (j .no-breach-one) (j .credit-one) (k .one);
-        at-two = at-one-end (n .window-back) (p .two) (j .no-breach-two) (j .credit-two) (k .two);
-        out = one-way (p .one) (p .two) (j .bytes-out) (k .out);
-        back = one-way (p .two) (p .one) (j .bytes-back) (k .back);
+        at-one = at-one-end (n .window-out) (p .one) (j .no-breach-one) (j .credit-one) (k .one) places;
+        at-two = at-one-end (n .window-back) (p .two) (j .no-breach-two) (j .credit-two) (k .two) places;
+        out = one-way (p .one) (p .two) (j .bytes-out) (k .out) (k .tables-out);
+        back = one-way (p .two) (p .one) (j .bytes-back) (k .back) (k .tables-back);
       }
 
   alike : (n : Numbers) (b c : Buffers) → InRange n b c → (xs ys : List (Call Lane Verb)) (l m : List (At Lane Verb))

@@ -12,12 +12,12 @@ use Rattle.bools.proofs.Tests.{right}
 use Rattle.header.specs.Weights.{on}
 use Rattle.logical_record.specs.Positions.{start}
 use Rattle.logical_record.specs.Walk.{walk}
-use Rattle.logical_record.specs.Records.{ended}
+use Rattle.logical_record.specs.Records.{ended, wholeRecords, lastBit}
 use Rattle.joined.specs.Lanes.{Lines}
-use Rattle.joined.specs.Joined.{acted, took}
+use Rattle.joined.specs.Joined.{Event, acted, took}
 use Rattle.joined.specs.Ends.{Lane, normal}
 use Rattle.joined.specs.Histories as H
-use Rattle.joined.specs.Histories.{Log, bytesAccepted, bytesRead, bytesOnLine, isBreach, breaches, refusedWith, isBadRead, badReads, requestsMade, pacingResponsesTaken, CompleteIsRight, NoneCrosses}
+use Rattle.joined.specs.Histories.{Log, bytesAccepted, bytesRead, bytesOnLine, isBreach, breaches, refusedWith, isBadRead, badReads, requestsMade, pacingResponsesTaken, CompleteIsRight, MoreIsRight, NoneCrosses}
 use Rattle.claim_in_use.specs.OtherWords.{Seen, story, each, All, numberOf, gave, copied, made, answer, takeAnswer, ofRead, readAnswer, request, pacingAnswer, dataBytes}
 use Rattle.calls.specs.Calls.{Reply, Verb}
 use Rattle.calls.specs.UnitCounts.{count, requestsAmong, isPacingResponse}
@@ -168,26 +168,42 @@ no-bad-read (took l u r us ∷ es) e = holds-on (Not 8) readAnswer (took l u r u
 
 -- ---- reads
 
-abbrev pub Silent : Reply → Type 0
-Silent r = r .answer .complete ≡ false
+-- a rule of logs that holds of a log held of it when it was shorter
+module _ (Rule : Log → Type 0) (tail : (e : Event Lane Verb Reply (List ℕ)) (es : Log) → Rule (e ∷ es) → Rule es) where
+  earlier-too : (later earlier : Log) → Rule (later ++ earlier) → Rule earlier
+  earlier-too [] earlier h = h
+  earlier-too (e ∷ later) earlier h = earlier-too later earlier (tail e (later ++ earlier) h)
 
-complete-at : (later earlier : Log) → CompleteIsRight (later ++ earlier) → CompleteIsRight earlier
+  -- what it says of each take
+  takes-are : (P : Reply → Type 0) → ((l : Lane) (u : List ℕ) (r : Reply) (us : Lines Lane (List ℕ)) (es : Log) → Rule (took l u r us ∷ es) → P r)
+      → (es : Log) → Rule es → All P (each takeAnswer (story es))
+  takes-are P head [] h = tt
+  takes-are P head (acted v r us ∷ es) h = holds-on P takeAnswer (acted v r us) es (takes-are P head es (tail (acted v r us) es h)) tt
+  takes-are P head (took l u r us ∷ es) h =
+      holds-on P takeAnswer (took l u r us) es (takes-are P head es (tail (took l u r us) es h)) (head l u r us es h, tt)
+
+complete-tail : (e : Event Lane Verb Reply (List ℕ)) (es : Log) → CompleteIsRight (e ∷ es) → CompleteIsRight es
 unfolding CompleteIsRight
-complete-at [] earlier h = h
-complete-at (acted v r us ∷ later) earlier h = complete-at later earlier (h .1)
-complete-at (took l u r us ∷ later) earlier h = complete-at later earlier (h .1)
+complete-tail (acted v r us) es h = h .1
+complete-tail (took l u r us) es h = h .1
 
-apart-at : (later earlier : Log) → NoneCrosses (later ++ earlier) → NoneCrosses earlier
+more-tail : (e : Event Lane Verb Reply (List ℕ)) (es : Log) → MoreIsRight (e ∷ es) → MoreIsRight es
+unfolding MoreIsRight
+more-tail (acted v r us) es h = h .1
+more-tail (took l u r us) es h = h .1
+
+apart-tail : (e : Event Lane Verb Reply (List ℕ)) (es : Log) → NoneCrosses (e ∷ es) → NoneCrosses es
 unfolding NoneCrosses
-apart-at [] earlier h = h
-apart-at (acted v r us ∷ later) earlier h = apart-at later earlier (h .1)
-apart-at (took l u r us ∷ later) earlier h = apart-at later earlier h
+apart-tail (acted v r us) es h = h .1
+apart-tail (took l u r us) es h = h
 
-pub takes-say-nothing : (es : Log) → CompleteIsRight es → All Silent (each takeAnswer (story es))
+pub takes-not-complete : (es : Log) → CompleteIsRight es → All (λ r. r .answer .complete ≡ false) (each takeAnswer (story es))
 unfolding CompleteIsRight
-takes-say-nothing [] h = tt
-takes-say-nothing (acted v r us ∷ es) h = holds-on Silent takeAnswer (acted v r us) es (takes-say-nothing es (h .1)) tt
-takes-say-nothing (took l u r us ∷ es) h = holds-on Silent takeAnswer (took l u r us) es (takes-say-nothing es (h .1)) (h .0, tt)
+takes-not-complete = takes-are CompleteIsRight complete-tail (λ r. r .answer .complete ≡ false) (λ l u r us es h. h .0)
+
+pub takes-no-more : (es : Log) → MoreIsRight es → All (λ r. r .answer .more ≡ false) (each takeAnswer (story es))
+unfolding MoreIsRight
+takes-no-more = takes-are MoreIsRight more-tail (λ r. r .answer .more ≡ false) (λ l u r us es h. h .0)
 
 -- what a call says of the record's end, where it stands in the log
 module _ (log later earlier : Log) (v : Verb) (r : Reply) (us : Lines Lane (List ℕ)) (here : log ≡ later ++ (acted v r us ∷ earlier)) where
@@ -197,7 +213,7 @@ module _ (log later earlier : Log) (v : Verb) (r : Reply) (us : Lines Lane (List
   said : CompleteIsRight log → r .answer .complete ≡ (not (eqb (r .answer .copied) 0) && ended (walk start until))
   unfolding CompleteIsRight
   said h =
-      let c = complete-at later (acted v r us ∷ earlier) (subst CompleteIsRight here h) in
+      let c = earlier-too CompleteIsRight complete-tail later (acted v r us ∷ earlier) (subst CompleteIsRight here h) in
       c .0 ∙ ap (λ (bs : List ℕ). not (eqb (r .answer .copied) 0) && ended (walk start bs)) (sym (read-is (acted v r us ∷ earlier)))
 
   pub ends-there : CompleteIsRight log → r .answer .complete ≡ true → ended (walk start until) ≡ true
@@ -206,8 +222,14 @@ module _ (log later earlier : Log) (v : Verb) (r : Reply) (us : Lines Lane (List
   pub says-so : CompleteIsRight log → 0 < r .answer .copied → ended (walk start until) ≡ true → r .answer .complete ≡ true
   says-so h some e = said h ∙ rw (ne-eqb (r .answer .copied) 0 (λ z. omega (arith, z, some)), e)
 
+  pub says-more : MoreIsRight log → r .answer .more ≡ (r .answer .complete && lastBit (wholeRecords until))
+  unfolding MoreIsRight
+  says-more h =
+      let c = earlier-too MoreIsRight more-tail later (acted v r us ∷ earlier) (subst MoreIsRight here h) in
+      c .0 ∙ ap (λ (bs : List ℕ). r .answer .complete && lastBit (wholeRecords bs)) (sym (read-is (acted v r us ∷ earlier)))
+
   pub none-before : NoneCrosses log → (n : ℕ) → 0 < n → n < r .answer .copied → ended (walk start (each copied (story earlier) ++ take n (r .buffer))) ≡ false
   unfolding NoneCrosses
   none-before h n some few =
       ap (λ (bs : List ℕ). ended (walk start (bs ++ take n (r .buffer)))) (read-is earlier)
-      ∙ apart-at later (acted v r us ∷ earlier) (subst NoneCrosses here h) .0 n some few
+      ∙ earlier-too NoneCrosses apart-tail later (acted v r us ∷ earlier) (subst NoneCrosses here h) .0 n some few

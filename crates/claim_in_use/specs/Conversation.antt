@@ -1,5 +1,5 @@
--- One conversation, with the claim read off it: a bid that is refused, pacing answers that cross, a table cut over three units and by a read, and a way
--- back that is under way. What the claim says of it is written out in bytes and numbers.
+-- One conversation, with the claim read off it: a bid that is refused, pacing answers that cross, a table of two parts cut over three units and by a
+-- read, and a way back that is under way. What the claim says of it is written out in bytes and numbers.
 -- Assumes nothing.
 use Prim.Native.Nat.{ℕ, _+_, _*_}
 use mathlib.Core.Path.{_≡_}
@@ -7,6 +7,7 @@ use mathlib.Core.Bool.{true, false}
 use mathlib.Core.List.{List, [], _∷_, _++_}
 use Rattle.logical_record.specs.Positions.{start, isWhole}
 use Rattle.logical_record.specs.Walk.{walk}
+use Rattle.logical_record.specs.RecordClaims.{CanEnd}
 use Rattle.logical_record.specs.declared.Position.the-variants.{Between, Remaining}
 use Rattle.logical_record.specs.declared.Walked.the-variants.{At}
 use Rattle.control.specs.StateTests.{isSend}
@@ -16,7 +17,7 @@ use Rattle.session.specs.declared.Session.{Session}
 use Rattle.joined.specs.Joined as J
 use Rattle.joined.specs.Joined.{first, second, act, AllFed, run}
 use Rattle.joined.specs.Ends.{Lane, normal, sameLane, Buffers, JoinedOpenings, openedBoth, acts, takes}
-use Rattle.joined.specs.Histories.{bytesAccepted, bytesRead, bytesInInbox, bytesOnLine, bytesInSendBuffer, requestsMade, pacingResponsesTaken, breaches, refusedWith, badReads, CompleteIsRight, NoneCrosses}
+use Rattle.joined.specs.Histories.{bytesAccepted, bytesRead, bytesInInbox, bytesOnLine, bytesInSendBuffer, requestsMade, pacingResponsesTaken, breaches, refusedWith, badReads, CompleteIsRight, MoreIsRight, NoneCrosses}
 use Rattle.joined.specs.Claim.{Pair}
 use Rattle.worked_examples.specs.Stations.{zeros, session}
 use Rattle.calls.specs.Calls.{Verb, prepareToReceive}
@@ -36,19 +37,26 @@ lent = record { send = zeros 8; unit = zeros 13; inbox = zeros 32 }
 abbrev pub ends : Pair
 ends = openedBoth speaker bidder lent lent
 
--- the table that goes out, as it is given
-abbrev pub table1 : List ℕ
-table1 = 0x00 ∷ 0x14 ∷ 0x01 ∷ 0x02 ∷ 0x03 ∷ 0x04 ∷ 0x05 ∷ 0x06 ∷ []
+-- the table that goes out: two parts, of which the first says that another follows
+abbrev pub part1 : List ℕ
+part1 = 0x80 ∷ 0x0B ∷ 0x01 ∷ 0x02 ∷ 0x03 ∷ 0x04 ∷ 0x05 ∷ 0x06 ∷ 0x07 ∷ 0x08 ∷ 0x09 ∷ []
 
-abbrev pub table2 : List ℕ
-table2 = 0x07 ∷ 0x08 ∷ 0x09 ∷ 0x0A ∷ 0x0B ∷ 0x0C ∷ 0x0D ∷ 0x0E ∷ []
+abbrev pub part2 : List ℕ
+part2 = 0x00 ∷ 0x09 ∷ 0x0A ∷ 0x0B ∷ 0x0C ∷ 0x0D ∷ 0x0E ∷ 0x0F ∷ 0x10 ∷ []
 
-abbrev pub table3 : List ℕ
-table3 = 0x0F ∷ 0x10 ∷ 0x11 ∷ 0x12 ∷ []
+-- as it is given: the second call has the end of the first part and the beginning of the second
+abbrev pub given1 : List ℕ
+given1 = 0x80 ∷ 0x0B ∷ 0x01 ∷ 0x02 ∷ 0x03 ∷ 0x04 ∷ 0x05 ∷ 0x06 ∷ []
 
--- and what comes back: three records and the beginning of a fourth
+abbrev pub given2 : List ℕ
+given2 = 0x07 ∷ 0x08 ∷ 0x09 ∷ 0x00 ∷ 0x09 ∷ 0x0A ∷ 0x0B ∷ 0x0C ∷ []
+
+abbrev pub given3 : List ℕ
+given3 = 0x0D ∷ 0x0E ∷ 0x0F ∷ 0x10 ∷ []
+
+-- and what comes back: a table of two parts, one of one part, and the beginning of a part of a third
 abbrev pub reply1 : List ℕ
-reply1 = 0x00 ∷ 0x06 ∷ 0x20 ∷ 0x21 ∷ 0x22 ∷ 0x23 ∷ []
+reply1 = 0x80 ∷ 0x06 ∷ 0x20 ∷ 0x21 ∷ 0x22 ∷ 0x23 ∷ []
 
 abbrev pub reply2 : List ℕ
 reply2 = 0x00 ∷ 0x05 ∷ 0x30 ∷ 0x31 ∷ 0x32 ∷ []
@@ -57,20 +65,20 @@ abbrev pub reply3 : List ℕ
 reply3 = 0x00 ∷ 0x02 ∷ []
 
 abbrev pub reply4 : List ℕ
-reply4 = 0x2B ∷ 0x01 ∷ 0x02 ∷ 0x03 ∷ 0x04 ∷ 0x05 ∷ 0x06 ∷ 0x07 ∷ 0x08 ∷ []
+reply4 = 0xAB ∷ 0x01 ∷ 0x02 ∷ 0x03 ∷ 0x04 ∷ 0x05 ∷ 0x06 ∷ 0x07 ∷ 0x08 ∷ []
 
 abbrev pub calls : List (J.At Lane Verb)
 calls =
     second (act Verb.allocate)
     ∷ first (act Verb.allocate)
-    ∷ first (act (Verb.sendData table1))
-    ∷ first (act (Verb.sendData table2))
+    ∷ first (act (Verb.sendData given1))
+    ∷ first (act (Verb.sendData given2))
     ∷ first (J.take normal)
     ∷ first (act Verb.sendPacingResponse)
     ∷ second (J.take normal)
     ∷ second (act Verb.sendPacingResponse)
     ∷ second (act (Verb.receive (zeros 5)))
-    ∷ first (act (Verb.sendData table3))
+    ∷ first (act (Verb.sendData given3))
     ∷ first (J.take normal)
     ∷ first (act (prepareToReceive false))
     ∷ second (J.take normal)
@@ -79,8 +87,9 @@ calls =
     ∷ second (J.take normal)
     ∷ second (act (Verb.receive (zeros 32)))
     ∷ second (act (Verb.receive (zeros 32)))
-    ∷ second (act (Verb.sendData (0x00 ∷ 0x06 ∷ 0x20 ∷ 0x21 ∷ 0x22 ∷ 0x23 ∷ 0x00 ∷ 0x05 ∷ [])))
-    ∷ second (act (Verb.sendData (0x30 ∷ 0x31 ∷ 0x32 ∷ 0x00 ∷ 0x02 ∷ 0x2B ∷ [])))
+    ∷ second (act (Verb.receive (zeros 32)))
+    ∷ second (act (Verb.sendData (0x80 ∷ 0x06 ∷ 0x20 ∷ 0x21 ∷ 0x22 ∷ 0x23 ∷ 0x00 ∷ 0x05 ∷ [])))
+    ∷ second (act (Verb.sendData (0x30 ∷ 0x31 ∷ 0x32 ∷ 0x00 ∷ 0x02 ∷ 0xAB ∷ [])))
     ∷ first (J.take normal)
     ∷ first (act (Verb.receive (zeros 64)))
     ∷ second (act (Verb.sendData (0x01 ∷ 0x02 ∷ 0x03 ∷ 0x04 ∷ 0x05 ∷ 0x06 ∷ 0x07 ∷ 0x08 ∷ [])))
@@ -90,15 +99,15 @@ calls =
 abbrev pub reordered : List (J.At Lane Verb)
 reordered =
     first (act Verb.allocate)
-    ∷ first (act (Verb.sendData table1))
-    ∷ first (act (Verb.sendData table2))
+    ∷ first (act (Verb.sendData given1))
+    ∷ first (act (Verb.sendData given2))
     ∷ second (act Verb.allocate)
     ∷ second (J.take normal)
     ∷ second (act Verb.sendPacingResponse)
     ∷ first (J.take normal)
     ∷ second (act (Verb.receive (zeros 5)))
     ∷ first (act Verb.sendPacingResponse)
-    ∷ first (act (Verb.sendData table3))
+    ∷ first (act (Verb.sendData given3))
     ∷ second (J.take normal)
     ∷ first (J.take normal)
     ∷ second (J.take normal)
@@ -107,8 +116,9 @@ reordered =
     ∷ second (J.take normal)
     ∷ second (act (Verb.receive (zeros 32)))
     ∷ second (act (Verb.receive (zeros 32)))
-    ∷ second (act (Verb.sendData (0x00 ∷ 0x06 ∷ 0x20 ∷ 0x21 ∷ 0x22 ∷ 0x23 ∷ 0x00 ∷ 0x05 ∷ [])))
-    ∷ second (act (Verb.sendData (0x30 ∷ 0x31 ∷ 0x32 ∷ 0x00 ∷ 0x02 ∷ 0x2B ∷ [])))
+    ∷ second (act (Verb.receive (zeros 32)))
+    ∷ second (act (Verb.sendData (0x80 ∷ 0x06 ∷ 0x20 ∷ 0x21 ∷ 0x22 ∷ 0x23 ∷ 0x00 ∷ 0x05 ∷ [])))
+    ∷ second (act (Verb.sendData (0x30 ∷ 0x31 ∷ 0x32 ∷ 0x00 ∷ 0x02 ∷ 0xAB ∷ [])))
     ∷ second (act (Verb.sendData (0x01 ∷ 0x02 ∷ 0x03 ∷ 0x04 ∷ 0x05 ∷ 0x06 ∷ 0x07 ∷ 0x08 ∷ [])))
     ∷ first (J.take normal)
     ∷ first (act (Verb.receive (zeros 64)))
@@ -120,13 +130,13 @@ talked = run sameLane acts takes ends calls
 -- ---- what happened, by computation
 
 pub record Happened : Type 0 where
-  pub given-out : bytesAccepted (talked .one .log) ≡ table1 ++ (table2 ++ table3)
-  pub read-out : bytesRead (talked .two .log) ≡ table1 ++ (table2 ++ table3)
+  pub given-out : bytesAccepted (talked .one .log) ≡ part1 ++ part2
+  pub read-out : bytesRead (talked .two .log) ≡ part1 ++ part2
   pub given-back : bytesAccepted (talked .two .log) ≡ reply1 ++ (reply2 ++ (reply3 ++ reply4))
-  -- back: one record is read; two bytes are in the inbox, a unit of eight on the line, six bytes in the send buffer
+  -- back: one part is read; two bytes are in the inbox, a unit of eight on the line, six bytes in the send buffer
   pub read-back : bytesRead (talked .one .log) ≡ reply1
   pub inbox-back : bytesInInbox (talked .one .end) ≡ 0x00 ∷ 0x05 ∷ []
-  pub line-back : bytesOnLine (talked .one .waiting normal) ≡ 0x30 ∷ 0x31 ∷ 0x32 ∷ 0x00 ∷ 0x02 ∷ 0x2B ∷ 0x01 ∷ 0x02 ∷ []
+  pub line-back : bytesOnLine (talked .one .waiting normal) ≡ 0x30 ∷ 0x31 ∷ 0x32 ∷ 0x00 ∷ 0x02 ∷ 0xAB ∷ 0x01 ∷ 0x02 ∷ []
   pub held-back : bytesInSendBuffer (talked .two .end) ≡ 0x03 ∷ 0x04 ∷ 0x05 ∷ 0x06 ∷ 0x07 ∷ 0x08 ∷ []
   -- at each end: the requests made, the credit left, the pacing answers taken
   pub counts-one : (requestsMade (talked .one .log) ≡ 3) × (creditOf (talked .one .end .end) ≡ 1) × (pacingResponsesTaken (talked .one .log) ≡ 1)
@@ -149,12 +159,12 @@ pub record Said : Type 0 where
   pub no-breach-one : breaches (talked .one .log) ≡ 0
   pub no-breach-two : breaches (talked .two .log) ≡ 0
   -- read, in the inbox, on the line, in the send buffer
-  pub bytes-out : table1 ++ (table2 ++ table3) ≡ (table1 ++ (table2 ++ table3)) ++ ([] ++ ([] ++ []))
+  pub bytes-out : part1 ++ part2 ≡ (part1 ++ part2) ++ ([] ++ ([] ++ []))
   pub bytes-back :
       reply1 ++ (reply2 ++ (reply3 ++ reply4))
       ≡ reply1
       ++ ((0x00 ∷ 0x05 ∷ [])
-      ++ ((0x30 ∷ 0x31 ∷ 0x32 ∷ 0x00 ∷ 0x02 ∷ 0x2B ∷ 0x01 ∷ 0x02 ∷ [])
+      ++ ((0x30 ∷ 0x31 ∷ 0x32 ∷ 0x00 ∷ 0x02 ∷ 0xAB ∷ 0x01 ∷ 0x02 ∷ [])
       ++ (0x03 ∷ 0x04 ∷ 0x05 ∷ 0x06 ∷ 0x07 ∷ 0x08 ∷ [])))
   -- three requests and one answer at each end, W 2: one credit is left
   pub credit-one : 3 + 1 ≡ 2 * (1 + 1)
@@ -163,20 +173,29 @@ pub record Said : Type 0 where
   pub same : talked ≡ run sameLane acts takes ends reordered
   -- the records read are the first of those given
   pub to-come-out : List (List ℕ)
-  pub records-out : (table1 ++ (table2 ++ table3)) ∷ [] ≡ ((table1 ++ (table2 ++ table3)) ∷ []) ++ to-come-out
+  pub records-out : part1 ∷ part2 ∷ [] ≡ (part1 ∷ part2 ∷ []) ++ to-come-out
   pub to-come-back : List (List ℕ)
   pub records-back : reply1 ∷ reply2 ∷ reply3 ∷ [] ≡ (reply1 ∷ []) ++ to-come-back
-  -- the places: the fourth record given is unfinished; the second is begun in the inbox
-  pub given-two : walk start (reply1 ++ (reply2 ++ (reply3 ++ reply4))) ≡ At (Remaining 11000)
-  pub read-one : walk start reply1 ≡ At Between
-  pub inbox-one : walk Between (0x00 ∷ 0x05 ∷ []) ≡ At (Remaining 3)
-  pub whole-one : isSend Receive ≡ false → isWhole Between ≡ true
-  pub given-one : walk start (table1 ++ (table2 ++ table3)) ≡ At Between
-  pub read-two : walk start (table1 ++ (table2 ++ table3)) ≡ At Between
-  pub inbox-two : walk Between [] ≡ At Between
-  pub whole-two : isSend Send ≡ false → isWhole (Remaining 11000) ≡ true
+  -- so are the tables: out the one given has been read; back none yet, since the part read says that another follows
+  pub tables-to-come-out : List (List (List ℕ))
+  pub tables-out : (part1 ∷ part2 ∷ []) ∷ [] ≡ ((part1 ∷ part2 ∷ []) ∷ []) ++ tables-to-come-out
+  pub tables-to-come-back : List (List (List ℕ))
+  pub tables-back : (reply1 ∷ reply2 ∷ []) ∷ (reply3 ∷ []) ∷ [] ≡ [] ++ tables-to-come-back
+  -- the places: the fourth record given is unfinished; the second is begun in the inbox, behind a part that says that another follows
+  pub given-two : walk start (reply1 ++ (reply2 ++ (reply3 ++ reply4))) ≡ At (Remaining true 11000)
+  pub read-one : walk start reply1 ≡ At (Between true)
+  pub inbox-one : walk (Between true) (0x00 ∷ 0x05 ∷ []) ≡ At (Remaining false 3)
+  pub whole-one : isSend Receive ≡ false → isWhole (Between false) ≡ true
+  pub given-one : walk start (part1 ++ part2) ≡ At (Between false)
+  pub read-two : walk start (part1 ++ part2) ≡ At (Between false)
+  pub inbox-two : walk (Between false) [] ≡ At (Between false)
+  pub whole-two : isSend Send ≡ false → isWhole (Remaining true 11000) ≡ true
+  -- some bytes finish that fourth record and its table
+  pub ends-two : CanEnd (Remaining true 11000)
   pub complete-one : CompleteIsRight (talked .one .log)
   pub complete-two : CompleteIsRight (talked .two .log)
+  pub more-one : MoreIsRight (talked .one .log)
+  pub more-two : MoreIsRight (talked .two .log)
   pub apart-one : NoneCrosses (talked .one .log)
   pub apart-two : NoneCrosses (talked .two .log)
   pub never-8-one : badReads (talked .one .log) ≡ 0

@@ -10,7 +10,8 @@ use lib.ListN.{length, take, drop, getD}
 use Rattle.header.specs.Weights.{on}
 use Rattle.logical_record.specs.Positions.{start, isWhole}
 use Rattle.logical_record.specs.Walk.{walk}
-use Rattle.logical_record.specs.Records.{wholeRecords, ended}
+use Rattle.logical_record.specs.Records.{wholeRecords, ended, lastBit, wholeTables}
+use Rattle.logical_record.specs.RecordClaims.{CanEnd}
 use Rattle.logical_record.specs.declared.Walked.the-variants as walked
 use Rattle.pacing.specs.declared.Window.{Window}
 use Rattle.control.specs.declared.State.the-variants.{Send}
@@ -175,6 +176,8 @@ pub record AtOneEnd (w : ℕ) (x : OneEnd) : Type 0 where
   -- what was given and not finished is what the end keeps; there is none outside Send
   pub unfinished : walk start (given x) ≡ walked.At (x .end .end .sending .given)
   pub finished : (x .end .end .control .state ≡ Send → ⊥) → isWhole (x .end .end .sending .given) ≡ true
+  -- whatever was given, some bytes finish it
+  pub can-finish : CanEnd (x .end .end .sending .given)
   -- what was read ends at the place read, and what the inbox holds goes on from there to the place taken
   pub read-so-far : walk start (hasRead x) ≡ walked.At (x .end .end .receiving .read)
   pub in-inbox : walk (x .end .end .receiving .read) (take (x .end .end .receiving .held) (x .end .inbox)) ≡ walked.At (x .end .end .receiving .taken)
@@ -185,10 +188,14 @@ pub record AtOneEnd (w : ℕ) (x : OneEnd) : Type 0 where
       → (r .answer .complete ≡ true → ended (walk start (each copied (story (acted v r us ∷ earlier)))) ≡ true)
       × (0 < r .answer .copied → ended (walk start (each copied (story (acted v r us ∷ earlier)))) ≡ true → r .answer .complete ≡ true)
       × ((n : ℕ) → 0 < n → n < r .answer .copied → ended (walk start (each copied (story earlier) ++ take n (r .buffer))) ≡ false)
-  -- no take said complete
+  -- and more exactly if it said complete and the last record read until then says that another part follows
+  pub parts : (later earlier : List Seen) (v : Verb) (r : Reply) (us : Lines Lane (List ℕ)) → x .log ≡ later ++ (acted v r us ∷ earlier)
+      → r .answer .more ≡ (r .answer .complete && lastBit (wholeRecords (each copied (story (acted v r us ∷ earlier)))))
+  -- no take said complete, nor more
   pub takes-none : All (λ r. r .answer .complete ≡ false) (each takeAnswer (story (x .log)))
+  pub takes-no-more : All (λ r. r .answer .more ≡ false) (each takeAnswer (story (x .log)))
 
--- of one direction, from x to y: bytes and records
+-- of one direction, from x to y: bytes, records and tables
 pub record OneWay (x y : OneEnd) : Type 0 where
   pub bytes :
       given x
@@ -198,6 +205,9 @@ pub record OneWay (x y : OneEnd) : Type 0 where
   -- the records read are the first of those given
   pub to-come : List (List ℕ)
   pub records : wholeRecords (given x) ≡ wholeRecords (hasRead y) ++ to-come
+  -- and the tables
+  pub tables-to-come : List (List (List ℕ))
+  pub tables : wholeTables (given x) ≡ wholeTables (hasRead y) ++ tables-to-come
 
 pub record Agree (n : Numbers) (p : Ends) : Type 0 where
   pub one-sends : p .one .end .end .control .state ≡ Send → p .two .end .end .control .state ≡ Send → ⊥

@@ -3,6 +3,7 @@
 use joined::always_good;
 use joined::joined_ends;
 use joined::the_records;
+use logical_record::theorems::record_places;
 ghost use Rattle.claim_in_use.specs.Conversation.{OneConversation};
 ghost use Rattle.claim_in_use.specs.OtherWords.{InOtherWords};
 
@@ -13,6 +14,7 @@ pub fn in_other_words()
     joined_ends();
     the_records();
     always_good();
+    record_places();
 }
 
 // The claim of one conversation and of one other order of its calls, in bytes and numbers.
@@ -22,4 +24,5 @@ pub fn one_conversation()
     joined_ends();
     the_records();
     always_good();
+    record_places();
 }

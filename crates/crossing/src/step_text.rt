@@ -34,6 +34,7 @@ fn answer_text(
         &unit[0..made],
         &buffer[0..copied],
         answer.complete,
+        answer.more,
         mark,
         out,
     )

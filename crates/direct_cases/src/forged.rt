@@ -61,7 +61,7 @@ pub fn refusal_5_forged_receives() -> bool {
     take_refused() & read_refused()
 }
 
-// A record of two bytes is taken whose chain goes on; its LL lies in the inbox.
+// A record of two bytes is taken; its LL lies in the inbox.
 fn take_first(inbox: &mut [u8]) -> Done {
     let end = opened_end(1);
     let mut unit = [0xA5u8; 69];
@@ -69,11 +69,17 @@ fn take_first(inbox: &mut [u8]) -> Done {
 }
 
 // The LL of a record taken is written over in the inbox: the read refuses it, and copies nothing.
-pub fn refusal_8_read() -> bool {
+fn read_refused_over(high: u8, low: u8) -> bool {
     let mut inbox = [0xA5u8; 192];
     let taken = take_first(&mut inbox);
     let reading = taken.end;
-    inbox[1] = 1;
+    inbox[0] = high;
+    inbox[1] = low;
     let right = read(reading, 8, &mut inbox);
-    (refusal_of(taken) == 0) & right & (inbox[0] == 0) & (inbox[1] == 1) & (inbox[2] == 0xA5)
+    (refusal_of(taken) == 0) & right & (inbox[0] == high) & (inbox[1] == low) & (inbox[2] == 0xA5)
+}
+
+// The top bit of LL is no part of the length.
+pub fn refusal_8_read() -> bool {
+    read_refused_over(0, 1) & read_refused_over(0x80, 1) & read_refused_over(0x80, 0)
 }

@@ -6,7 +6,7 @@ use mathlib.Core.List.{List, [], _∷_}
 use lib.Dec.{eqb, leb}
 use lib.ListN.{length, take, drop}
 use Rattle.cells.specs.Cells.{front}
-use Rattle.logical_record.specs.Positions.{isBetween}
+use Rattle.logical_record.specs.Positions.{isBetween, moreFollows}
 use Rattle.logical_record.specs.Walk.{walk, placeOr}
 use Rattle.logical_record.specs.RestOfRecord.{rest}
 use Rattle.logical_record.specs.declared.Position.{Position}
@@ -53,11 +53,11 @@ copyCount e inbox buffer = min buffer (min (e .receiving .held) (restBytes (reco
 abbrev pub placeRead : End → ℕ → List ℕ → Position
 placeRead e k inbox = placeOr (e .receiving .read) (walk (e .receiving .read) (take k inbox))
 
--- k bytes copied; complete is said when the record ends
+-- k bytes copied; complete is said when the record ends, and more if it then says that another part follows
 unfoldable pub bytesRead : End → ℕ → List ℕ → ReadDone
 bytesRead e k inbox =
     record {
-      answer = readAccepted k (isBetween (placeRead e k inbox)) mark.Nothing;
+      answer = readAccepted k (isBetween (placeRead e k inbox)) (moreFollows (placeRead e k inbox)) mark.Nothing;
       end = withReceiving (bytesGone k (placeRead e k inbox) (e .receiving)) e;
     }
 
@@ -65,7 +65,7 @@ bytesRead e k inbox =
 unfoldable pub markRead : End → ReadDone
 markRead e =
     record {
-      answer = readAccepted 0 false (e .control .mark);
+      answer = readAccepted 0 false false (e .control .mark);
       end = withControl (markAnswered (e .control)) e;
     }
 

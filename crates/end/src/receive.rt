@@ -12,6 +12,7 @@ use answers::numbers::BAD_RECORD;
 use answers::numbers::NOTHING_TO_READ;
 use logical_record::Rest;
 use logical_record::positions::is_between;
+use logical_record::positions::more_follows;
 use receiving::bytes_read::after_read;
 use receiving::bytes_read::copy_count;
 use receiving::bytes_read::hand_over;
@@ -50,7 +51,7 @@ impl End {
         let next = after_read(self.receiving, k, inbox);
         let place = next.read;
         ReadDone {
-            answer: bytes_read(k, is_between(place)),
+            answer: bytes_read(k, is_between(place), more_follows(place)),
             end: self.with_receiving(next),
         }
     }

@@ -1,13 +1,13 @@
 -- Each code and each part of an image, written and read, is what it was; and the other way round.
 -- Assumes nothing.
-use mathlib.Core.Path.{_≡_, refl, ap, _∙_}
-use mathlib.Core.Bool.{Bool, true, false, _&&_, _||_}
+use mathlib.Core.Path.{_≡_, refl, sym, ap, _∙_}
+use mathlib.Core.Bool.{Bool, true, false}
 use mathlib.Core.List.{List, [], _∷_}
 use Prim.Native.Nat.{ℕ, zero, suc, _+_, _*_, _/_, _%_, _<_, _≤_}
 use native.Mathlib.Nat.{div-add-mod', div-eq-of-lt, mod-eq-of-lt, mul-add-div-right, mul-add-mod-self-right, add-zero}
 use native.Mathlib.Omega.{arith}
 use lib.Dec.{eqb, leb}
-use borrow.Author.Tests.{leb-true, eqb-true}
+use borrow.Author.Tests.{leb-true, lt-leb, eqb-true, ne-eqb}
 use Rattle.unit.specs.Unit.{numberOf}
 use Rattle.header.specs.declared.Follows.{Follows}
 use Rattle.header.specs.declared.Follows.the-variants.{Stay, ChangeDirection, EndBracket}
@@ -23,7 +23,6 @@ use Rattle.control.specs.declared.WhatReceived.the-variants as mark
 use Rattle.control.specs.StateTests.{roleOf}
 use Rattle.image.specs.Codes.{stateOf, followsNumber, followsOf, markOf}
 use Rattle.image.specs.ImageParts.{flagByte, numberBytes, placeKind, placeValue, placeBytes, placeOf, placeFits, firstByte}
-use Rattle.bools.proofs.Tests.{both}
 
 past : {A : Type 0} (n k : ℕ) → leb n k ≡ true → k < n → A
 past n k h g = absurd (let l : n ≤ k = leb-true n k h in omega arith)
@@ -62,9 +61,11 @@ pub number-back : (n : ℕ) → numberOf (n / 256) (n % 256) ≡ n
 number-back n = div-add-mod' n 256
 
 pub place-back : (p : Position) → firstByte p < 256 → placeOf (placeKind p) (placeValue p % 256) (placeValue p / 256) ≡ p
-place-back Between h = refl
+place-back (Between true) h = refl
+place-back (Between false) h = refl
 place-back (AfterFirst b) h = ap AfterFirst (mod-eq-of-lt h)
-place-back (Remaining n) h = ap Remaining (number-back n)
+place-back (Remaining true n) h = rw (number-back n)
+place-back (Remaining false n) h = rw (number-back n)
 
 -- ---- each byte written is good
 
@@ -97,9 +98,11 @@ flag-good true = refl
 flag-good false = refl
 
 pub place-good : (p : Position) → firstByte p < 256 → placeFits (placeKind p) (placeValue p % 256) (placeValue p / 256) ≡ true
-place-good Between h = refl
+place-good (Between true) h = refl
+place-good (Between false) h = refl
 place-good (AfterFirst b) h = rw (div-eq-of-lt h)
-place-good (Remaining n) h = refl
+place-good (Remaining true n) h = refl
+place-good (Remaining false n) h = refl
 
 -- ---- read, and written again
 
@@ -142,12 +145,19 @@ number-there low high h =
     let m : (high * 256 + low) % 256 ≡ low = mul-add-mod-self-right high 256 low ∙ mod-eq-of-lt h in
     rw (d, m)
 
+-- a place between records has the number 0, whatever its kind
+none-there : (kind low high : ℕ) → eqb (numberOf high low) 0 ≡ true → _≡_ {A = List ℕ} (kind ∷ 0 ∷ 0 ∷ []) (kind ∷ low ∷ high ∷ [])
+none-there kind zero zero e = refl
+none-there kind zero (suc high) e = let z : numberOf (suc high) 0 ≡ 0 = eqb-true _ 0 e in absurd (omega arith)
+none-there kind (suc low) high e = let z : numberOf high (suc low) ≡ 0 = eqb-true _ 0 e in absurd (omega arith)
+
 pub place-there : (kind low high : ℕ) → low < 256 → placeFits kind low high ≡ true → placeBytes (placeOf kind low high) ≡ kind ∷ low ∷ high ∷ []
-place-there zero low high h e =
-    let f : (eqb low 0 ≡ true) × (eqb high 0 ≡ true) = both (eqb low 0) (eqb high 0) e in
-    rw (eqb-true low 0 (f .0), eqb-true high 0 (f .1))
-place-there (suc zero) low high h e = rw (eqb-true high 0 e, div-eq-of-lt h, mod-eq-of-lt h)
+place-there zero low high h e = none-there 0 low high e
+place-there (suc zero) low high h e = none-there 1 low high e
 place-there (suc (suc zero)) low high h e = ap (λ (l : List ℕ). 2 ∷ l) (number-there low high h)
-place-there (suc (suc (suc n))) low high h e =
-    let k : ℕ = suc (suc (suc n)) in
-    past k 2 (both (leb k 2) ((leb 1 k || eqb low 0) && (eqb k 2 || eqb high 0)) e .0) (omega arith)
+place-there (suc (suc (suc zero))) low high h e = ap (λ (l : List ℕ). 3 ∷ l) (number-there low high h)
+place-there (suc (suc (suc (suc zero)))) low high h e = rw (eqb-true high 0 e, div-eq-of-lt h, mod-eq-of-lt h)
+place-there (suc (suc (suc (suc (suc n))))) low high h e =
+    let k : ℕ = suc (suc (suc (suc (suc n)))) in
+    let f : placeFits k low high ≡ leb k 3 = rw (lt-leb k 1 (omega arith), ne-eqb k 4 (λ z. omega arith)) in
+    past k 3 (sym f ∙ e) (omega arith)

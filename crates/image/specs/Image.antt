@@ -23,7 +23,7 @@ IMAGE = 42
 
 -- an image's first byte, raised with each change of what an image holds; images without it began with the role, 0 or 1
 abbrev pub FORMAT : ℕ
-FORMAT = 2
+FORMAT = 3
 
 -- ---- a record written
 

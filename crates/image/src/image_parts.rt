@@ -9,7 +9,8 @@ ghost use Prim.Native.Nat.{_+_, _≤_};
 ghost use lib.ListN.{length};
 ghost use Rattle.cells.specs.Cells.{written};
 ghost use Rattle.unit.specs.Unit.{numberOf};
-ghost use Rattle.image.specs.ImageParts.{numberBytes, numberAt, windowBytes, placeKind, placeValue, placeBytes, placeAt, placeGood};
+ghost use Rattle.image.specs.ImageParts.{numberBytes, numberAt, windowBytes};
+ghost use Rattle.image.specs.ImageParts.{placeKind, placeValue, placeBytes, placeAt, placeGood};
 
 fn number_of(low: u8, high: u8) -> u16
     ensures { λ r. ⌜ r ≡ numberOf high low ⌝ }
@@ -41,13 +42,14 @@ pub fn write_window(image: &mut [u8], at: usize, w: Window)
     image[at + 2] = flag_code(w.pending);
 }
 
+// The kinds are numbered so that few tests tell a place.
 fn place_kind(p: Position) -> u8
     ensures { λ r. ⌜ r ≡ placeKind p ⌝ }
 {
     match p {
-        Position::Between => 0,
-        Position::AfterFirst(_) => 1,
-        Position::Remaining(_) => 2,
+        Position::Between(more) => if more { 1 } else { 0 },
+        Position::AfterFirst(_) => 4,
+        Position::Remaining(more, _) => if more { 3 } else { 2 },
     }
 }
 
@@ -55,9 +57,9 @@ fn place_value(p: Position) -> u16
     ensures { λ r. ⌜ r ≡ placeValue p ⌝ }
 {
     match p {
-        Position::Between => 0,
+        Position::Between(_) => 0,
         Position::AfterFirst(byte) => byte as u16,
-        Position::Remaining(n) => n,
+        Position::Remaining(_, n) => n,
     }
 }
 
@@ -66,13 +68,13 @@ pub fn place_at(image: &[u8], at: usize) -> Position
     ensures { λ r. ⌜ r ≡ placeAt (now (image .entry)) at ⌝ }
 {
     let kind = image[at];
-    if kind > 1 {
-        return Position::Remaining(number_at(image, at + 1));
+    if kind <= 1 {
+        return Position::Between(kind == 1);
     }
-    if kind == 1 {
+    if kind == 4 {
         return Position::AfterFirst(image[at + 1]);
     }
-    Position::Between
+    Position::Remaining(kind == 3, number_at(image, at + 1))
 }
 
 // Between records the value is 0; after the first LL byte it is one byte.
@@ -81,13 +83,13 @@ pub fn place_good_at(image: &[u8], at: usize) -> bool
     ensures { λ r. ⌜ r ≡ placeGood (now (image .entry)) at ⌝ }
 {
     let kind = image[at];
-    if kind > 1 {
-        return kind == 2;
+    if kind <= 1 {
+        return number_at(image, at + 1) == 0;
     }
-    if kind == 1 {
+    if kind == 4 {
         return image[at + 2] == 0;
     }
-    number_at(image, at + 1) == 0
+    kind <= 3
 }
 
 pub fn write_place(image: &mut [u8], at: usize, p: Position)

@@ -3,7 +3,7 @@
 //
 // | byte     | what                                                                            |
 // |----------|---------------------------------------------------------------------------------|
-// | 0        | the format, 2                                                                   |
+// | 0        | the format, 3                                                                   |
 // | 1        | role: 0 first speaker, 1 bidder                                                 |
 // | 2        | state: 0 Reset, 1 Send, 2 Receive, 3 Owes, 4 Waits                              |
 // | 3        | what follows a confirmation: 0 stay, 1 turn, 2 end                              |
@@ -31,8 +31,9 @@
 // | 38 to 39 | the bid's number                                                                |
 // | 40 to 41 | the number owed a confirmation                                                  |
 //
-// A record place is a kind byte and a value of two bytes: kind 0 between records, value 0; kind 1 after the first LL byte, that
-// byte as the value, at most 255; kind 2 past LL, the number of bytes left.
+// A record place is a kind byte and a value of two bytes: kind 0 between records, value 0; kind 2 past LL, the number of bytes left;
+// kinds 1 and 3 are 0 and 2 where LL says that another part follows; kind 4 after the first LL byte, that byte as the value, at most
+// 255.
 pub mod codes;
 pub mod decoding;
 pub mod encoding;
@@ -44,7 +45,7 @@ pub const IMAGE: usize = 42;
 
 // An image's first byte, raised with each change of what an image holds, so that one kept by an older library is refused and not
 // misread. Images without it began with the role, 0 or 1.
-pub const FORMAT: u8 = 2;
+pub const FORMAT: u8 = 3;
 
 // What an image holds: a record, or a refusal number: 4 where the length is wrong, 5 where the format is another or a value is one
 // that no record has.

@@ -14,9 +14,9 @@ fn first_byte(p: Position) -> u8
     ensures { λ r. ⌜ r ≡ firstByte p ⌝ }
 {
     match p {
-        Position::Between => 0,
+        Position::Between(_) => 0,
         Position::AfterFirst(byte) => byte,
-        Position::Remaining(_) => 0,
+        Position::Remaining(_, _) => 0,
     }
 }
 

@@ -4,13 +4,14 @@ use Rattle.joined.proofs.JoinedWords.{ℕ, length, List, [], _∷_, _++
 use Prim.Native.Nat.{_+_, _*_}
 use Rattle.joined.proofs.JoinedWords.{Bidder, send-is, Session, freshEnd, Station, Reply, Verb, opened-is, Pair, Lane, normal, acts, takes, sameLane}
 use Rattle.joined.proofs.JoinedWords.{Buffers, OpeningAccepted, openedWith, openedBoth, bytesInSendBuffer, Log, bytesAccepted, bytesOnLine}
-use Rattle.joined.proofs.JoinedWords.{bytesInInbox, requestsMade, pacingResponsesTaken, breaches, badReads, CompleteIsRight, NoneCrosses, At, Lines}
-use Rattle.logical_record.specs.Records.{wholeRecords}
+use Rattle.joined.proofs.JoinedWords.{bytesInInbox, requestsMade, pacingResponsesTaken, breaches, badReads, CompleteIsRight, MoreIsRight, NoneCrosses, At, Lines}
+use Rattle.logical_record.specs.Records.{wholeRecords, tablesFrom}
 use Rattle.logical_record.proofs.WholeRecords.{whole-records-append}
+use Rattle.logical_record.proofs.WholeTables.{tables-append}
 use Rattle.control.specs.StateTests.{roleOf}
 use Rattle.joined.specs.Ends.{JoinedOpenings}
 use Rattle.joined.specs.Histories.{bytesRead}
-use Rattle.joined.specs.Claim.{JoinedEnd, after, BytesConserved, Joint, Claim, RecordsArrive, ReadsRight, TheRecords}
+use Rattle.joined.specs.Claim.{JoinedEnd, after, BytesConserved, Joint, Claim, RecordsArrive, TablesArrive, ReadsRight, TheRecords}
 use Rattle.joined.proofs.Confluence.{confluent}
 use Rattle.joined.proofs.EveryList.{Fact, Keeps, AfterAct, AfterTake, Ways, run-ways}
 use Rattle.calls.proofs.WindowSizes.{sizeOf, size-acts, size-takes}
@@ -155,7 +156,7 @@ opened-as : (r : Role) (s : Session) (b : Buffers) → roleOf (s .role) ≡ r �
 opened-as r s b e a = rw (opened-is s (length (b .send)) (length (b .unit)) (length (b .inbox)) a .1, e)
 
 local-fresh : (r : Role) (s : Session) (b : Buffers) → Local (valuesOf (station r s b)) []
-unfolding thenWalk bytesAccepted bytesRead requestsMade pacingResponsesTaken CompleteIsRight NoneCrosses badReads breaches credit
+unfolding thenWalk bytesAccepted bytesRead requestsMade pacingResponsesTaken CompleteIsRight MoreIsRight NoneCrosses badReads breaches credit
 local-fresh r s b =
     record {
       given = refl;
@@ -164,6 +165,7 @@ local-fresh r s b =
       inbox = refl;
       counted = omega arith;
       complete = tt;
+      more = tt;
       apart = tt;
       never-8 = refl;
       no-breach = refl;
@@ -250,16 +252,36 @@ arrive x y e =
     let q = whole-records-append (bytesRead (y .log)) rest in
     record { still-to-come = _; first-are-read = ap wholeRecords e ∙ q }
 
+-- the records that are still to come go on with the table that is begun
+tables-arrive : (x y : JoinedEnd) → RecordsArrive x y → TablesArrive x y
+tables-arrive x y r =
+    let q = tables-append (wholeRecords (bytesRead (y .log))) (r .still-to-come) in
+    record { still-to-come = _; first-are-read = ap (tablesFrom []) (r .first-are-read) ∙ q }
+
 reads-of : (x : JoinedEnd) → Local (valuesOf (x .end)) (x .log) → ReadsRight x
-reads-of x l = record { given = l .given; read = l .read; inbox = l .inbox; complete = l .complete; apart = l .apart; never-8 = l .never-8; whole = l .whole }
+reads-of x l =
+    record {
+      given = l .given;
+      read = l .read;
+      inbox = l .inbox;
+      complete = l .complete;
+      more = l .more;
+      apart = l .apart;
+      never-8 = l .never-8;
+      whole = l .whole;
+    }
 
 pub the-records : TheRecords
 the-records s t b c l j =
     let p = after s t b c l in
     let i = every-list s t b c l j in
+    let out = arrive (p .one) (p .two) (i .out .carried .bytes) in
+    let back = arrive (p .two) (p .one) (i .into .carried .bytes) in
     record {
-      out = arrive (p .one) (p .two) (i .out .carried .bytes);
-      back = arrive (p .two) (p .one) (i .into .carried .bytes);
+      out = out;
+      back = back;
+      tables-out = tables-arrive (p .one) (p .two) out;
+      tables-back = tables-arrive (p .two) (p .one) back;
       one = reads-of (p .one) (i .here .local);
       two = reads-of (p .two) (i .there .local);
     }

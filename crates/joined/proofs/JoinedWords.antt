@@ -57,5 +57,5 @@ pub use Rattle.joined.specs.{Histories.isBreach, Joined.Acted, Joined.To
 pub use Rattle.joined.specs.{Joined.Both, Joined.Local, Joined.Event, Joined.took, Joined.takeOldest, Joined.apply, Joined.run, Joined.acted}
 pub use Rattle.joined.specs.{Lanes.Lines, Lanes.join, Lanes.put}
 unfoldable pub use Rattle.joined.specs.{Ends.acts, Ends.takes, Histories.bytesAccepted, Histories.bytesOnLine, Histories.requestsMade}
-unfoldable pub use Rattle.joined.specs.{Histories.pacingResponsesTaken, Histories.breaches, Histories.badReads, Histories.CompleteIsRight}
+unfoldable pub use Rattle.joined.specs.{Histories.pacingResponsesTaken, Histories.breaches, Histories.badReads, Histories.CompleteIsRight, Histories.MoreIsRight}
 unfoldable pub use Rattle.joined.specs.{Histories.NoneCrosses, Joined.step}

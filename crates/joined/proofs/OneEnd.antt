@@ -4,10 +4,11 @@ use Rattle.joined.proofs.JoinedWords.{ℕ, _+_, _*_, _≤_, _<_, eqb, t
 use Rattle.joined.proofs.JoinedWords.{_∙_, arith, isWhole, ended, thenWalk, walk, Position, Walked, walk-append, walk-prefix, Through, same-position}
 use Rattle.joined.proofs.JoinedWords.{credit, isSend, WhatReceived, readRefused, accepted, Station, Reply, Verb, count, isPacingResponse}
 use Rattle.joined.proofs.JoinedWords.{requestsAmong, Lane, normal, onNormal, Log, bytesAccepted, bytesInInbox, requestsMade, pacingResponsesTaken}
-use Rattle.joined.proofs.JoinedWords.{breaches, badReads, CompleteIsRight, NoneCrosses, isBreach, took, acted, Lines}
+use Rattle.joined.proofs.JoinedWords.{breaches, badReads, CompleteIsRight, MoreIsRight, NoneCrosses, isBreach, took, acted, Lines}
 use native.Mathlib.Nat.{zero-add}
 use borrow.Author.Tests.{ne-eqb}
-use Rattle.logical_record.specs.Positions.{start, isBetween}
+use Rattle.logical_record.specs.Positions.{start, isBetween, moreFollows}
+use Rattle.logical_record.proofs.WholeRecords.{bit-remembered}
 use Rattle.logical_record.specs.declared.Walked.the-variants.{At}
 use Rattle.control.specs.declared.WhatReceived.the-variants as mark
 use Rattle.answers.specs.Answers.{refused, refusedNaming}
@@ -50,6 +51,7 @@ pub record Local (v : Values) (xs : Log) : Type 0 where
   pub inbox : walk (v .inner .read) (v .inner .inbox) ≡ At (v .inner .taken)
   pub counted : requestsMade xs + v .credit ≡ v .inner .size * (1 + pacingResponsesTaken xs)
   pub complete : CompleteIsRight xs
+  pub more : MoreIsRight xs
   pub apart : NoneCrosses xs
   pub never-8 : badReads xs ≡ 0
   pub no-breach : breaches xs ≡ 0
@@ -60,7 +62,7 @@ walk-more bs new p q e f = walk-append start bs new ∙ ap (λ (w : Walked). the
 -- ---- a call that copies no byte: bytes may be given, units made, a mark answered
 
 abbrev pub reply : Answer → WhatReceived → List ℕ → Reply
-reply a m buffer = record { answer = record { answer = a; copied = 0; complete = false; mark = m }; buffer = buffer }
+reply a m buffer = record { answer = record { answer = a; copied = 0; complete = false; more = false; mark = m }; buffer = buffer }
 
 pub local-act :
     {v : Values} {xs : Log} (verb : Verb) (a : Answer) (m : WhatReceived) (buffer : List ℕ) (us : Lines Lane (List ℕ)) (w : Values)
@@ -71,7 +73,7 @@ pub local-act :
     → requestsAmong (us normal) + w .credit ≡ v .credit
     → isBadRead verb (a .refusal) ≡ false
     → Local w (acted verb (reply a m buffer) us ∷ xs)
-unfolding bytesAccepted bytesRead requestsMade pacingResponsesTaken CompleteIsRight NoneCrosses badReads breaches
+unfolding bytesAccepted bytesRead requestsMade pacingResponsesTaken CompleteIsRight MoreIsRight NoneCrosses badReads breaches
 local-act {v} {xs} verb a m buffer us w l g h r c b =
     record {
       given = walk-more (bytesAccepted xs) (given verb (a .refusal)) (v .given) (w .given) (l .given) g;
@@ -80,6 +82,7 @@ local-act {v} {xs} verb a m buffer us w l g h r c b =
       inbox = rw r (l .inbox);
       counted = rw r (let q = l .counted in omega (arith, q, c));
       complete = (refl, l .complete);
+      more = (refl, l .more);
       apart = (λ n some few. absurd (omega arith), l .apart);
       never-8 = rw b (zero-add (badReads xs) ∙ l .never-8);
       no-breach = l .no-breach;
@@ -126,9 +129,9 @@ pub local-read :
     → w .credit ≡ v .credit
     → Local w
     (acted (Verb.receive asked)
-    (record { answer = record { answer = accepted 0; copied = k; complete = isBetween (w .inner .read); mark = mark.Nothing }; buffer = buffer })
+    (record { answer = record { answer = accepted 0; copied = k; complete = isBetween (w .inner .read); more = moreFollows (w .inner .read); mark = mark.Nothing }; buffer = buffer })
     (onNormal []) ∷ xs)
-unfolding bytesAccepted bytesRead requestsAmong requestsMade pacingResponsesTaken CompleteIsRight NoneCrosses badReads breaches
+unfolding bytesAccepted bytesRead requestsAmong requestsMade pacingResponsesTaken CompleteIsRight MoreIsRight NoneCrosses badReads breaches
 local-read {v} {xs} asked k first rest buffer w l some f i r within b d g t z c =
     let p = v .inner .read in
     let q = w .inner .read in
@@ -145,6 +148,7 @@ local-read {v} {xs} asked k first rest buffer w l some f i r within b d g t z c 
             rw (n, read′),
         l .complete,
       );
+      more = (bit-remembered (bytesRead xs ++ take k buffer) q read′, l .more);
       apart = (
         λ n x y. ap ended (walk-append start (bytesRead xs) (take n buffer) ∙ ap (λ (w : Walked). thenWalk w (take n buffer)) (l .read)) ∙ within n x y,
         l .apart,
@@ -171,7 +175,7 @@ pub local-took :
     → w .inner .size ≡ v .inner .size
     → requestsAmong (us normal) + w .credit ≡ v .credit + v .inner .size * count b
     → Local w (took lane u (plain a) us ∷ xs)
-unfolding bytesAccepted bytesRead requestsMade pacingResponsesTaken CompleteIsRight NoneCrosses badReads breaches
+unfolding bytesAccepted bytesRead requestsMade pacingResponsesTaken CompleteIsRight MoreIsRight NoneCrosses badReads breaches
 local-took {v} {xs} lane u a us b w l p q g h r i z c =
     record {
       given = rw g (l .given);
@@ -182,6 +186,7 @@ local-took {v} {xs} lane u a us b w l p q g h r i z c =
           rw (z, p)
           (counts b (requestsAmong (us normal)) (requestsMade xs) (w .credit) (v .credit) (v .inner .size) (pacingResponsesTaken xs) (l .counted) c);
       complete = (refl, l .complete);
+      more = (refl, l .more);
       apart = l .apart;
       never-8 = l .never-8;
       no-breach = rw q (zero-add (breaches xs) ∙ l .no-breach);

@@ -6,7 +6,7 @@ use mathlib.Core.Bool.{true, false}
 use mathlib.Core.List.{List, [], _∷_, _++_}
 use Rattle.logical_record.specs.Positions.{start, isWhole}
 use Rattle.logical_record.specs.Walk.{walk}
-use Rattle.logical_record.specs.Records.{wholeRecords}
+use Rattle.logical_record.specs.Records.{wholeRecords, wholeTables}
 use Rattle.logical_record.specs.declared.Walked.the-variants as walked
 use Rattle.control.specs.Questions.{holdsSend}
 use Rattle.answers.specs.Answers.{BAD-RECORD}
@@ -14,7 +14,7 @@ use Rattle.end.specs.Record.{recordGood, creditOf}
 use Rattle.session.specs.declared.Session.{Session}
 use Rattle.joined.specs.Joined.{Call, act, take, At, first, second, Side, Both, firsts, seconds, run, AllFed}
 use Rattle.joined.specs.Ends.{Lane, normal, sameLane, Buffers, OpeningAccepted, JoinedOpenings, openedBoth, acts, takes}
-use Rattle.joined.specs.Histories.{bytesAccepted, bytesRead, bytesOnLine, bytesInInbox, bytesInSendBuffer, requestsMade, pacingResponsesTaken, breaches, refusedWith, badReads, CompleteIsRight, NoneCrosses}
+use Rattle.joined.specs.Histories.{bytesAccepted, bytesRead, bytesOnLine, bytesInInbox, bytesInSendBuffer, requestsMade, pacingResponsesTaken, breaches, refusedWith, badReads, CompleteIsRight, MoreIsRight, NoneCrosses}
 use Rattle.calls.specs.Calls.{Reply, Station, Verb}
 use Rattle.calls.specs.Laws.{AllBytes, BytesOf}
 
@@ -76,6 +76,12 @@ pub record RecordsArrive (x y : JoinedEnd) : Type 0 where
   pub still-to-come : List (List ℕ)
   pub first-are-read : wholeRecords (bytesAccepted (x .log)) ≡ wholeRecords (bytesRead (y .log)) ++ still-to-come
 
+-- Join these records into tables, up to each that says that no other part follows: the whole tables read at y are exactly the first of these, in
+-- order, each with its records.
+pub record TablesArrive (x y : JoinedEnd) : Type 0 where
+  pub still-to-come : List (List (List ℕ))
+  pub first-are-read : wholeTables (bytesAccepted (x .log)) ≡ wholeTables (bytesRead (y .log)) ++ still-to-come
+
 -- What reads hand out is cut exactly at record ends; and the places that the end keeps are those of the bytes given and read.
 pub record ReadsRight (x : JoinedEnd) : Type 0 where
   -- the bytes accepted so far walk to the given place
@@ -85,16 +91,20 @@ pub record ReadsRight (x : JoinedEnd) : Type 0 where
   pub inbox : walk (x .end .end .receiving .read) (bytesInInbox (x .end)) ≡ walked.At (x .end .end .receiving .taken)
   -- 'complete' is said exactly when the bytes read so far are whole records
   pub complete : CompleteIsRight (x .log)
+  -- 'more' beside it exactly when the record completed says that another part follows
+  pub more : MoreIsRight (x .log)
   -- no read crosses a record's end
   pub apart : NoneCrosses (x .log)
   -- no read is refused with 8
   pub never-8 : badReads (x .log) ≡ 0
-  -- outside Send the given place is between records
+  -- outside Send nothing given is unfinished, neither a record nor a table
   pub whole : holdsSend (x .end .end .control) ≡ false → isWhole (x .end .end .sending .given) ≡ true
 
 pub record Records (p : Pair) : Type 0 where
   pub out : RecordsArrive (p .one) (p .two)
   pub back : RecordsArrive (p .two) (p .one)
+  pub tables-out : TablesArrive (p .one) (p .two)
+  pub tables-back : TablesArrive (p .two) (p .one)
   pub one : ReadsRight (p .one)
   pub two : ReadsRight (p .two)
 

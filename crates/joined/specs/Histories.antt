@@ -8,7 +8,7 @@ use lib.ListN.{take}
 use mathlib.Core.Path.{_≡_}
 use Rattle.logical_record.specs.Positions.{start}
 use Rattle.logical_record.specs.Walk.{walk}
-use Rattle.logical_record.specs.Records.{ended}
+use Rattle.logical_record.specs.Records.{ended, wholeRecords, lastBit}
 use Rattle.header.specs.Rules.{bytes}
 use Rattle.answers.specs.Answers.{BAD-LL}
 use Rattle.calls.specs.UnitCounts.{count, dataRu, requestsAmong, isPacingResponse}
@@ -108,6 +108,13 @@ CompleteIsRight [] = Unit {0}
 CompleteIsRight (acted v r us ∷ es) =
     (r .answer .complete ≡ (not (eqb (r .answer .copied) 0) && ended (walk start (bytesRead (acted v r us ∷ es))))) × CompleteIsRight es
 CompleteIsRight (took l u r us ∷ es) = (r .answer .complete ≡ false) × CompleteIsRight es
+
+-- 'more' is said exactly by the calls that say 'complete' of a record that says that another part follows
+unfoldable pub MoreIsRight : Log → Type 0
+MoreIsRight [] = Unit {0}
+MoreIsRight (acted v r us ∷ es) =
+    (r .answer .more ≡ (r .answer .complete && lastBit (wholeRecords (bytesRead (acted v r us ∷ es))))) × MoreIsRight es
+MoreIsRight (took l u r us ∷ es) = (r .answer .more ≡ false) × MoreIsRight es
 
 -- no read crosses a record's end: no proper, non-empty front of the bytes that one read copied ends a record
 unfoldable pub NoneCrosses : Log → Type 0

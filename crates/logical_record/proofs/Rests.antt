@@ -1,7 +1,7 @@
 -- A read of at most the rest of the current record meets no bad LL, and ends the record exactly when it takes all of that rest.
 -- Assumes nothing.
 use mathlib.Core.Path.{_≡_, refl, sym, ap, _∙_}
-use mathlib.Core.Bool.{Bool, true, false, cond, _&&_, and-true, and-false}
+use mathlib.Core.Bool.{Bool, true, false, _&&_, and-true, and-false}
 use mathlib.Core.List.{List, [], _∷_}
 use Prim.Native.Nat.{ℕ, zero, suc, _-_, _≤_, _<_}
 use native.Mathlib.Omega.{arith}
@@ -9,10 +9,12 @@ use lib.ListN.{length, take}
 use lib.Seq.{length-take-le}
 use lib.Dec.{eqb, leb}
 use borrow.Author.Tests.{ne-eqb, leb-true}
-use Rattle.logical_record.specs.Length.{lengthOf, lengthGood}
+use Rattle.logical_record.specs.Length.{lengthOf}
 use Rattle.logical_record.specs.Positions.{remaining, mostRemaining, isPosition, isBetween}
-use Rattle.logical_record.specs.Walk.{thenWalk, walk}
-use Rattle.logical_record.specs.RestOfRecord.{rest, restGood, lengthMet}
+use Rattle.logical_record.specs.Walk.{passed, thenWalk, walk}
+use Rattle.logical_record.specs.RestOfRecord.{rest, restPast, lengthMet}
+use Rattle.logical_record.specs.declared.Length.{Length}
+use Rattle.logical_record.specs.declared.Length.the-variants.{Part, Bad}
 use Rattle.logical_record.specs.declared.Position.{Position}
 use Rattle.logical_record.specs.declared.Position.the-variants.{Between, AfterFirst, Remaining}
 use Rattle.logical_record.specs.declared.Walked.the-variants.{At}
@@ -24,13 +26,19 @@ use Rattle.logical_record.proofs.Walks.{walk-bad, at-not-bad}
 use Rattle.logical_record.proofs.RecordEnds.{Inside, walk-data, walk-after-first, walk-front}
 use Rattle.bools.proofs.Tests.{both}
 
--- what a rest that is a number of bytes says
-rest-good′ : (t : Bool) (length m n : ℕ) → lengthGood length ≡ t → cond t (Bytes m) BadLength ≡ Bytes n → (lengthGood length ≡ true) × (m ≡ n)
-rest-good′ true length m n g e = (g, cc)
-rest-good′ false length m n g e = absurd (let z : _≡_ {A = ℕ} 0 1 = cc in omega arith)
+-- what a rest that is a number of bytes says of LL
+record LengthIs (high low k n : ℕ) : Type 0 where
+  whole : ℕ
+  more : Bool
+  says : lengthOf high low ≡ Part whole more
+  left : whole - k ≡ n
 
-rest-is-good : (length m n : ℕ) → restGood length m ≡ Bytes n → (lengthGood length ≡ true) × (m ≡ n)
-rest-is-good length m n e = rest-good′ (lengthGood length) length m n refl e
+rest-is-good′ : (l : Length) (high low k n : ℕ) → lengthOf high low ≡ l → restPast k l ≡ Bytes n → LengthIs high low k n
+rest-is-good′ (Part m more) high low k n g e = record { whole = m; more = more; says = g; left = cc }
+rest-is-good′ Bad high low k n g e = absurd (let z : _≡_ {A = ℕ} 0 1 = cc in omega arith)
+
+rest-is-good : (high low k n : ℕ) → restPast k (lengthOf high low) ≡ Bytes n → LengthIs high low k n
+rest-is-good high low k n e = rest-is-good′ (lengthOf high low) high low k n refl e
 
 -- where a read of k of the n bytes of the rest leads
 pub record ReadTo (p : Position) (held : List ℕ) (n k : ℕ) : Type 0 where
@@ -39,50 +47,53 @@ pub record ReadTo (p : Position) (held : List ℕ) (n k : ℕ) : Type 0 where
   pub between : isBetween position ≡ (eqb k n && lengthMet p held)
 
 -- with m left after LL, of which j are read
-read-data : (m j k n : ℕ) → n - k ≡ m - j → k ≤ n → isBetween (remaining (m - j)) ≡ (eqb k n && true)
-read-data m j k n e h =
-    between-remaining (m - j)
+read-data : (m j k n : ℕ) (more : Bool) → n - k ≡ m - j → k ≤ n → isBetween (remaining (m - j) more) ≡ (eqb k n && true)
+read-data m j k n more e h =
+    between-remaining (m - j) more
     ∙ (ap (λ (i : ℕ). eqb i 0) (sym e) ∙ (eqb-none k n h ∙ sym (and-true (eqb k n))))
 
 pub read-to :
     (p : Position) (held : List ℕ) (n k : ℕ) → rest p held ≡ Bytes n → 0 < k → k ≤ n → k ≤ length held → ReadTo p held n k
 unfolding thenWalk
-read-to Between [] n k e some h l = absurd (omega arith)
-read-to Between (high ∷ []) n zero e some h l = absurd (omega arith)
-read-to Between (high ∷ []) n (suc zero) e some h l =
+read-to (Between before) [] n k e some h l = absurd (omega arith)
+read-to (Between before) (high ∷ []) n zero e some h l = absurd (omega arith)
+read-to (Between before) (high ∷ []) n (suc zero) e some h l =
     record { position = AfterFirst high; reached = refl; between = sym (and-false (eqb 1 n)) }
-read-to Between (high ∷ []) n (suc (suc k)) e some h l = absurd (omega arith)
-read-to Between (high ∷ low ∷ bs) n zero e some h l = absurd (omega arith)
-read-to Between (high ∷ low ∷ bs) n (suc zero) e some h l =
-    let t = rest-is-good (lengthOf high low) (lengthOf high low) n e in
-    let b = length-bounds (lengthOf high low) (t .0) in
-    record { position = AfterFirst high; reached = refl; between = rw (ne-eqb 1 n (λ f. omega arith)) }
-read-to Between (high ∷ low ∷ bs) n (suc (suc k)) e some h l =
-    let t = rest-is-good (lengthOf high low) (lengthOf high low) n e in
+read-to (Between before) (high ∷ []) n (suc (suc k)) e some h l = absurd (omega arith)
+read-to (Between before) (high ∷ low ∷ bs) n zero e some h l = absurd (omega arith)
+read-to (Between before) (high ∷ low ∷ bs) n (suc zero) e some h l =
+    let t = rest-is-good high low 0 n e in
+    let b = length-bounds high low (t .whole) (t .more) (t .says) in
+    let f = t .left in
+    record { position = AfterFirst high; reached = refl; between = rw (ne-eqb 1 n (λ g. omega arith)) }
+read-to (Between before) (high ∷ low ∷ bs) n (suc (suc k)) e some h l =
+    let t = rest-is-good high low 0 n e in
+    let g = t .left in
     let f = length-take-le k bs (omega arith) in
     record {
-      position = remaining (lengthOf high low - 2 - length (take k bs));
-      reached = walk-front high low (take k bs) (t .0) (omega arith);
-      between = read-data (lengthOf high low - 2) (length (take k bs)) (suc (suc k)) n (omega arith) h;
+      position = remaining (t .whole - 2 - length (take k bs)) (t .more);
+      reached = walk-front before high low (t .whole) (t .more) (take k bs) (t .says) (omega arith);
+      between = read-data (t .whole - 2) (length (take k bs)) (suc (suc k)) n (t .more) (omega arith) h;
     }
 read-to (AfterFirst high) [] n k e some h l = absurd (omega arith)
 read-to (AfterFirst high) (low ∷ bs) n zero e some h l = absurd (omega arith)
 read-to (AfterFirst high) (low ∷ bs) n (suc k) e some h l =
-    let t = rest-is-good (lengthOf high low) (lengthOf high low - 1) n e in
-    let b = length-bounds (lengthOf high low) (t .0) in
+    let t = rest-is-good high low 1 n e in
+    let g = t .left in
+    let b = length-bounds high low (t .whole) (t .more) (t .says) in
     let f = length-take-le k bs (omega arith) in
     record {
-      position = remaining (lengthOf high low - 2 - length (take k bs));
-      reached = walk-after-first high low (take k bs) (t .0) (omega arith);
-      between = read-data (lengthOf high low - 2) (length (take k bs)) (suc k) n (omega arith) h;
+      position = remaining (t .whole - 2 - length (take k bs)) (t .more);
+      reached = walk-after-first high low (t .whole) (t .more) (take k bs) (t .says) (omega arith);
+      between = read-data (t .whole - 2) (length (take k bs)) (suc k) n (t .more) (omega arith) h;
     }
-read-to (Remaining m) held n k e some h l =
+read-to (Remaining more m) held n k e some h l =
     let e′ : m ≡ n = cc in
     let f = length-take-le k held l in
     record {
-      position = remaining (m - length (take k held));
-      reached = rw (← remaining-some m (omega arith)) (walk-data m (take k held) (omega arith));
-      between = read-data m (length (take k held)) k n (omega arith) h;
+      position = remaining (m - length (take k held)) more;
+      reached = rw (← remaining-some m more (omega arith)) (walk-data m more (take k held) (omega arith));
+      between = read-data m (length (take k held)) k n more (omega arith) h;
     }
 
 -- with fewer bytes read than the rest has, the record does not end
@@ -102,38 +113,38 @@ rest-inside p held n k e some h l =
 -- with a byte held, there is something to read
 pub rest-some :
     (p : Position) (held : List ℕ) (n : ℕ) → isPosition p ≡ true → 0 < length held → rest p held ≡ Bytes n → 0 < n
-rest-some Between [] n v h e = absurd (omega arith)
-rest-some Between (high ∷ []) n v h e = let f : 1 ≡ n = cc in omega arith
-rest-some Between (high ∷ low ∷ bs) n v h e =
-    let t = rest-is-good (lengthOf high low) (lengthOf high low) n e in
-    let b = length-bounds (lengthOf high low) (t .0) in
+rest-some (Between before) [] n v h e = absurd (omega arith)
+rest-some (Between before) (high ∷ []) n v h e = let f : 1 ≡ n = cc in omega arith
+rest-some (Between before) (high ∷ low ∷ bs) n v h e =
+    let t = rest-is-good high low 0 n e in
+    let b = length-bounds high low (t .whole) (t .more) (t .says) in
+    let f = t .left in
     omega arith
 rest-some (AfterFirst high) [] n v h e = absurd (omega arith)
 rest-some (AfterFirst high) (low ∷ bs) n v h e =
-    let t = rest-is-good (lengthOf high low) (lengthOf high low - 1) n e in
-    let b = length-bounds (lengthOf high low) (t .0) in
+    let t = rest-is-good high low 1 n e in
+    let b = length-bounds high low (t .whole) (t .more) (t .says) in
+    let f = t .left in
     omega arith
-rest-some (Remaining m) held n v h e =
+rest-some (Remaining more m) held n v h e =
     let f : m ≡ n = cc in
     let b = leb-true 1 m (both (leb 1 m) (leb m mostRemaining) v .0) in
     omega arith
 
 -- ---- bytes that walk have a rest
 
-rest-bad′ : (t : Bool) (length m : ℕ) → lengthGood length ≡ t → cond t (Bytes m) BadLength ≡ BadLength → lengthGood length ≡ false
-rest-bad′ true length m g e = absurd (let z : _≡_ {A = ℕ} 0 1 = cc in omega arith)
-rest-bad′ false length m g e = g
+rest-bad′ : (l : Length) (k : ℕ) → restPast k l ≡ BadLength → passed l ≡ walked.BadLength
+rest-bad′ (Part n more) k e = absurd (let z : _≡_ {A = ℕ} 0 1 = cc in omega arith)
+rest-bad′ Bad k e = refl
 
 pub rest-bad : (p : Position) (held : List ℕ) → rest p held ≡ BadLength → walk p held ≡ walked.BadLength
 unfolding thenWalk
-rest-bad Between [] e = absurd (let z : _≡_ {A = ℕ} 0 1 = cc in omega arith)
-rest-bad Between (high ∷ []) e = absurd (let z : _≡_ {A = ℕ} 0 1 = cc in omega arith)
-rest-bad Between (high ∷ low ∷ bs) e =
-    rw (rest-bad′ (lengthGood (lengthOf high low)) (lengthOf high low) (lengthOf high low) refl e) (walk-bad bs)
+rest-bad (Between before) [] e = absurd (let z : _≡_ {A = ℕ} 0 1 = cc in omega arith)
+rest-bad (Between before) (high ∷ []) e = absurd (let z : _≡_ {A = ℕ} 0 1 = cc in omega arith)
+rest-bad (Between before) (high ∷ low ∷ bs) e = rw (rest-bad′ (lengthOf high low) 0 e) (walk-bad bs)
 rest-bad (AfterFirst high) [] e = absurd (let z : _≡_ {A = ℕ} 0 1 = cc in omega arith)
-rest-bad (AfterFirst high) (low ∷ bs) e =
-    rw (rest-bad′ (lengthGood (lengthOf high low)) (lengthOf high low) (lengthOf high low - 1) refl e) (walk-bad bs)
-rest-bad (Remaining n) held e = absurd (let z : _≡_ {A = ℕ} 0 1 = cc in omega arith)
+rest-bad (AfterFirst high) (low ∷ bs) e = rw (rest-bad′ (lengthOf high low) 1 e) (walk-bad bs)
+rest-bad (Remaining more n) held e = absurd (let z : _≡_ {A = ℕ} 0 1 = cc in omega arith)
 
 pub record RestIs (p : Position) (held : List ℕ) : Type 0 where
   pub bytes : ℕ

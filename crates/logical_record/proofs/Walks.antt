@@ -1,16 +1,18 @@
 -- Walks: over two lists one after the other, over a part of what walks, past the data of a record at once, and where they lead.
 -- Assumes nothing.
 use mathlib.Core.Path.{_≡_, refl, sym, ap, _∙_}
-use mathlib.Core.Bool.{Bool, true, false, cond}
+use mathlib.Core.Bool.{Bool, true}
 use mathlib.Core.List.{List, [], _∷_, _++_}
 use Prim.Native.Nat.{ℕ, zero, suc, _-_, _≤_, _<_}
 use native.Mathlib.Omega.{arith}
 use lib.ListN.{length, getD, drop}
 use lib.Dec.{leb}
 use borrow.Author.Tests.{le-leb, leb-true}
-use Rattle.logical_record.specs.Length.{lengthOf, lengthGood}
+use Rattle.logical_record.specs.Length.{lengthOf}
 use Rattle.logical_record.specs.Positions.{remaining, afterLength, isPosition}
-use Rattle.logical_record.specs.Walk.{step, thenWalk, walk}
+use Rattle.logical_record.specs.Walk.{passed, step, thenWalk, walk}
+use Rattle.logical_record.specs.declared.Length.{Length}
+use Rattle.logical_record.specs.declared.Length.the-variants.{Part, Bad}
 use Rattle.logical_record.specs.declared.Position.{Position}
 use Rattle.logical_record.specs.declared.Position.the-variants.{Between, AfterFirst, Remaining}
 use Rattle.logical_record.specs.declared.Walked.{Walked}
@@ -59,41 +61,48 @@ walk-prefix p q a b h = through (walk p a) p a b q refl (sym (walk-append p a b)
 -- ---- the data of a record, at once
 
 -- the numbers of bytes left are equal
-left-same : (m n : ℕ) (bs : List ℕ) → m ≡ n → walk (remaining m) bs ≡ walk (remaining n) bs
-left-same m n bs e = ap (λ (k : ℕ). walk (remaining k) bs) e
+left-same : (m n : ℕ) (more : Bool) (bs : List ℕ) → m ≡ n → walk (remaining m more) bs ≡ walk (remaining n more) bs
+left-same m n more bs e = ap (λ (k : ℕ). walk (remaining k more) bs) e
 
-pub walk-skip : (k n : ℕ) (bs : List ℕ) → k ≤ n → k ≤ length bs → walk (remaining n) bs ≡ walk (remaining (n - k)) (drop k bs)
+pub walk-skip :
+    (k n : ℕ) (more : Bool) (bs : List ℕ)
+    → k ≤ n
+    → k ≤ length bs
+    → walk (remaining n more) bs ≡ walk (remaining (n - k) more) (drop k bs)
 unfolding thenWalk
-walk-skip zero n bs h l = left-same n (n - 0) bs (omega arith)
-walk-skip (suc k) n [] h l = absurd (omega arith)
-walk-skip (suc k) n (b ∷ bs) h l =
-    rw (remaining-some n (omega arith))
-    (walk-skip k (n - 1) bs (omega arith) (omega arith) ∙ left-same (n - 1 - k) (n - suc k) (drop k bs) (omega arith))
+walk-skip zero n more bs h l = left-same n (n - 0) more bs (omega arith)
+walk-skip (suc k) n more [] h l = absurd (omega arith)
+walk-skip (suc k) n more (b ∷ bs) h l =
+    rw (remaining-some n more (omega arith))
+    (walk-skip k (n - 1) more bs (omega arith) (omega arith) ∙ left-same (n - 1 - k) (n - suc k) more (drop k bs) (omega arith))
 
 -- one byte ends a forged record with none left, as `step` has it
 pub walk-skip-forged :
-    (k n : ℕ) (bs : List ℕ) → 1 ≤ k → k - 1 ≤ n - 1 → k ≤ length bs → walk (Remaining n) bs ≡ walk (remaining (n - k)) (drop k bs)
+    (k n : ℕ) (more : Bool) (bs : List ℕ)
+    → 1 ≤ k
+    → k - 1 ≤ n - 1
+    → k ≤ length bs
+    → walk (Remaining more n) bs ≡ walk (remaining (n - k) more) (drop k bs)
 unfolding thenWalk
-walk-skip-forged zero n bs one h l = absurd (omega arith)
-walk-skip-forged (suc k) n [] one h l = absurd (omega arith)
-walk-skip-forged (suc k) n (b ∷ bs) one h l =
-    walk-skip k (n - 1) bs (omega arith) (omega arith) ∙ left-same (n - 1 - k) (n - suc k) (drop k bs) (omega arith)
+walk-skip-forged zero n more bs one h l = absurd (omega arith)
+walk-skip-forged (suc k) n more [] one h l = absurd (omega arith)
+walk-skip-forged (suc k) n more (b ∷ bs) one h l =
+    walk-skip k (n - 1) more bs (omega arith) (omega arith) ∙ left-same (n - 1 - k) (n - suc k) more (drop k bs) (omega arith)
 
 -- ---- where walks lead
 
-step-after-first : (g : Bool) (high b : ℕ) (q : Position) → lengthGood (lengthOf high b) ≡ g
-    → cond g (At (afterLength (lengthOf high b))) BadLength ≡ At q → isPosition q ≡ true
-step-after-first true high b q g e =
-    rw (← same-position (afterLength (lengthOf high b)) q e)
-    (remaining-position (lengthOf high b - 2) (let t = length-bounds (lengthOf high b) g in omega arith))
-step-after-first false high b q g e = absurd (at-not-bad q (sym e))
+passed-position : (l : Length) (high b : ℕ) (q : Position) → lengthOf high b ≡ l → passed l ≡ At q → isPosition q ≡ true
+passed-position (Part n more) high b q g e =
+    rw (← same-position (afterLength n more) q e)
+    (remaining-position (n - 2) more (let t = length-bounds high b n more g in omega arith))
+passed-position Bad high b q g e = absurd (at-not-bad q (sym e))
 
 step-position : (p q : Position) (b : ℕ) → isPosition p ≡ true → b < 256 → step p b ≡ At q → isPosition q ≡ true
-step-position Between q b v l e = rw (← same-position (AfterFirst b) q e) (le-leb b 255 (omega arith))
-step-position (AfterFirst high) q b v l e = step-after-first (lengthGood (lengthOf high b)) high b q refl e
-step-position (Remaining n) q b v l e =
-    rw (← same-position (remaining (n - 1)) q e)
-    (remaining-position (n - 1) (let t = leb-true n 32765 (both (leb 1 n) (leb n 32765) v .1) in omega arith))
+step-position (Between more) q b v l e = rw (← same-position (AfterFirst b) q e) (le-leb b 255 (omega arith))
+step-position (AfterFirst high) q b v l e = passed-position (lengthOf high b) high b q refl e
+step-position (Remaining more n) q b v l e =
+    rw (← same-position (remaining (n - 1) more) q e)
+    (remaining-position (n - 1) more (let t = leb-true n 32765 (both (leb 1 n) (leb n 32765) v .1) in omega arith))
 
 pub walk-position :
     (p q : Position) (bs : List ℕ)

@@ -1,7 +1,9 @@
 pub mod Length
 pub mod Positions
 pub mod Walk
+pub mod DataAtOnce
 pub mod RestOfRecord
+pub mod Groups
 pub mod Records
 pub mod RecordClaims
 pub mod WalkExamples

@@ -1,20 +1,28 @@
 -- The walk over the bytes of a stream of logical records: one byte, then any number.
 -- Assumes nothing.
 use Prim.Native.Nat.{ℕ, _-_}
-use mathlib.Core.Bool.{Bool, true, false, cond}
+use mathlib.Core.Bool.{Bool, true, false}
 use mathlib.Core.List.{List, [], _∷_}
-use Rattle.logical_record.specs.Length.{lengthOf, lengthGood}
+use Rattle.logical_record.specs.Length.{lengthOf}
 use Rattle.logical_record.specs.Positions.{remaining, afterLength}
+use Rattle.logical_record.specs.declared.Length.{Length}
+use Rattle.logical_record.specs.declared.Length.the-variants.{Part, Bad}
 use Rattle.logical_record.specs.declared.Position.{Position}
 use Rattle.logical_record.specs.declared.Position.the-variants.{Between, AfterFirst, Remaining}
 use Rattle.logical_record.specs.declared.Walked.{Walked}
 use Rattle.logical_record.specs.declared.Walked.the-variants.{At, BadLength}
 
--- one byte; LL is met, and checked, with its second byte, so a first byte alone is never refused
+-- past the two bytes of LL
+abbrev pub passed : Length → Walked
+passed (Part n more) = At (afterLength n more)
+passed Bad = BadLength
+
+-- one byte; LL is met, and checked, with its second byte, so a first byte alone is never refused, and no part is asked what the one
+-- before it said
 abbrev pub step : Position → ℕ → Walked
-step Between b = At (AfterFirst b)
-step (AfterFirst high) b = cond (lengthGood (lengthOf high b)) (At (afterLength (lengthOf high b))) BadLength
-step (Remaining n) b = At (remaining (n - 1))
+step (Between more) b = At (AfterFirst b)
+step (AfterFirst high) b = passed (lengthOf high b)
+step (Remaining more n) b = At (remaining (n - 1) more)
 
 -- a walk taken further; after a bad LL nothing more is met
 unfoldable pub thenWalk : Walked → List ℕ → Walked

@@ -1,20 +1,19 @@
 // What a read may copy of the current record.
+use crate::Length;
 use crate::Position;
 use crate::Rest;
-use crate::length::length_good;
-use crate::length::length_of;
+use crate::length_field::length_of;
 use crate::total::less;
 ghost use mathlib.Core.Path.{_≡_};
-ghost use Rattle.logical_record.specs.RestOfRecord.{rest, restGood};
+ghost use Rattle.logical_record.specs.RestOfRecord.{rest, restPast};
 
-// n bytes, if the record's LL is good.
-fn rest_good(length: u16, n: u16) -> Rest
-    ensures { λ r. ⌜ r ≡ restGood length n ⌝ }
+// Of a record with this LL, all but the k bytes that have been read.
+fn rest_past(k: u16, length: Length) -> Rest
+    ensures { λ r. ⌜ r ≡ restPast k length ⌝ }
 {
-    if length_good(length) {
-        Rest::Bytes(n)
-    } else {
-        Rest::BadLength
+    match length {
+        Length::Part(n, _) => Rest::Bytes(less(n, k)),
+        Length::Bad => Rest::BadLength,
     }
 }
 
@@ -23,10 +22,9 @@ pub fn rest_of_record(position: Position, held: &[u8]) -> Rest
     ensures { λ r. ⌜ r ≡ rest position (now (held .entry)) ⌝ }
 {
     match position {
-        Position::Between => {
+        Position::Between(_) => {
             if 2 <= held.len() {
-                let length = length_of(held[0], held[1]);
-                rest_good(length, length)
+                rest_past(0, length_of(held[0], held[1]))
             } else {
                 // One LL byte, or nothing.
                 Rest::Bytes(held.len() as u16)
@@ -34,12 +32,11 @@ pub fn rest_of_record(position: Position, held: &[u8]) -> Rest
         }
         Position::AfterFirst(high) => {
             if 1 <= held.len() {
-                let length = length_of(high, held[0]);
-                rest_good(length, less(length, 1))
+                rest_past(1, length_of(high, held[0]))
             } else {
                 Rest::Bytes(0)
             }
         }
-        Position::Remaining(n) => Rest::Bytes(n),
+        Position::Remaining(_, n) => Rest::Bytes(n),
     }
 }

@@ -1,4 +1,4 @@
--- What an exported call hands out: the value returned, the answer's seven numbers, the image and the cells lent, as they are when it returns.
+-- What an exported call hands out: the value returned, the answer's eight numbers, the image and the cells lent, as they are when it returns.
 -- Assumes nothing.
 use Prim.Native.Nat.{ℕ}
 use mathlib.Core.List.{List, [], _∷_}
@@ -12,19 +12,19 @@ use Rattle.image.specs.Image.{imageOf, imageRead}
 use Rattle.image.specs.declared.ImageRead.{ImageRead}
 use Rattle.image.specs.declared.ImageRead.the-variants.{Record, Refused}
 
--- ---- the seven numbers: refusal, sense, rule, length of the unit made, bytes copied, complete, mark
+-- ---- the eight numbers: refusal, sense, rule, length of the unit made, bytes copied, complete, more, mark
 
 abbrev pub answerNumbers : Answer → List ℕ
-answerNumbers a = a .refusal ∷ a .sense ∷ a .rule ∷ a .unit ∷ 0 ∷ 0 ∷ 0 ∷ []
+answerNumbers a = a .refusal ∷ a .sense ∷ a .rule ∷ a .unit ∷ 0 ∷ 0 ∷ 0 ∷ 0 ∷ []
 
 abbrev pub readNumbers : ReadAnswer → List ℕ
 readNumbers a =
     a .answer .refusal ∷ a .answer .sense ∷ a .answer .rule ∷ a .answer .unit
-    ∷ a .copied ∷ flagByte (a .complete) ∷ markNumber (a .mark) ∷ []
+    ∷ a .copied ∷ flagByte (a .complete) ∷ flagByte (a .more) ∷ markNumber (a .mark) ∷ []
 
 -- a refusal that has no sense
 abbrev pub refusalNumbers : ℕ → List ℕ
-refusalNumbers q = q ∷ 0 ∷ 0 ∷ 0 ∷ 0 ∷ 0 ∷ 0 ∷ []
+refusalNumbers q = q ∷ 0 ∷ 0 ∷ 0 ∷ 0 ∷ 0 ∷ 0 ∷ 0 ∷ []
 
 -- ---- what is handed out
 

@@ -1,5 +1,5 @@
-// What each exported call hands out: the answer as seven numbers, and the new record over the image. The numbers are: refusal,
-// sense, rule, length of the unit made, bytes copied, complete (0 or 1), mark (0 to 5).
+// What each exported call hands out: the answer as eight numbers, and the new record over the image. The numbers are: refusal,
+// sense, rule, length of the unit made, bytes copied, complete (0 or 1), more (0 or 1), mark (0 to 5).
 use end::Answer;
 use end::Done;
 use end::ReadAnswer;
@@ -22,17 +22,17 @@ fn word(n: usize) -> u32
 }
 
 // The answer of a call that reads nothing.
-fn hand_answer(a: Answer, answer: &mut [u32; 7]) -> u32
+fn hand_answer(a: Answer, answer: &mut [u32; 8]) -> u32
     requires { ⌜ a .unit < 4294967296 ⌝ }
     ensures { λ r. ⌜ (r ≡ a .refusal) × (now (answer .exit) ≡ answerNumbers a) ⌝ }
 {
     let refusal = a.refusal as u32;
-    *answer = [refusal, a.sense, a.rule as u32, word(a.unit), 0, 0, 0];
+    *answer = [refusal, a.sense, a.rule as u32, word(a.unit), 0, 0, 0, 0];
     refusal
 }
 
 // The answer of a read.
-fn hand_read_answer(a: ReadAnswer, answer: &mut [u32; 7]) -> u32
+fn hand_read_answer(a: ReadAnswer, answer: &mut [u32; 8]) -> u32
     requires { ⌜ (a .answer .unit < 4294967296) × (a .copied < 4294967296) ⌝ }
     ensures { λ r. ⌜ (r ≡ a .answer .refusal) × (now (answer .exit) ≡ readNumbers a) ⌝ }
 {
@@ -46,13 +46,14 @@ fn hand_read_answer(a: ReadAnswer, answer: &mut [u32; 7]) -> u32
         word(call.unit),
         word(a.copied),
         flag_code(a.complete) as u32,
+        flag_code(a.more) as u32,
         mark_code(mark) as u32,
     ];
     refusal
 }
 
 // The new record goes over the image, and the answer out.
-pub fn hand_out(done: Done, image: &mut [u8], answer: &mut [u32; 7]) -> u32
+pub fn hand_out(done: Done, image: &mut [u8], answer: &mut [u32; 8]) -> u32
     requires { ⌜ (done .answer .unit < 4294967296) × (length (now image) ≡ IMAGE) ⌝ }
     ensures { λ r. ⌜ handed r (now (answer .exit)) (now (image .exit)) ≡ handedOut (answerNumbers (done .answer)) (done .end) ⌝ }
 {
@@ -62,7 +63,7 @@ pub fn hand_out(done: Done, image: &mut [u8], answer: &mut [u32; 7]) -> u32
     hand_answer(made, answer)
 }
 
-pub fn hand_out_read(done: ReadDone, image: &mut [u8], answer: &mut [u32; 7]) -> u32
+pub fn hand_out_read(done: ReadDone, image: &mut [u8], answer: &mut [u32; 8]) -> u32
     requires { ⌜ (done .answer .answer .unit < 4294967296) × (done .answer .copied < 4294967296) × (length (now image) ≡ IMAGE) ⌝ }
     ensures { λ r. ⌜ handed r (now (answer .exit)) (now (image .exit)) ≡ handedOut (readNumbers (done .answer)) (done .end) ⌝ }
 {
@@ -73,10 +74,10 @@ pub fn hand_out_read(done: ReadDone, image: &mut [u8], answer: &mut [u32; 7]) ->
 }
 
 // An image that holds no record: the answer is its refusal number, and no cell is changed.
-pub fn refuse_image(number: u8, answer: &mut [u32; 7]) -> u32
+pub fn refuse_image(number: u8, answer: &mut [u32; 8]) -> u32
     ensures { λ r. ⌜ (r ≡ number) × (now (answer .exit) ≡ refusalNumbers number) ⌝ }
 {
     let refusal = number as u32;
-    *answer = [refusal, 0, 0, 0, 0, 0, 0];
+    *answer = [refusal, 0, 0, 0, 0, 0, 0, 0];
     refusal
 }

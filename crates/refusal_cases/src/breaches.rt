@@ -346,13 +346,15 @@ const REFUSAL_28_CONFIRMATION: [u8; 347] = *b"refusal_28_confirmation\n\
     1 Send mark none send 0 inbox 0 credit 2 open 3 waiting 0\n\
     2 Reset mark none send 0 inbox 0 credit 3 open 3 waiting 1\n";
 
-const REFUSAL_29_LENGTH: [u8; 261] = *b"refusal_29_length\n\
+const REFUSAL_29_LENGTH: [u8; 302] = *b"refusal_29_length\n\
     ends 3 64 3 64 192 192\n\
     2 take 00010391800001\n\
     2 take 00010391808000\n\
+    2 take 00010391808001\n\
     =\n\
     1 open 0\n\
     2 open 0\n\
+    2 take 29 00000000\n\
     2 take 29 00000000\n\
     2 take 29 00000000\n\
     1 Reset mark none send 0 inbox 0 credit 3 open 3 waiting 0\n\
@@ -371,6 +373,31 @@ const REFUSAL_29_RECORD_CUT: [u8; 306] = *b"refusal_29_record_cut\n\
     2 take 29 00000000\n\
     1 Reset mark none send 0 inbox 0 credit 3 open 3 waiting 0\n\
     2 Reset mark none send 0 inbox 0 credit 3 open 3 waiting 0\n";
+
+// Each of the five marks behind 80 02, in its own unit and in the next.
+const REFUSAL_29_PART: [u8; 483] = *b"refusal_29_part\n\
+    ends 3 64 3 64 192 192\n\
+    2 take 00010391A08002\n\
+    2 take 00010391818002\n\
+    2 take 00010321808002\n\
+    2 take 00010321A08002\n\
+    2 take 00010321818002\n\
+    2 take 00010391808002\n\
+    2 take 0002039020\n\
+    2 take 00020390200002\n\
+    =\n\
+    1 open 0\n\
+    2 open 0\n\
+    2 take 29 00000000\n\
+    2 take 29 00000000\n\
+    2 take 29 00000000\n\
+    2 take 29 00000000\n\
+    2 take 29 00000000\n\
+    2 take 0\n\
+    2 take 29 00000000\n\
+    2 take 0\n\
+    1 Reset mark none send 0 inbox 0 credit 3 open 3 waiting 0\n\
+    2 Receive mark turn send 0 inbox 4 credit 3 open 1 waiting 0\n";
 
 fn breaches_1(name: &[u8]) -> bool {
     goes(name, &REFUSAL_20_SHORT)
@@ -404,6 +431,7 @@ fn breaches_2(name: &[u8]) -> bool {
         | goes(name, &REFUSAL_28_CONFIRMATION)
         | goes(name, &REFUSAL_29_LENGTH)
         | goes(name, &REFUSAL_29_RECORD_CUT)
+        | goes(name, &REFUSAL_29_PART)
 }
 
 // The case of that name; an unknown one is bad.

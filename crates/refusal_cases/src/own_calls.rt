@@ -111,19 +111,28 @@ const REFUSAL_8_LENGTH_0: [u8; 241] = *b"refusal_8_length_0\n\
     1 Send mark none send 1 inbox 0 credit 3 open 3 waiting 0\n\
     2 Reset mark none send 0 inbox 0 credit 3 open 3 waiting 0\n";
 
-const REFUSAL_8_ABOVE_32767: [u8; 248] = *b"refusal_8_above_32767\n\
+// The top bit of LL is no part of the length: 80 01 is 1, 80 00 is 0, and 80 02 is 2.
+const REFUSAL_8_PART_OF_1: [u8; 341] = *b"refusal_8_part_of_1\n\
     ends 3 64 3 64 192 192\n\
     1 allocate\n\
+    1 send 8001\n\
     1 send 8000\n\
-    1 send 7FFF\n\
+    1 send 80\n\
+    1 send 01\n\
+    1 send 02\n\
+    1 flush\n\
     =\n\
     1 open 0\n\
     2 open 0\n\
     1 allocate 0\n\
     1 send 8\n\
+    1 send 8\n\
     1 send 0\n\
-    1 Send mark none send 2 inbox 0 credit 3 open 3 waiting 0\n\
-    2 Reset mark none send 0 inbox 0 credit 3 open 3 waiting 0\n";
+    1 send 8\n\
+    1 send 0\n\
+    1 flush 0 unit 00010391808002\n\
+    1 Send mark none send 0 inbox 0 credit 2 open 3 waiting 0\n\
+    2 Reset mark none send 0 inbox 0 credit 3 open 3 waiting 1\n";
 
 const REFUSAL_9_RECORD_CUT: [u8; 316] = *b"refusal_9_record_cut\n\
     ends 3 64 3 64 192 192\n\
@@ -144,6 +153,41 @@ const REFUSAL_9_RECORD_CUT: [u8; 316] = *b"refusal_9_record_cut\n\
     1 flush 0 unit 00010391800005\n\
     1 Send mark none send 0 inbox 0 credit 2 open 3 waiting 0\n\
     2 Reset mark none send 0 inbox 0 credit 3 open 3 waiting 1\n";
+
+// 80 02 says that another part follows: held or sent, it is not the end of a table.
+const REFUSAL_9_PART: [u8; 484] = *b"refusal_9_part\n\
+    ends 3 64 3 64 192 192\n\
+    1 allocate\n\
+    1 send 8002\n\
+    1 turn\n\
+    1 turn confirm\n\
+    1 end\n\
+    1 end confirm\n\
+    1 confirm\n\
+    1 flush\n\
+    1 turn\n\
+    1 end\n\
+    1 confirm\n\
+    1 send 0002\n\
+    1 turn\n\
+    =\n\
+    1 open 0\n\
+    2 open 0\n\
+    1 allocate 0\n\
+    1 send 0\n\
+    1 turn 9\n\
+    1 turn confirm 9\n\
+    1 end 9\n\
+    1 end confirm 9\n\
+    1 confirm 9\n\
+    1 flush 0 unit 00010391808002\n\
+    1 turn 9\n\
+    1 end 9\n\
+    1 confirm 9\n\
+    1 send 0\n\
+    1 turn 0 unit 00020390200002\n\
+    1 Receive mark none send 0 inbox 0 credit 1 open 3 waiting 0\n\
+    2 Reset mark none send 0 inbox 0 credit 3 open 3 waiting 2\n";
 
 const REFUSAL_10_NO_CREDIT: [u8; 430] = *b"refusal_10_no_credit\n\
     ends 2 8 2 8 16 16\n\
@@ -269,8 +313,9 @@ pub fn own_calls(name: &[u8]) -> bool {
         | goes(name, &REFUSAL_7_BID_UNANSWERED)
         | goes(name, &REFUSAL_8_LENGTH_1)
         | goes(name, &REFUSAL_8_LENGTH_0)
-        | goes(name, &REFUSAL_8_ABOVE_32767)
+        | goes(name, &REFUSAL_8_PART_OF_1)
         | goes(name, &REFUSAL_9_RECORD_CUT)
+        | goes(name, &REFUSAL_9_PART)
         | goes(name, &REFUSAL_10_NO_CREDIT)
         | goes(name, &REFUSAL_10_AT_OVERFLOW)
         | goes(name, &REFUSAL_11_NOTHING_OWED)

@@ -32,19 +32,26 @@ refusalText refusal sense rule = ascii " " ++ decimalOf refusal ++ senseText ref
 unfoldable pub bytesText : List ℕ → List ℕ → List ℕ
 bytesText label bytes = cond (eqb (length bytes) 0) [] (label ++ hexOf bytes)
 
-unfoldable pub completeText : Bool → List ℕ
-completeText complete = cond complete (ascii " complete") []
+-- a flag's word, where the flag is set
+unfoldable pub flagText : List ℕ → Bool → List ℕ
+flagText word set = cond set word []
 
 unfoldable pub markText : WhatReceived → List ℕ
 markText mark = cond (isNothing mark) [] (ascii " mark " ++ markWord mark)
 
+-- what a read adds
+unfoldable pub readText : List ℕ → Bool → Bool → WhatReceived → List ℕ
+readText copied complete more mark =
+    bytesText (ascii " bytes ") copied
+    ++ flagText (ascii " complete") complete
+    ++ flagText (ascii " more") more
+    ++ markText mark
+
 -- `unit` is the unit made, `copied` what a read copied, each empty where there is none
-unfoldable pub answerText : Bool → Request → ℕ → ℕ → ℕ → List ℕ → List ℕ → Bool → WhatReceived → List ℕ
-answerText second request refusal sense rule unit copied complete mark =
+unfoldable pub answerText : Bool → Request → ℕ → ℕ → ℕ → List ℕ → List ℕ → Bool → Bool → WhatReceived → List ℕ
+answerText second request refusal sense rule unit copied complete more mark =
     callText second request
     ++ refusalText refusal sense rule
     ++ bytesText (ascii " unit ") unit
-    ++ bytesText (ascii " bytes ") copied
-    ++ completeText complete
-    ++ markText mark
+    ++ readText copied complete more mark
     ++ ascii "\n"

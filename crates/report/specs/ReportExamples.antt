@@ -13,20 +13,20 @@ use Rattle.control.specs.declared.WhatReceived.the-variants as mark
 use Rattle.control.specs.declared.State.the-variants as state
 use Rattle.report.specs.Ascii.{ascii}
 use Rattle.digits.specs.Printed.{decimalIn, decimalOf, hexOf, hexWordOf}
-use Rattle.report.specs.AnswerLine.{callText, senseText, ruleText, refusalText, bytesText, completeText, markText, answerText}
+use Rattle.report.specs.AnswerLine.{callText, senseText, ruleText, refusalText, bytesText, flagText, markText, readText, answerText}
 use Rattle.report.specs.OtherLines.{openText, nothingWaitingText, fullText, badLineText, stateText, countText, countsText, endText}
 
 -- a call accepted, with the unit that it made
 abbrev accepted : Bool → Request → List ℕ → List ℕ
-accepted second request unit = answerText second request 0 0 0 unit [] false mark.Nothing
+accepted second request unit = answerText second request 0 0 0 unit [] false false mark.Nothing
 
 -- a read accepted, at end 2
-abbrev read : List ℕ → Bool → WhatReceived → List ℕ
-read copied complete m = answerText true (Call verb.Receive) 0 0 0 [] copied complete m
+abbrev read : List ℕ → Bool → Bool → WhatReceived → List ℕ
+read copied complete more m = answerText true (Call verb.Receive) 0 0 0 [] copied complete more m
 
 -- a call refused: number, sense and rule
 abbrev refused : Bool → Request → ℕ → ℕ → ℕ → List ℕ
-refused second request refusal sense rule = answerText second request refusal sense rule [] [] false mark.Nothing
+refused second request refusal sense rule = answerText second request refusal sense rule [] [] false false mark.Nothing
 
 opened : (openText false 0 ≡ ascii "1 open 0\n") × (openText true 0 ≡ ascii "2 open 0\n")
 unfolding decimalIn decimalOf openText
@@ -46,26 +46,26 @@ aGrant = 0x00 ∷ 0x01 ∷ 0xCB ∷ 0x80 ∷ 0x00 ∷ 0x04 ∷ []
 -- ---- the example
 
 bids : accepted true (Call verb.Allocate) aBid ≡ ascii "2 allocate 0 unit 00014B81800400060000\n"
-unfolding aBid decimalIn decimalOf hexOf hexWordOf callText senseText ruleText refusalText bytesText completeText markText answerText
+unfolding aBid decimalIn decimalOf hexOf hexWordOf callText senseText ruleText refusalText bytesText flagText markText readText answerText
 bids = refl
 
 speaks : (accepted false (Call verb.Allocate) [] ≡ ascii "1 allocate 0\n")
     × (accepted false (Call verb.SendData) [] ≡ ascii "1 send 0\n")
     × (accepted false (Call (deallocate false)) aRecord ≡ ascii "1 end 0 unit 00010391810005414243\n")
-unfolding aRecord decimalIn decimalOf hexOf hexWordOf callText senseText ruleText refusalText bytesText completeText markText answerText
+unfolding aRecord decimalIn decimalOf hexOf hexWordOf callText senseText ruleText refusalText bytesText flagText markText readText answerText
 speaks = (refl, refl, refl)
 
 takes : (accepted false Take aGrant ≡ ascii "1 take 0 unit 0001CB800004\n")
     × (accepted true Take [] ≡ ascii "2 take 0\n")
     × (refused true Take 13 0 0 ≡ ascii "2 take 13\n")
     × (nothingWaitingText false ≡ ascii "1 take -\n")
-unfolding aGrant decimalIn decimalOf hexOf hexWordOf callText senseText ruleText refusalText bytesText completeText markText answerText nothingWaitingText
+unfolding aGrant decimalIn decimalOf hexOf hexWordOf callText senseText ruleText refusalText bytesText flagText markText readText answerText nothingWaitingText
 takes = (refl, refl, refl, refl)
 
-reads : (read (0x00 ∷ 0x05 ∷ 0x41 ∷ []) false mark.Nothing ≡ ascii "2 read 0 bytes 000541\n")
-    × (read (0x42 ∷ 0x43 ∷ []) true mark.Nothing ≡ ascii "2 read 0 bytes 4243 complete\n")
-    × (read [] false mark.End ≡ ascii "2 read 0 mark end\n")
-unfolding decimalIn decimalOf hexOf hexWordOf callText senseText ruleText refusalText bytesText completeText markText answerText
+reads : (read (0x00 ∷ 0x05 ∷ 0x41 ∷ []) false false mark.Nothing ≡ ascii "2 read 0 bytes 000541\n")
+    × (read (0x42 ∷ 0x43 ∷ []) true false mark.Nothing ≡ ascii "2 read 0 bytes 4243 complete\n")
+    × (read [] false false mark.End ≡ ascii "2 read 0 mark end\n")
+unfolding decimalIn decimalOf hexOf hexWordOf callText senseText ruleText refusalText bytesText flagText markText readText answerText
 reads = (refl, refl, refl)
 
 ends : (endText false state.Receive mark.Nothing 0 0 2 2 0 ≡ ascii "1 Receive mark none send 0 inbox 0 credit 2 open 2 waiting 0\n")
@@ -75,12 +75,17 @@ ends = (refl, refl)
 
 -- ---- what it lacks
 
+-- a part that another follows
+more-follows : read (0x42 ∷ 0x43 ∷ []) true true mark.Nothing ≡ ascii "2 read 0 bytes 4243 complete more\n"
+unfolding decimalIn decimalOf hexOf hexWordOf callText senseText ruleText refusalText bytesText flagText markText readText answerText
+more-follows = refl
+
 -- a sense from 20 on, and a rule with 21 only
 breaches : (refused false Offer 20 0x40050000 0 ≡ ascii "1 take 20 40050000\n")
     × (refused false Offer 21 0 3 ≡ ascii "1 take 21 00000000 H3\n")
     × (refused true Take 22 0x10020000 3 ≡ ascii "2 take 22 10020000\n")
     × (refused true (Call verb.Receive) 12 0 0 ≡ ascii "2 read 12\n")
-unfolding decimalIn decimalOf hexOf hexWordOf callText senseText ruleText refusalText bytesText completeText markText answerText
+unfolding decimalIn decimalOf hexOf hexWordOf callText senseText ruleText refusalText bytesText flagText markText readText answerText
 breaches = (refl, refl, refl, refl)
 
 -- calls that were not made, and long numbers

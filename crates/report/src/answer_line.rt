@@ -13,7 +13,7 @@ use digits::printed::hex_word;
 use digits::printed::put;
 use script::Request;
 ghost use Rattle.report.specs.Prints.{PrintsAt, Prints};
-ghost use Rattle.report.specs.AnswerLine.{callText, senseText, ruleText, refusalText, bytesText, completeText, markText, answerText};
+ghost use Rattle.report.specs.AnswerLine.{callText, senseText, ruleText, refusalText, bytesText, flagText, markText, readText, answerText};
 
 pub(crate) fn put_call(out: &mut [u8], at: usize, second: bool, request: Request) -> usize
     ensures { λ r. ⌜ PrintsAt (callText second request) at (now (out .entry)) r (now (out .exit)) ⌝ }
@@ -63,11 +63,12 @@ fn put_bytes(out: &mut [u8], at: usize, label: &[u8], bytes: &[u8]) -> usize
     hex_bytes(out, behind_label, bytes)
 }
 
-fn put_complete(out: &mut [u8], at: usize, complete: bool) -> usize
-    ensures { λ r. ⌜ PrintsAt (completeText complete) at (now (out .entry)) r (now (out .exit)) ⌝ }
+// A flag that is set puts its word.
+fn put_flag(out: &mut [u8], at: usize, word: &[u8], set: bool) -> usize
+    ensures { λ r. ⌜ PrintsAt (flagText (now (word .entry)) set) at (now (out .entry)) r (now (out .exit)) ⌝ }
 {
-    if complete {
-        return put(out, at, b" complete");
+    if set {
+        return put(out, at, word);
     }
     at
 }
@@ -82,6 +83,23 @@ fn put_mark(out: &mut [u8], at: usize, mark: WhatReceived) -> usize
     put_word(out, behind_label, mark_word(mark))
 }
 
+// What a read adds.
+fn put_read(
+    out: &mut [u8],
+    at: usize,
+    copied: &[u8],
+    complete: bool,
+    more: bool,
+    mark: WhatReceived,
+) -> usize
+    ensures { λ r. ⌜ PrintsAt (readText (now (copied .entry)) complete more mark) at (now (out .entry)) r (now (out .exit)) ⌝ }
+{
+    let behind_copied = put_bytes(out, at, b" bytes ", copied);
+    let behind_complete = put_flag(out, behind_copied, b" complete", complete);
+    let behind_more = put_flag(out, behind_complete, b" more", more);
+    put_mark(out, behind_more, mark)
+}
+
 // `unit` is the unit made, `copied` what a read copied, each empty where there is none.
 pub fn answer_line(
     second: bool,
@@ -92,18 +110,17 @@ pub fn answer_line(
     unit: &[u8],
     copied: &[u8],
     complete: bool,
+    more: bool,
     mark: WhatReceived,
     out: &mut [u8],
 ) -> usize
     ensures { λ r.
-        ⌜ Prints (answerText second request refusal sense rule (now (unit .entry)) (now (copied .entry)) complete mark)
+        ⌜ Prints (answerText second request refusal sense rule (now (unit .entry)) (now (copied .entry)) complete more mark)
         (now (out .entry)) r (now (out .exit)) ⌝ }
 {
     let behind_call = put_call(out, 0, second, request);
     let behind_refusal = put_refusal(out, behind_call, refusal, sense, rule);
     let behind_unit = put_bytes(out, behind_refusal, b" unit ", unit);
-    let behind_copied = put_bytes(out, behind_unit, b" bytes ", copied);
-    let behind_complete = put_complete(out, behind_copied, complete);
-    let behind_mark = put_mark(out, behind_complete, mark);
-    put(out, behind_mark, b"\n")
+    let behind_read = put_read(out, behind_unit, copied, complete, more, mark);
+    put(out, behind_read, b"\n")
 }

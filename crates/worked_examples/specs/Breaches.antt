@@ -122,8 +122,8 @@ pub record Breaches : Type 0 where
   pub data-in-waits : Refused waits withoutBB 26 0x20040000
   -- is every LL good, and the record whole at a mark?
   pub length-1 : Refused receiving (0x00 ∷ 0x02 ∷ 0x03 ∷ 0x90 ∷ 0x00 ∷ 0x00 ∷ 0x01 ∷ []) 29 0
-  pub part-at-mark : Refused receiving (0x00 ∷ 0x02 ∷ 0x03 ∷ 0x90 ∷ 0x20 ∷ 0x00 ∷ 0x05 ∷ 0x41 ∷ []) 29 0
-  pub part-without-mark : Accepted receiving (0x00 ∷ 0x02 ∷ 0x03 ∷ 0x90 ∷ 0x00 ∷ 0x00 ∷ 0x05 ∷ 0x41 ∷ [])
+  pub unfinished-at-mark : Refused receiving (0x00 ∷ 0x02 ∷ 0x03 ∷ 0x90 ∷ 0x20 ∷ 0x00 ∷ 0x05 ∷ 0x41 ∷ []) 29 0
+  pub unfinished-without-mark : Accepted receiving (0x00 ∷ 0x02 ∷ 0x03 ∷ 0x90 ∷ 0x00 ∷ 0x00 ∷ 0x05 ∷ 0x41 ∷ [])
   -- grant, refusal, confirmation: does it fit state or flag, and is its number the bid's or, for a confirmation, the last sent?
   pub another-grant : Refused hasBid (0x00 ∷ 0x02 ∷ 0xCB ∷ 0x80 ∷ 0x00 ∷ 0x04 ∷ []) 28 0x200E0000
   pub its-grant : Accepted hasBid (0x00 ∷ 0x01 ∷ 0xCB ∷ 0x80 ∷ 0x00 ∷ 0x04 ∷ [])
@@ -188,8 +188,8 @@ breached =
       data-in-owes = refl;
       data-in-waits = refl;
       length-1 = refl;
-      part-at-mark = refl;
-      part-without-mark = refl;
+      unfinished-at-mark = refl;
+      unfinished-without-mark = refl;
       another-grant = refl;
       its-grant = refl;
       grant-without-bid = refl;

@@ -3,7 +3,7 @@
 use Rattle.cells.specs.Cells.{front, written}
 use Rattle.cells.specs.Equal.{sameBytes}
 use Rattle.logical_record.specs.Walk.{thenWalk}
-use Rattle.logical_record.specs.Records.{recordsFrom}
+use Rattle.logical_record.specs.Groups.{groupsFrom}
 use Rattle.header.specs.Rules.{keeps, lowestBroken, headerGood}
 use Rattle.header.specs.Header.{headerBytes, fieldsOf}
 use Rattle.unit.specs.Ru.{ruGood}
@@ -30,5 +30,5 @@ use Rattle.joined.specs.Ends.{acts, takes}
 use Rattle.joined.specs.Histories as H
 
 unfoldable pub computed : Unit {0}
-unfolding front written sameBytes thenWalk recordsFrom keeps lowestBroken headerGood headerBytes fieldsOf ruGood unitBytes unitOf credit advanced answered controlGood allocated spilled closed confirmationMade markAnswered dataReceived bidReceived positiveResponseReceived negativeResponseReceived confirmationReceived sendingGood requestMade receivingGood requestReceived openingRefusal opened recordGood dataHeader allocateRefusal bidMade allocateDecision allocate sendRefusal bytesKept bytesSpilled sendDecision sendCells sendData closeRefusal lastMade closeDecision close confirmedRefusal confirmedDecision confirmed receiveUnitRefusal dataJoined bidAnswered creditRaised receiveUnitDecision inboxCells receiveUnit receiveRefusal copyCount bytesRead markRead receiveDecision inboxMoved receive sendPacingResponseRefusal sendPacingResponseDecision sendPacingResponse called taken acts takes H.bytesAccepted H.bytesRead H.bytesOnLine H.pacingResponsesTaken H.requestsMade requestsAmong
+unfolding front written sameBytes thenWalk groupsFrom keeps lowestBroken headerGood headerBytes fieldsOf ruGood unitBytes unitOf credit advanced answered controlGood allocated spilled closed confirmationMade markAnswered dataReceived bidReceived positiveResponseReceived negativeResponseReceived confirmationReceived sendingGood requestMade receivingGood requestReceived openingRefusal opened recordGood dataHeader allocateRefusal bidMade allocateDecision allocate sendRefusal bytesKept bytesSpilled sendDecision sendCells sendData closeRefusal lastMade closeDecision close confirmedRefusal confirmedDecision confirmed receiveUnitRefusal dataJoined bidAnswered creditRaised receiveUnitDecision inboxCells receiveUnit receiveRefusal copyCount bytesRead markRead receiveDecision inboxMoved receive sendPacingResponseRefusal sendPacingResponseDecision sendPacingResponse called taken acts takes H.bytesAccepted H.bytesRead H.bytesOnLine H.pacingResponsesTaken H.requestsMade requestsAmong
 computed = tt

@@ -12,6 +12,7 @@ use Rattle.worked_examples.specs.Computed.{computed}
 use Rattle.worked_examples.specs.Stations.{zeros, session, firstSpeaker, bidder, after, makes, unitsMade, refuses, taking, takeRefuses, afterTaking, takesRefuse, flushed, firstUnit, secondUnit, thirdUnit, aBid, aPacingAnswer, sending, oneSent, twoSent, hasBid, receiving}
 use Rattle.worked_examples.specs.Breaches.{Breaches, MarkFirst, breached, marked-first}
 use Rattle.worked_examples.specs.RulesNamed.{RulesNamed, rules-named}
+use Rattle.worked_examples.specs.Parts.{Parts, parts}
 use Rattle.calls.specs.Calls.{Station, Verb}
 
 -- ---- "Last sequence number sent and last taken, from 0; the number after 65,535 is 0."
@@ -150,6 +151,7 @@ pub record FurtherRows : Type 0 where
   pub breaches : Breaches
   pub mark-first : MarkFirst
   pub rules : RulesNamed
+  pub parts : Parts
 
 numbered : Numbers
 unfolding computed
@@ -234,4 +236,5 @@ further =
       breaches = breached;
       mark-first = marked-first;
       rules = rules-named;
+      parts = parts;
     }

@@ -3,5 +3,6 @@ pub mod Stations
 pub mod Table
 pub mod Breaches
 pub mod RulesNamed
-pub mod Further
 pub mod Conversations
+pub mod Parts
+pub mod Further

@@ -95,10 +95,10 @@ pub record Table : Type 0 where
   pub good-mark : taking receiving goodUnit .end .end .control .mark ≡ mark.Turn
   -- header 03 90 21, there: 21, and the rule is H5
   pub bad-header : taking receiving badUnit .answer .answer .answer ≡ record { refusal = 21; sense = 0; rule = 5; unit = 0 }
-  -- LL 00 02 given: accepted, a whole record; the place is between records, and the end carries the record
+  -- LL 00 02 given: accepted, a whole record; the place is between records, no other part follows, and the end carries the record
   pub good-length : refuses sending (Verb.sendData length2) ≡ 0
   pub whole-record : wholeRecords (bytesInSendBuffer length2Given) ≡ (0x00 ∷ 0x02 ∷ []) ∷ []
-  pub whole-place : length2Given .end .sending .given ≡ Between
+  pub whole-place : length2Given .end .sending .given ≡ Between false
   pub whole-carried : makes length2Given (J.deallocate false) ≡ (0x00 ∷ 0x01 ∷ 0x03 ∷ 0x91 ∷ 0x81 ∷ 0x00 ∷ 0x02 ∷ []) ∷ []
   -- LL 00 01 given: 8
   pub bad-length : refuses sending (Verb.sendData length1) ≡ 8

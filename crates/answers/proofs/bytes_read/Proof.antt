@@ -1,4 +1,4 @@
--- `answers::bytes_read` meets its contract. It is an accepted answer with the count and the flag given, and no mark.
+-- `answers::bytes_read` meets its contract. It is an accepted answer with the count and the flags given, and no mark.
 -- Assumes nothing.
 use borrow.Author.Needs.{needs}
 use Rattle.answers.proofs.bytes_read.Statement.{statement}

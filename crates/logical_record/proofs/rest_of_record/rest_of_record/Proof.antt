@@ -1,4 +1,5 @@
--- `logical_record::rest_of_record::rest_of_record` meets its contract: in each arm the bytes read are the first of the list held (`Turns.antt`).
+-- `logical_record::rest_of_record::rest_of_record` meets its contract: in each arm the bytes read are the first of the list held
+-- (`ReadAtIndex.antt`).
 -- Assumes nothing.
 use mathlib.Core.Path.{sym}
 use denote.Ref.{now}
@@ -10,20 +11,22 @@ use Rattle.logical_record.proofs.rest_of_record.rest_of_record.Tie as t
 returns : tie.Need-returns
 returns c =
     let s = now (c .before .before .before .before .before .before .before .before .args .held) in
-    rw (c .rest-good .ensures, c .before .length-of .ensures, c .before .before .before .before .before .enum-told .given .1)
-    (sym (rest-two s (c .before .before .before .before .if1 .taken)))
+    let between = c .before .before .before .before .before .enum-told .given in
+    rw (c .rest-past .ensures, c .before .length-of .ensures, between .1)
+    (sym (rest-two (between .0 .0) s (c .before .before .before .before .if1 .taken)))
 
 returns-2 : tie.Need-returns-2
 returns-2 c =
     let s = now (c .before .before .before .before .args .held) in
-    rw (c .before .enum-told .given .1) (sym (rest-few s (c .if1 .left)))
+    let between = c .before .enum-told .given in
+    rw (between .1) (sym (rest-few (between .0 .0) s (c .if1 .left)))
 
 returns-3 : tie.Need-returns-3
 returns-3 c =
-    let s = now (c .before .before .before .before .before .before .before .before .before .args .held) in
-    let first = c .before .before .before .before .before .before .position .given in
-    rw (c .rest-good2 .ensures, c .before .less .ensures, c .before .before .length-of2 .ensures, first .1)
-    (sym (rest-one (first .0 .0) s (c .before .before .before .before .if2 .taken)))
+    let s = now (c .before .before .before .before .before .before .before .before .args .held) in
+    let first = c .before .before .before .before .before .position .given in
+    rw (c .rest-past2 .ensures, c .before .length-of2 .ensures, first .1)
+    (sym (rest-one (first .0 .0) s (c .before .before .before .if2 .taken)))
 
 returns-4 : tie.Need-returns-4
 returns-4 c =
@@ -38,7 +41,6 @@ pub rest-of-record-spec : {M : Type 1} → statement M
 rest-of-record-spec =
     tie.close
     (tie.spec
-    (search needs)
     (search needs)
     (search needs)
     (search needs)

@@ -1,4 +1,4 @@
--- `theorems::whole_records` meets its contract: the three claims of specs/RecordClaims.antt.
+-- `theorems::whole_records` meets its contract: the three claims of specs/RecordClaims.antt on records.
 -- Assumes nothing.
 use Rattle.logical_record.proofs.WholeRecords.{whole-records-are, whole-records-joined, whole-records-bytes}
 use Rattle.logical_record.proofs.theorems.whole_records.Statement.{statement}

@@ -1,16 +1,11 @@
--- `logical_record::walk::passed` meets its contract: by cases of the first test.
+-- `logical_record::walk::passed` meets its contract: each arm is the definition's case.
 -- Assumes nothing.
-use native.Mathlib.Omega.{arith}
-use mathlib.Core.Logic.{⊎-elim}
 use borrow.Author.Needs.{needs}
 use Rattle.logical_record.proofs.walk.passed.Statement.{statement}
 use Rattle.logical_record.proofs.walk.passed.Tie as tie
 
 returns : tie.Need-returns
-returns c = ⊎-elim (λ w. omega arith) (λ w. omega arith) (c .before .before .if1 .came)
-
-returns-2 : tie.Need-returns-2
-returns-2 c = ⊎-elim (λ w. omega arith) (λ w. omega arith) (c .before .before .if1 .came)
+returns c = rw (c .after-length .ensures, c .before .before .length .given .1)
 
 pub passed-spec : {M : Type 1} → statement M
-passed-spec = tie.close (tie.spec (search needs) returns returns-2)
+passed-spec = tie.close (tie.spec (search needs) (search needs) (search needs) returns (λ c. search needs))

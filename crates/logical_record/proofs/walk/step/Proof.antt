@@ -1,6 +1,5 @@
 -- `logical_record::walk::step` meets its contract: in each arm the calls' promises, with the arm's variant.
 -- Assumes nothing.
-use mathlib.Core.Path.{sym, _∙_}
 use borrow.Author.Needs.{needs}
 use Rattle.logical_record.proofs.walk.step.Statement.{statement}
 use Rattle.logical_record.proofs.walk.step.Tie as tie
@@ -9,19 +8,10 @@ returns : tie.Need-returns
 returns c = cc
 
 returns-2 : tie.Need-returns-2
-returns-2 c =
-    let second = c .before .before .before in
-    let good = sym (c .before .before .length-good .ensures) ∙ c .before .if1 .taken in
-    rw (c .after-length .ensures, second .before .before .from .given .1, ← second .length-of .ensures, good)
+returns-2 c = rw (c .passed .ensures, c .before .length-of .ensures, c .before .before .before .from .given .1)
 
 returns-3 : tie.Need-returns-3
-returns-3 c =
-    let second = c .before .before in
-    let bad = sym (c .before .length-good .ensures) ∙ c .if1 .left in
-    rw (second .before .before .from .given .1, ← second .length-of .ensures, bad)
-
-returns-4 : tie.Need-returns-4
-returns-4 c = rw (c .remaining .ensures, c .before .less .ensures, c .before .before .before .from2 .given .1)
+returns-3 c = rw (c .remaining .ensures, c .before .less .ensures, c .before .before .before .from2 .given .1)
 
 pub step-spec : {M : Type 1} → statement M
 step-spec =
@@ -34,8 +24,6 @@ step-spec =
     (search needs)
     (search needs)
     (search needs)
-    (search needs)
     returns
     returns-2
-    returns-3
-    returns-4)
+    returns-3)

@@ -9,25 +9,21 @@ use Rattle.report.proofs.answer_line.answer_line.Tie as tie
 returns : tie.Need-returns
 unfolding answerText
 returns c =
-    let s7 = c .before .before in
-    let s6 = s7 .before .before .before .before .before in
-    let s5 = s6 .before .before .before .before in
-    let s4 = s5 .before .before .before .before in
-    let s3 = s4 .before .before .before .before .before in
+    let s5 = c .before .before in
+    let s4 = s5 .before .before .before .before .before in
+    let s3 = s4 .before .before .before .before in
     let s2 = s3 .before .before .before .before .before in
     let s1 = s2 .before .before .before .before in
     prints-line
     (s1 .put-call .ensures
     then s2 .put-refusal .ensures
     then s3 .put-bytes .ensures
-    then s4 .put-bytes2 .ensures
-    then s5 .put-complete .ensures
-    then s6 .put-mark .ensures
-    then put-prints (s7 .put .ensures))
+    then s4 .put-read .ensures
+    then put-prints (s5 .put .ensures))
 
 pub answer-line-spec : {M : Type 1} → statement M
 answer-line-spec =
     tie.close
     (tie.spec
-    (search needs) (search needs) (search needs) (search needs) (search needs) (search needs) (search needs)
+    (search needs) (search needs) (search needs) (search needs)
     (search needs) (search needs) (search needs) (search needs) returns)
