@@ -1,7 +1,7 @@
 -- The parts that occur more than once in an image: a flag, a number, a window, a record place. Each as its bytes, and read at the byte where it starts.
 -- Assumes nothing.
 use Prim.Native.Nat.{ℕ, _+_, _/_, _%_}
-use mathlib.Core.Bool.{Bool, cond, _||_}
+use mathlib.Core.Bool.{Bool, cond}
 use mathlib.Core.List.{List, [], _∷_}
 use lib.Dec.{eqb, leb}
 use lib.ListN.{getD}

@@ -7,9 +7,8 @@ use native.Mathlib.Nat.{mod-lt}
 use native.Mathlib.Omega.{arith}
 use lib.Dec.{leb, eqb}
 use borrow.Author.Tests.{le-leb, leb-true, eqb-true, eqb-false, eq-eqb, ne-eqb}
-use Rattle.logical_record.specs.Length.{moreBit, lengthIn, lengthOf}
+use Rattle.logical_record.specs.Length.{moreBit, lengthOf}
 use Rattle.logical_record.specs.Positions.{remaining, isPosition, isBetween}
-use Rattle.logical_record.specs.declared.Length.{Length}
 use Rattle.logical_record.specs.declared.Length.the-variants.{Part, Bad}
 use Rattle.logical_record.specs.declared.Position.the-variants.{Remaining}
 

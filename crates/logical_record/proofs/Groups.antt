@@ -1,6 +1,6 @@
 -- Groups of a list: of one list after another, and their items.
 -- Assumes nothing.
-use mathlib.Core.Path.{_≡_, refl, sym, ap, _∙_}
+use mathlib.Core.Path.{_≡_, refl, sym, _∙_}
 use mathlib.Core.Bool.{Bool, true, false, cond, true≢false}
 use mathlib.Core.List.{List, [], _∷_, _++_, append-nil, append-assoc}
 use Rattle.logical_record.specs.Groups.{known, groupsFrom, leftFrom, joined}
@@ -62,7 +62,3 @@ left-none next ends s met (x ∷ xs) f e =
     left-one (ends (next s x)) (leftFrom next ends (next s x) [] xs) (leftFrom next ends (next s x) (met ++ (x ∷ [])) xs)
     (left-none next ends (next s x) [] xs (λ _. refl) e)
     (λ n. left-none next ends (next s x) (met ++ (x ∷ [])) xs (λ y. absurd (true≢false (sym y ∙ n))) e)
-
-pub joined-append : {A : Type 0} (gs hs : List (List A)) → joined (gs ++ hs) ≡ joined gs ++ joined hs
-joined-append [] hs = refl
-joined-append (g ∷ gs) hs = rw (joined-append gs hs) (sym (append-assoc g (joined gs) (joined hs)))

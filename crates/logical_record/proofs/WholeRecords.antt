@@ -4,9 +4,9 @@
 use mathlib.Core.Path.{_≡_, refl, sym, ap, subst, _∙_}
 use mathlib.Core.Bool.{Bool, true, false, cond, _&&_, true≢false}
 use mathlib.Core.List.{List, [], _∷_, _++_, append-nil, append-assoc}
-use Prim.Native.Nat.{ℕ, zero, suc, _+_, _-_, _<_}
+use Prim.Native.Nat.{ℕ, _+_, _-_, _<_}
 use native.Mathlib.Omega.{arith}
-use lib.ListN.{length, getD, length-append}
+use lib.ListN.{length, length-append}
 use lib.Dec.{eqb}
 use borrow.Author.Tests.{eq-eqb, eqb-true, eqb-false}
 use Rattle.logical_record.specs.Length.{lengthOf}
@@ -172,12 +172,6 @@ pub bit-remembered : (bs : List ℕ) (p : Position) → walk start bs ≡ At p �
 bit-remembered bs (Between more) e = found bs .remembered (Between more) e refl
 bit-remembered bs (AfterFirst high) e = refl
 bit-remembered bs (Remaining more n) e = refl
-
-pub record-at :
-    (rs : List (List ℕ)) (k : ℕ) → areRecords rs ≡ true → k < length rs → isRecord (getD rs k []) ≡ true
-record-at [] k h l = absurd (omega arith)
-record-at (r ∷ rs) zero h l = both (isRecord r) (areRecords rs) h .0
-record-at (r ∷ rs) (suc k) h l = record-at rs k (both (isRecord r) (areRecords rs) h .1) (omega arith)
 
 -- ---- and each record is found
 

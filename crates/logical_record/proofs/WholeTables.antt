@@ -1,11 +1,11 @@
 -- The whole tables of a stream: of one list of records after another, that each is a table, and that each table is found.
 -- Assumes nothing.
-use mathlib.Core.Path.{_≡_, refl, sym, ap, _∙_}
+use mathlib.Core.Path.{_≡_, refl, _∙_}
 use mathlib.Core.Bool.{Bool, true, false, not, cond, _&&_}
-use mathlib.Core.List.{List, [], _∷_, _++_, append-nil, append-assoc}
+use mathlib.Core.List.{List, [], _∷_, _++_, append-assoc}
 use Prim.Native.Nat.{ℕ}
 use native.Mathlib.Omega.{arith}
-use Rattle.logical_record.specs.Groups.{known, groupsFrom, leftFrom, joined}
+use Rattle.logical_record.specs.Groups.{known, groupsFrom, joined}
 use Rattle.logical_record.specs.Records.{isRecord, areRecords, wholeRecords, partMore, isTable, areTables, lastMore, tablesFrom, wholeTables, partsLeft}
 use Rattle.logical_record.proofs.Groups.{groups-append, groups-items, left-none}
 use Rattle.logical_record.proofs.WholeRecords.{whole-records-are, whole-records-joined}

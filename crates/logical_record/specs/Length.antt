@@ -1,7 +1,7 @@
 -- LL, the two bytes in front of a logical record, high first: its length, LL counted, and whether another part of its table follows.
 -- Assumes nothing.
 use Prim.Native.Nat.{ℕ, _+_, _*_, _-_, _%_}
-use mathlib.Core.Bool.{Bool, true, false, cond}
+use mathlib.Core.Bool.{Bool, false, cond}
 use lib.Dec.{leb}
 use Rattle.logical_record.specs.declared.Length.{Length}
 use Rattle.logical_record.specs.declared.Length.the-variants.{Part, Bad}

@@ -44,7 +44,7 @@ pacingFits r bit = hasCredit (r .window) && agree bit (paced (r .window))
 abbrev pub isNext : Receiving → ℕ → Bool
 isNext r n = eqb n (nextNumber (r .number))
 
--- 29: is every LL good, and the record whole at a mark?
+-- 29: is every LL good, and at a mark nothing unfinished, neither a record nor a table?
 abbrev pub recordsFit : ChainEnd → Walked → Bool
 recordsFit ends (At p) = not (marks ends) || isWhole p
 recordsFit ends BadLength = false

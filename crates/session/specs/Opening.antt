@@ -15,7 +15,7 @@ use Rattle.session.specs.declared.Session.{Session}
 use Rattle.end.specs.declared.End.{End}
 use Rattle.end.specs.declared.Done.{Done}
 
--- Reset, stay, no mark, chains closed, record places between records, counts and numbers 0, credit and open equal to their W, flags off
+-- Reset, stay, no mark, chains closed, record places between records with no other part to follow, counts and numbers 0, credit and open equal to their W, flags off
 abbrev pub freshEnd : Role → ℕ → ℕ → ℕ → ℕ → ℕ → End
 freshEnd role outwindow outmax inwindow inmax inbox =
     record {

@@ -120,7 +120,7 @@ pub record Breaches : Type 0 where
   pub data-in-send : Refused sending withoutBB 26 0x20040000
   pub data-in-owes : Refused owes secondUnit 26 0x20040000
   pub data-in-waits : Refused waits withoutBB 26 0x20040000
-  -- is every LL good, and the record whole at a mark?
+  -- is every LL good, and at a mark nothing unfinished? (behind a part that says that another follows: Parts)
   pub length-1 : Refused receiving (0x00 ∷ 0x02 ∷ 0x03 ∷ 0x90 ∷ 0x00 ∷ 0x00 ∷ 0x01 ∷ []) 29 0
   pub unfinished-at-mark : Refused receiving (0x00 ∷ 0x02 ∷ 0x03 ∷ 0x90 ∷ 0x20 ∷ 0x00 ∷ 0x05 ∷ 0x41 ∷ []) 29 0
   pub unfinished-without-mark : Accepted receiving (0x00 ∷ 0x02 ∷ 0x03 ∷ 0x90 ∷ 0x00 ∷ 0x00 ∷ 0x05 ∷ 0x41 ∷ [])
