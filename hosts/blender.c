@@ -327,23 +327,34 @@ static void take_mark(struct blender *blender)
         (void)session_confirmed(&blender->session);
 }
 
-/* Asks for the next campaign. Outside Send it bids; the bid may be refused by a laboratory that has begun itself, and is made again
- * when that conversation is over and the pause has passed. */
-static bool ask(struct blender *blender)
+/* Gives the turn that is prepared: every second query is to be confirmed. Without credit it stays prepared until the next step. */
+static bool give_turn(struct blender *blender)
 {
-    struct session *session = &blender->session;
-    if (blender->table.progress != NOT_ASKED || blender->campaign == CAMPAIGNS)
-        return false;
-    if (lu62_end_state(&session->end) != LU62_SEND)
-        return session_allocate(session) == LU62_ACCEPTED;
-    struct text campaign = text_of(campaigns[blender->campaign]);
-    if (blender->query.length == 0 && !session_set(session, &blender->query, RECORD_QUERY, campaign, false))
-        return false;
-    if (!session_give(session, &blender->query) || session_turn(session, blender->campaign % 2 == 1) != LU62_ACCEPTED)
+    bool confirm = blender->campaign % 2 == 1;
+    if ((confirm ? session_confirm(&blender->session) : session_flush(&blender->session)) != LU62_ACCEPTED)
         return false;
     blender->query.length = 0;
     blender->table.progress = ASKED;
     return true;
+}
+
+/* Asks for the next campaign. Outside Send it bids; the bid may be refused by a laboratory that has begun itself, and is made again
+ * when that conversation is over and the pause has passed. With the query given the turn is prepared. Whether it goes with a
+ * confirmation is asked when it goes, in a step of its own, after what has come meanwhile. */
+static bool ask(struct blender *blender)
+{
+    struct session *session = &blender->session;
+    uint32_t state = lu62_end_state(&session->end);
+    if (blender->table.progress != NOT_ASKED || blender->campaign == CAMPAIGNS)
+        return false;
+    if (state == LU62_DEFER_TURN)
+        return give_turn(blender);
+    if (state != LU62_SEND)
+        return session_allocate(session) == LU62_ACCEPTED;
+    struct text campaign = text_of(campaigns[blender->campaign]);
+    if (blender->query.length == 0 && !session_set(session, &blender->query, RECORD_QUERY, campaign, false))
+        return false;
+    return session_give(session, &blender->query) && session_prepare_turn(session) == LU62_ACCEPTED;
 }
 
 static bool step(void *program)

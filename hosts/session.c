@@ -76,7 +76,8 @@ bool session_open_blender(struct session *session, int socket, const struct opti
 }
 
 /* Notes that the conversation got on: bytes were given or read, or the turn or the end was given or read. Bids, their refusals
- * and pacing responses are not that, nor is a confirmation asked for again and again: they could go round for ever. */
+ * and pacing responses are not that, nor is a confirmation asked for again and again: they could go round for ever. Nor is a turn that
+ * is only prepared: nothing of it has gone. */
 static void got_on(struct session *session)
 {
     session->moved_at = clock_ms();
@@ -123,19 +124,27 @@ uint32_t session_allocate(struct session *session)
     return carried(session, "begin the conversation", lu62_end_allocate(&session->end));
 }
 
+/* A call that sends what was given, and by which a turn that is prepared goes too. Only the turn moves the conversation on. */
+static uint32_t sent(struct session *session, const char *purpose, uint32_t call(struct lu62_end *end))
+{
+    bool turn = lu62_end_state(&session->end) == LU62_DEFER_TURN;
+    uint32_t refusal = call(&session->end);
+    return turn ? moved_on(session, "give the turn", refusal) : carried(session, purpose, refusal);
+}
+
 uint32_t session_flush(struct session *session)
 {
-    return carried(session, "send what was given", lu62_end_flush(&session->end));
+    return sent(session, "send what was given", lu62_end_flush);
 }
 
 uint32_t session_confirm(struct session *session)
 {
-    return carried(session, "have what was given confirmed", lu62_end_confirm(&session->end));
+    return sent(session, "have what was given confirmed", lu62_end_confirm);
 }
 
-uint32_t session_turn(struct session *session, bool confirm)
+uint32_t session_prepare_turn(struct session *session)
 {
-    return moved_on(session, "give the turn", lu62_end_prepare_to_receive(&session->end, confirm));
+    return carried(session, "prepare the turn", lu62_end_defer_turn(&session->end));
 }
 
 uint32_t session_end(struct session *session, bool confirm)

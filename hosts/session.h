@@ -69,9 +69,11 @@ bool session_open_blender(struct session *session, int socket, const struct opti
 uint32_t session_allocate(struct session *session);
 uint32_t session_flush(struct session *session);
 uint32_t session_confirm(struct session *session);
-uint32_t session_turn(struct session *session, bool confirm);
 uint32_t session_end(struct session *session, bool confirm);
 uint32_t session_confirmed(struct session *session);
+
+/* Prepares the turn: nothing goes yet. Flush or confirm then gives it, without or with confirmation. Refused as the calls above. */
+uint32_t session_prepare_turn(struct session *session);
 
 /* Begins a record of this kind and text, with LL before and the check behind them; `more` if it is a part that another part follows.
  * False, with a message, if the text does not fit. */

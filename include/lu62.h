@@ -42,8 +42,9 @@ extern "C" {
 
 /* The version of this interface, and of archive and crate that belong to it; and an image's first byte, which is raised with each
  * change of what an image holds. An image kept by a library of another format is refused, and not misread: with BAD_BUFFER if
- * its length is another too, else with BAD_RECORD. */
-#define LU62_VERSION "0.3.0"
+ * its length is another too, else with BAD_RECORD. Version 0.4.0 has two states more and the format of 0.3.0: it takes up the images
+ * of 0.3.0, which refuses an image in one of the new states with BAD_RECORD. */
+#define LU62_VERSION "0.4.0"
 #define LU62_FORMAT 3
 
 /* Sizes, in bytes. W is a window, 1 to 63; M is a maximum RU, 8 to 1,024. */
@@ -121,6 +122,8 @@ extern "C" {
 #define LU62_RECEIVE 2            /* this end receives */
 #define LU62_CONFIRM_OWED 3       /* this end must call lu62_confirmed */
 #define LU62_CONFIRM_AWAITED 4    /* this end waits for the partner's confirmation */
+#define LU62_DEFER_TURN 5         /* Defer: a turn is prepared, to be carried out or withdrawn */
+#define LU62_DEFER_END 6          /* Defer: an end is prepared, to be carried out or withdrawn */
 
 /* What a call answers. A refusal has zeros in the last five fields. */
 struct lu62_answer {
@@ -157,12 +160,16 @@ uint32_t lu62_send_data(uint8_t *image, size_t image_length, const uint8_t *byte
                         uint8_t *send, size_t send_length, uint8_t *unit, size_t unit_length, struct lu62_answer *answer);
 
 /* Sends the bytes kept in `send`, if any, without waiting for more. The record need not be whole, and another part may follow it.
- * Lent: send (only read), unit. Refusals: BAD_BUFFER, BAD_RECORD, WRONG_STATE, NO_CREDIT (only if bytes are kept). */
+ * In Defer it carries out the turn or end that is prepared, as lu62_prepare_to_receive or lu62_deallocate with `confirm` 0 would: a
+ * unit always goes.
+ * Lent: send (only read), unit. Refusals: BAD_BUFFER, BAD_RECORD, WRONG_STATE, UNFINISHED_RECORD (only in Defer, with an image that
+ * calls cannot leave), NO_CREDIT (only if bytes are kept, or in Defer). */
 uint32_t lu62_flush(uint8_t *image, size_t image_length, const uint8_t *send, size_t send_length,
                     uint8_t *unit, size_t unit_length, struct lu62_answer *answer);
 
 /* Sends the bytes kept and asks the partner to confirm that it has read everything. This end is then in LU62_CONFIRM_AWAITED, and
  * in LU62_SEND again when the confirmation has been taken.
+ * In Defer it carries out the turn or end that is prepared, as lu62_prepare_to_receive or lu62_deallocate with `confirm` 1 would.
  * Lent: send (only read), unit. Refusals: BAD_BUFFER, BAD_RECORD, WRONG_STATE, UNFINISHED_RECORD, NO_CREDIT. */
 uint32_t lu62_confirm(uint8_t *image, size_t image_length, const uint8_t *send, size_t send_length,
                       uint8_t *unit, size_t unit_length, struct lu62_answer *answer);
@@ -177,6 +184,19 @@ uint32_t lu62_prepare_to_receive(uint8_t *image, size_t image_length, uint8_t co
  * Lent: send (only read), unit. Refusals: BAD_BUFFER, BAD_RECORD, WRONG_STATE, UNFINISHED_RECORD, NO_CREDIT. */
 uint32_t lu62_deallocate(uint8_t *image, size_t image_length, uint8_t confirm, const uint8_t *send, size_t send_length,
                          uint8_t *unit, size_t unit_length, struct lu62_answer *answer);
+
+/* Prepares a turn, or an end, where it is not yet known whether it is to go with a confirmation: in LU62_SEND, with the last record
+ * whole. It is only noted: no unit is made, and the bytes kept stay kept. This end is then in Defer, LU62_DEFER_TURN or
+ * LU62_DEFER_END, until lu62_flush or lu62_confirm carries the turn or end out, or lu62_withdraw drops it. Refused with NO_CREDIT,
+ * flush and confirm leave this end in Defer: take a pacing response and make the call again. Units are taken, bytes read and pacing
+ * responses made in Defer as in LU62_SEND; of the other calls none but lu62_open is accepted there (WRONG_STATE).
+ * Lent: nothing. Refusals: BAD_RECORD, WRONG_STATE, UNFINISHED_RECORD. */
+uint32_t lu62_defer_turn(uint8_t *image, size_t image_length, struct lu62_answer *answer);
+uint32_t lu62_defer_end(uint8_t *image, size_t image_length, struct lu62_answer *answer);
+
+/* Withdraws the turn or end that is prepared: this end is in LU62_SEND again, with nothing else changed. No unit is made.
+ * Lent: nothing. Refusals: BAD_RECORD, WRONG_STATE (nothing is prepared). */
+uint32_t lu62_withdraw(uint8_t *image, size_t image_length, struct lu62_answer *answer);
 
 /* Makes the confirmation that the mark last read asks for. What the mark said besides then holds: receive on, send, or the end.
  * Lent: unit. Refusals: BAD_BUFFER, BAD_RECORD, WRONG_STATE. */
@@ -205,7 +225,7 @@ uint32_t lu62_receive(uint8_t *image, size_t image_length, uint8_t *inbox, size_
 
 /* What may be asked of an image that an accepted call has left. */
 
-/* The state, LU62_RESET to LU62_CONFIRM_AWAITED. */
+/* The state, LU62_RESET to LU62_DEFER_END. */
 static inline uint32_t lu62_state(const uint8_t *image)
 {
     return image[2];
@@ -270,6 +290,8 @@ static inline const char *lu62_state_name(uint32_t state)
     case LU62_RECEIVE: return "Receive";
     case LU62_CONFIRM_OWED: return "ConfirmOwed";
     case LU62_CONFIRM_AWAITED: return "ConfirmAwaited";
+    case LU62_DEFER_TURN: return "DeferTurn";
+    case LU62_DEFER_END: return "DeferEnd";
     default: return "no state has this number";
     }
 }

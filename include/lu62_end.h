@@ -1,4 +1,4 @@
-/* An end with its buffers in one struct, and lu62.h's calls on it: one argument where lu62.h has seven to nine. Optional, and
+/* An end with its buffers in one struct, and lu62.h's calls on it: one argument where lu62.h has three to nine. Optional, and
  * inline: it adds nothing to the archive.
  *
  *   struct lu62_end end;
@@ -125,6 +125,24 @@ static inline uint32_t lu62_end_deallocate(struct lu62_end *end, int confirm)
     LU62_ASSERT(lu62_end_sound(end));
     return lu62_deallocate(end->image, sizeof end->image, confirm != 0, end->send, end->send_length, end->unit, end->unit_length,
                            &end->answer);
+}
+
+static inline uint32_t lu62_end_defer_turn(struct lu62_end *end)
+{
+    LU62_ASSERT(lu62_end_sound(end));
+    return lu62_defer_turn(end->image, sizeof end->image, &end->answer);
+}
+
+static inline uint32_t lu62_end_defer_end(struct lu62_end *end)
+{
+    LU62_ASSERT(lu62_end_sound(end));
+    return lu62_defer_end(end->image, sizeof end->image, &end->answer);
+}
+
+static inline uint32_t lu62_end_withdraw(struct lu62_end *end)
+{
+    LU62_ASSERT(lu62_end_sound(end));
+    return lu62_withdraw(end->image, sizeof end->image, &end->answer);
 }
 
 static inline uint32_t lu62_end_confirmed(struct lu62_end *end)

@@ -106,6 +106,10 @@ pub enum State {
     ConfirmOwed,
     /// This end waits for a confirmation.
     ConfirmAwaited,
+    /// Defer: a turn is prepared, to be carried out by flush or confirm, or withdrawn.
+    DeferTurn,
+    /// Defer: an end is prepared, to be carried out by flush or confirm, or withdrawn.
+    DeferEnd,
 }
 
 impl State {
@@ -117,9 +121,20 @@ impl State {
             2 => Some(State::Receive),
             3 => Some(State::ConfirmOwed),
             4 => Some(State::ConfirmAwaited),
+            5 => Some(State::DeferTurn),
+            6 => Some(State::DeferEnd),
             _ => None,
         }
     }
+}
+
+/// What [`End::defer`] prepares.
+#[derive(Clone, Copy, Debug, PartialEq, Eq)]
+pub enum Deferred {
+    /// The turn goes to the partner.
+    Turn,
+    /// The conversation ends.
+    End,
 }
 
 /// What a unit says after its bytes, answered by a read when all bytes before it have been read.
@@ -251,17 +266,17 @@ impl End {
     /// Gives bytes of logical records, cut anywhere, to be sent.
     ///
     /// A table may be given as several records, its parts, each but the last with [`MORE_FOLLOWS`] in its LL. After such a part confirm,
-    /// turn and end are refused with [`Reason::UnfinishedRecord`]. A record's length is asked when its second byte is given.
+    /// turn, end and defer are refused with [`Reason::UnfinishedRecord`]. A record's length is asked when its second byte is given.
     pub fn send_data(&mut self, bytes: &[u8], send: &mut [u8], unit: &mut [u8]) -> Result<Answer, Refusal> {
         outcome(raw::send_data(&mut self.image, bytes, send, unit))
     }
 
-    /// Sends the bytes kept, if any.
+    /// Sends the bytes kept, if any. In Defer carries out the turn or end that is prepared, without confirmation: a unit always goes.
     pub fn flush(&mut self, send: &[u8], unit: &mut [u8]) -> Result<Answer, Refusal> {
         outcome(raw::flush(&mut self.image, send, unit))
     }
 
-    /// Sends the bytes kept and asks for a confirmation.
+    /// Sends the bytes kept and asks for a confirmation. In Defer carries out the turn or end that is prepared, with confirmation.
     pub fn confirm(&mut self, send: &[u8], unit: &mut [u8]) -> Result<Answer, Refusal> {
         outcome(raw::confirm(&mut self.image, send, unit))
     }
@@ -274,6 +289,26 @@ impl End {
     /// Sends the bytes kept and ends the conversation, with or without confirmation.
     pub fn deallocate(&mut self, confirm: bool, send: &[u8], unit: &mut [u8]) -> Result<Answer, Refusal> {
         outcome(raw::deallocate(&mut self.image, confirm, send, unit))
+    }
+
+    /// Prepares a turn or an end (document 02), where it is not yet known whether it is to go with a confirmation: in [`State::Send`],
+    /// with the last record whole. It is only noted, and no unit is made.
+    ///
+    /// This end is then in Defer, [`State::DeferTurn`] or [`State::DeferEnd`], until [`End::flush`] or [`End::confirm`] carries the
+    /// turn or end out, or [`End::withdraw`] drops it. Refused with [`Reason::NoCredit`], flush and confirm leave this end in Defer:
+    /// take a pacing response and make the call again. Units are taken, bytes read and pacing responses made in Defer as in Send; no
+    /// other call is accepted there ([`Reason::WrongState`]).
+    pub fn defer(&mut self, what: Deferred) -> Result<(), Refusal> {
+        let raw = match what {
+            Deferred::Turn => raw::defer_turn(&mut self.image),
+            Deferred::End => raw::defer_end(&mut self.image),
+        };
+        outcome(raw).map(|_| ())
+    }
+
+    /// Withdraws the turn or end that is prepared: this end is in [`State::Send`] again, with nothing else changed.
+    pub fn withdraw(&mut self) -> Result<(), Refusal> {
+        outcome(raw::withdraw(&mut self.image)).map(|_| ())
     }
 
     /// Makes the confirmation that is owed.

@@ -15,6 +15,9 @@ pub struct Answer {
     pub mark: u32,
 }
 
+/// A call lent the image alone.
+pub type ByImage = unsafe extern "C" fn(*mut u8, usize, *mut Answer) -> u32;
+
 /// A call lent the image and the unit buffer.
 pub type ByUnit = unsafe extern "C" fn(*mut u8, usize, *mut u8, usize, *mut Answer) -> u32;
 
@@ -98,6 +101,12 @@ extern "C" {
         answer: *mut Answer,
     ) -> u32;
 
+    pub fn lu62_defer_turn(image: *mut u8, image_length: usize, answer: *mut Answer) -> u32;
+
+    pub fn lu62_defer_end(image: *mut u8, image_length: usize, answer: *mut Answer) -> u32;
+
+    pub fn lu62_withdraw(image: *mut u8, image_length: usize, answer: *mut Answer) -> u32;
+
     pub fn lu62_confirmed(image: *mut u8, image_length: usize, unit: *mut u8, unit_length: usize, answer: *mut Answer) -> u32;
 
     pub fn lu62_send_pacing_response(
@@ -160,6 +169,16 @@ pub fn open(
             image.len(),
             &mut answer,
         );
+    }
+    answer
+}
+
+fn by_image(call: ByImage, image: &mut [u8]) -> Answer {
+    let mut answer = Answer::default();
+    // SAFETY: the image is borrowed mutably and as long as said; the answer is a local of the library's layout. `call` is one of this
+    // file's, which touch nothing else.
+    unsafe {
+        call(image.as_mut_ptr(), image.len(), &mut answer);
     }
     answer
 }
@@ -234,6 +253,18 @@ pub fn prepare_to_receive(image: &mut [u8], confirm: bool, send: &[u8], unit: &m
 
 pub fn deallocate(image: &mut [u8], confirm: bool, send: &[u8], unit: &mut [u8]) -> Answer {
     by_send_confirmed(lu62_deallocate, image, confirm, send, unit)
+}
+
+pub fn defer_turn(image: &mut [u8]) -> Answer {
+    by_image(lu62_defer_turn, image)
+}
+
+pub fn defer_end(image: &mut [u8]) -> Answer {
+    by_image(lu62_defer_end, image)
+}
+
+pub fn withdraw(image: &mut [u8]) -> Answer {
+    by_image(lu62_withdraw, image)
 }
 
 pub fn confirmed(image: &mut [u8], unit: &mut [u8]) -> Answer {

@@ -1,6 +1,6 @@
 //! The safe calls as a program uses them: one record from one end to the other, a turn, a confirmation and the end; a table in several
-//! parts.
-use lu62::{inbox_length, unit_length, End, Mark, Reason, Role, Session, State, FORMAT, MORE_FOLLOWS};
+//! parts; a turn or an end prepared, and carried out or withdrawn.
+use lu62::{inbox_length, unit_length, Answer, Deferred, End, Mark, Reason, Refusal, Role, Session, State, FORMAT, MORE_FOLLOWS};
 
 const WINDOW: u8 = 3;
 const MAX: usize = 8;
@@ -119,6 +119,176 @@ fn a_table_in_three_parts() {
     assert_eq!(read(&mut blender), (Vec::new(), Some(Mark::End)));
 }
 
+// A first speaker in Send that has given these bytes, none of which has gone.
+fn sender(bytes: &[u8]) -> Host {
+    let mut sender = host(Role::FirstSpeaker);
+    assert_eq!(sender.end.allocate(&mut sender.unit).expect("Reset").unit, 0);
+    if !bytes.is_empty() {
+        assert_eq!(sender.end.send_data(bytes, &mut sender.send, &mut sender.unit).expect("good bytes").unit, 0);
+    }
+    sender
+}
+
+// A bidder that has read a record of two bytes and the turn.
+fn sender_by_turn() -> Host {
+    let mut sender = host(Role::Bidder);
+    let unit = [0x00, 0x01, 0x03, 0x91, 0xA0, 0x00, 0x02];
+    assert!(sender.end.receive_unit(&unit, &mut sender.inbox, &mut sender.unit).is_ok());
+    assert_eq!(read(&mut sender), (vec![0x00, 0x02], None));
+    assert_eq!(read(&mut sender), (Vec::new(), Some(Mark::Turn)));
+    sender
+}
+
+// Flush or, with confirmation, confirm.
+fn carry_out(host: &mut Host, confirm: bool) -> Result<Answer, Refusal> {
+    if confirm {
+        host.end.confirm(&host.send, &mut host.unit)
+    } else {
+        host.end.flush(&host.send, &mut host.unit)
+    }
+}
+
+const DEFERRED: [(Deferred, State); 2] = [(Deferred::Turn, State::DeferTurn), (Deferred::End, State::DeferEnd)];
+
+#[test]
+fn what_is_prepared_is_carried_out_as_at_once() {
+    // With bytes kept and BB due, with none kept, and at the end that has the turn.
+    let senders: [fn() -> Host; 3] = [|| sender(b"\x00\x04AB"), || sender(b""), sender_by_turn];
+    for open in senders {
+        for (what, state) in DEFERRED {
+            for confirm in [false, true] {
+                let mut at_once = open();
+                let expected = match what {
+                    Deferred::Turn => at_once.end.prepare_to_receive(confirm, &at_once.send, &mut at_once.unit),
+                    Deferred::End => at_once.end.deallocate(confirm, &at_once.send, &mut at_once.unit),
+                };
+                assert!(expected.is_ok_and(|answer| answer.unit >= unit_length(0)));
+                let mut later = open();
+                let held = later.end.send_held();
+                assert_eq!(later.end.defer(what), Ok(()));
+                assert_eq!((later.end.state(), later.end.send_held()), (Some(state), held));
+                assert_eq!(carry_out(&mut later, confirm), expected, "{what:?}, confirmation {confirm}");
+                assert_eq!((later.end, later.unit, later.send), (at_once.end, at_once.unit, at_once.send));
+            }
+        }
+    }
+}
+
+#[test]
+fn what_is_prepared_is_withdrawn() {
+    for (what, state) in DEFERRED {
+        let mut laboratory = sender(b"\x00\x04AB");
+        let before = *laboratory.end.image();
+        assert_eq!(laboratory.end.defer(what), Ok(()));
+        assert_ne!(laboratory.end.image(), &before);
+        assert_eq!(laboratory.end.state(), Some(state));
+        assert_eq!(laboratory.end.withdraw(), Ok(()));
+        assert_eq!(laboratory.end.image(), &before, "withdrawing gives every byte back");
+        assert_eq!(laboratory.end.withdraw().unwrap_err().reason, Reason::WrongState);
+        // More is given, and both records go.
+        assert!(laboratory.end.send_data(b"\x00\x03C", &mut laboratory.send, &mut laboratory.unit).is_ok());
+        let made = laboratory.end.flush(&laboratory.send, &mut laboratory.unit).expect("credit is there");
+        assert_eq!(&laboratory.unit[..made.unit], b"\x00\x01\x03\x91\x80\x00\x04AB\x00\x03C");
+        assert_eq!(laboratory.end.state(), Some(State::Send));
+    }
+}
+
+// The end has refused for this reason, and is as it was.
+fn refused<T: std::fmt::Debug>(end: &End, before: &End, result: Result<T, Refusal>, reason: Reason) {
+    let refusal = result.expect_err("the call is to be refused");
+    assert_eq!((refusal.reason, refusal.sense, refusal.rule), (reason, 0, 0));
+    assert_eq!(end, before);
+}
+
+#[test]
+fn preparing_is_refused_outside_send_and_within_a_record() {
+    let mut awaiting = sender(b"");
+    assert!(awaiting.end.confirm(&awaiting.send, &mut awaiting.unit).is_ok());
+    let mut receiving = sender(b"");
+    assert!(receiving.end.prepare_to_receive(false, &receiving.send, &mut receiving.unit).is_ok());
+    assert_eq!(receiving.end.state(), Some(State::Receive));
+    let mut deferring = sender(b"");
+    assert_eq!(deferring.end.defer(Deferred::End), Ok(()));
+    let hosts = [
+        (sender(b"\x00"), Reason::UnfinishedRecord),
+        (sender(b"\x00\x04A"), Reason::UnfinishedRecord),
+        (sender(b"\x80\x02"), Reason::UnfinishedRecord),
+        (host(Role::FirstSpeaker), Reason::WrongState),
+        (awaiting, Reason::WrongState),
+        (receiving, Reason::WrongState),
+        (deferring, Reason::WrongState),
+    ];
+    for (mut host, reason) in hosts {
+        let before = host.end.clone();
+        for (what, _) in DEFERRED {
+            let result = host.end.defer(what);
+            refused(&host.end, &before, result, reason);
+        }
+        // Only what is prepared can be withdrawn.
+        if before.state() != Some(State::DeferEnd) {
+            let result = host.end.withdraw();
+            refused(&host.end, &before, result, Reason::WrongState);
+        }
+    }
+}
+
+#[test]
+fn nothing_else_is_accepted_where_something_is_prepared() {
+    for (what, _) in DEFERRED {
+        let Host { mut end, mut send, mut unit, mut inbox } = sender(b"\x00\x04AB");
+        assert_eq!(end.defer(what), Ok(()));
+        let before = end.clone();
+        let result = end.allocate(&mut unit);
+        refused(&end, &before, result, Reason::WrongState);
+        let result = end.send_data(b"\x00\x02", &mut send, &mut unit);
+        refused(&end, &before, result, Reason::WrongState);
+        let result = end.send_data(b"", &mut send, &mut unit);
+        refused(&end, &before, result, Reason::BadLength);
+        for confirm in [false, true] {
+            let result = end.prepare_to_receive(confirm, &send, &mut unit);
+            refused(&end, &before, result, Reason::WrongState);
+            let result = end.deallocate(confirm, &send, &mut unit);
+            refused(&end, &before, result, Reason::WrongState);
+        }
+        let result = end.confirmed(&mut unit);
+        refused(&end, &before, result, Reason::WrongState);
+        // A read and a pacing response are refused only because there is nothing to read or to answer.
+        let result = end.receive(&mut inbox, &mut [0; 4]);
+        refused(&end, &before, result, Reason::NothingToRead);
+        let result = end.send_pacing_response(&mut unit);
+        refused(&end, &before, result, Reason::NothingToPace);
+        // A bid is answered with a bid refusal, as in Send, and what is prepared stays.
+        let bid = [0x00, 0x01, 0x4B, 0x81, 0x80, 0x04, 0x00, 0x06, 0x00, 0x00];
+        let made = end.receive_unit(&bid, &mut inbox, &mut unit).expect("a bid may come at any time");
+        assert_eq!(unit[..made.unit], [0x00, 0x01, 0xCF, 0x90, 0x00, 0x08, 0x13, 0x00, 0x00, 0x04]);
+        assert_eq!(end.state(), before.state());
+    }
+}
+
+#[test]
+fn a_prepared_turn_waits_for_credit() {
+    for confirm in [false, true] {
+        let mut laboratory = sender(b"");
+        // A window of three units goes, so that none is left for the turn.
+        for _ in 0..WINDOW {
+            assert!(laboratory.end.send_data(b"\x00\x02", &mut laboratory.send, &mut laboratory.unit).is_ok());
+            assert_eq!(laboratory.end.flush(&laboratory.send, &mut laboratory.unit).expect("credit is there").unit, 7);
+        }
+        assert_eq!(laboratory.end.defer(Deferred::Turn), Ok(()));
+        let before = laboratory.end.clone();
+        let result = carry_out(&mut laboratory, confirm);
+        refused(&laboratory.end, &before, result, Reason::NoCredit);
+        let pacing = [0x00, 0x00, 0x83, 0x01, 0x00];
+        let taken = laboratory.end.receive_unit(&pacing, &mut laboratory.inbox, &mut laboratory.unit);
+        assert_eq!(taken.expect("a pacing response is awaited").unit, 0);
+        assert_eq!(laboratory.end.state(), Some(State::DeferTurn));
+        let made = carry_out(&mut laboratory, confirm).expect("credit is there");
+        let byte1 = if confirm { 0x21 } else { 0x91 };
+        assert_eq!(laboratory.unit[..made.unit], [0x00, 0x04, 0x03, byte1, 0x20]);
+        assert_eq!(laboratory.end.state(), Some(if confirm { State::ConfirmAwaited } else { State::Receive }));
+    }
+}
+
 #[test]
 fn refusals_say_what_was_wrong() {
     let mut blender = host(Role::Bidder);
@@ -167,4 +337,34 @@ fn a_changed_image_is_refused_or_another_record() {
     let made = changed.allocate(&mut unit).expect("a record within the section is accepted");
     assert_eq!((made.unit, &unit[..2]), (10, &[0x00, 0x07][..]));
     assert!(changed.bid_pending() && !blender.end.bid_pending());
+}
+
+#[test]
+fn a_forged_state_is_refused_and_a_forged_defer_asks_for_a_whole_record() {
+    let laboratory = sender(b"\x00\x04AB");
+    let Host { end, send, mut unit, .. } = laboratory;
+    let forged = |state: u8, place: u8| {
+        let mut image = *end.image();
+        (image[2], image[18]) = (state, place);
+        End::from_image(image)
+    };
+    // No state has the number 7 or one above.
+    for state in 7..=255 {
+        let mut end = forged(state, 0);
+        assert_eq!(end.state(), None);
+        for (what, _) in DEFERRED {
+            assert_eq!(end.defer(what).unwrap_err().reason, Reason::BadRecord);
+        }
+        assert_eq!(end.withdraw().unwrap_err().reason, Reason::BadRecord);
+        assert_eq!(end.flush(&send, &mut unit).unwrap_err().reason, Reason::BadRecord);
+        assert_eq!(end.confirm(&send, &mut unit).unwrap_err().reason, Reason::BadRecord);
+    }
+    // Defer behind a part that another follows: no calls lead there, and neither flush nor confirm sends it.
+    for state in [5, 6] {
+        let mut end = forged(state, 1);
+        assert_eq!(end.flush(&send, &mut unit).unwrap_err().reason, Reason::UnfinishedRecord);
+        assert_eq!(end.confirm(&send, &mut unit).unwrap_err().reason, Reason::UnfinishedRecord);
+        assert_eq!(end.withdraw(), Ok(()));
+        assert_eq!(end, forged(1, 1));
+    }
 }

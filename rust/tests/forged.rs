@@ -4,6 +4,9 @@
 //! refusal changed nothing anywhere, an accepted call wrote only where it may, and the answer is one that the call can give.
 //! Besides, every answer and every cell is compared with what the plain end gives; and the call is made once more with every buffer
 //! against a page that cannot be touched, right before its first byte or right behind its last, and must come to the same.
+//!
+//! And on such images: flush or confirm after a prepared turn or end gives answer, image and every cell that turn or end gives on the
+//! image before, and withdrawing gives that image back.
 mod common;
 
 use common::pages::Area;
@@ -15,6 +18,8 @@ use std::ops::Range;
 
 const SEED: u64 = 0x6C75_3632_0002;
 const CALLS: usize = 1_500_000;
+// On which a turn or an end is prepared.
+const IMAGES: usize = 500_000;
 // Cells before, between and after the buffers.
 const GUARD: usize = 40;
 const ANSWER_GUARD: u32 = 0xA5A5_5A5A;
@@ -34,9 +39,12 @@ enum Call {
     Pace,
     Take,
     Read,
+    DeferTurn,
+    DeferEnd,
+    Withdraw,
 }
 
-const ALL: [Call; 11] = [
+const ALL: [Call; 14] = [
     Call::Open,
     Call::Allocate,
     Call::SendData,
@@ -48,16 +56,20 @@ const ALL: [Call; 11] = [
     Call::Pace,
     Call::Take,
     Call::Read,
+    Call::DeferTurn,
+    Call::DeferEnd,
+    Call::Withdraw,
 ];
 
-// The refusals that document 01's questions leave possible for each call.
+// The refusals that the questions of documents 01 and 02 leave possible for each call.
 fn allowed(call: Call) -> &'static [u32] {
     match call {
         Call::Open => &[1, 2, 3, 4],
-        Call::Allocate | Call::Flush => &[4, 5, 7, 10],
+        Call::Allocate => &[4, 5, 7, 10],
         Call::SendData => &[4, 5, 6, 7, 8, 10],
-        Call::Confirm | Call::Turn | Call::Deallocate => &[4, 5, 7, 9, 10],
-        Call::Confirmed => &[4, 5, 7],
+        Call::Flush | Call::Confirm | Call::Turn | Call::Deallocate => &[4, 5, 7, 9, 10],
+        Call::DeferTurn | Call::DeferEnd => &[4, 5, 7, 9],
+        Call::Confirmed | Call::Withdraw => &[4, 5, 7],
         Call::Pace => &[4, 5, 11],
         Call::Take => &[4, 5, 13, 20, 21, 22, 23, 24, 25, 26, 27, 28, 29],
         Call::Read => &[4, 5, 6, 8, 12],
@@ -184,6 +196,9 @@ unsafe fn made(call: Call, lent: &Lent, opening: &Opening, confirm: u8) -> u32 {
             Call::Pace => raw::lu62_send_pacing_response(image, il, unit, ul, answer),
             Call::Take => raw::lu62_receive_unit(image, il, gift, gl, inbox, xl, unit, ul, answer),
             Call::Read => raw::lu62_receive(image, il, inbox, xl, buffer, bl, answer),
+            Call::DeferTurn => raw::lu62_defer_turn(image, il, answer),
+            Call::DeferEnd => raw::lu62_defer_end(image, il, answer),
+            Call::Withdraw => raw::lu62_withdraw(image, il, answer),
         }
     }
 }
@@ -270,7 +285,8 @@ fn place(image: &[u8], at: usize) -> Option<Place> {
 }
 
 // In the order of their codes.
-const STATES: [State; 5] = [State::Reset, State::Send, State::Receive, State::Owes, State::Waits];
+const STATES: [State; 7] =
+    [State::Reset, State::Send, State::Receive, State::Owes, State::Waits, State::DeferTurn, State::DeferEnd];
 const FOLLOWS: [Follow; 3] = [Follow::Stay, Follow::Turn, Follow::End];
 const MARKS: [Mark; 6] = [Mark::None, Mark::Turn, Mark::End, Mark::Confirm, Mark::ConfirmTurn, Mark::ConfirmEnd];
 
@@ -409,6 +425,9 @@ fn by_plain(call: Call, block: &mut Block, opening: &Opening, confirm: u8) -> pl
         Call::Pace => end.send_pacing_response(unit),
         Call::Take => end.receive_unit(gift, inbox, unit),
         Call::Read => end.receive(inbox, buffer),
+        Call::DeferTurn => end.defer_turn(),
+        Call::DeferEnd => end.defer_end(),
+        Call::Withdraw => end.withdraw(),
     };
     encode(&end, &mut block.cells[block.image.clone()]);
     answer
@@ -459,9 +478,14 @@ fn random_inbox(random: &mut Random, into: Window, in_max: usize) -> (usize, usi
 
 // A record that is within question 5, though not one that calls must be able to reach.
 fn random_end(random: &mut Random) -> plain::End {
+    let [reset, send, receive, owes, waits, turn, end] = STATES;
+    let state = random.pick(&[reset, send, send, receive, receive, owes, waits, turn, end]);
+    random_end_in(random, state)
+}
+
+fn random_end_in(random: &mut Random, state: State) -> plain::End {
     let bidder = random.chance(1, 2);
-    let state = random.pick(&[State::Reset, State::Send, State::Send, State::Receive, State::Receive, State::Owes, State::Waits]);
-    let sends = state == State::Send;
+    let sends = matches!(state, State::Send | State::DeferTurn | State::DeferEnd);
     let out_max = random_max(random);
     let out_held = match (sends, random.below(4)) {
         (false, _) | (true, 0) => 0,
@@ -741,9 +765,8 @@ fn random_gift(random: &mut Random, end: &plain::End) -> Vec<u8> {
     bytes
 }
 
-// Lays out and fills a block for one call.
-fn prepare(random: &mut Random, call: Call, block: &mut Block) {
-    let end = random_end(random);
+// Lays out and fills a block for one call on this end.
+fn fill_block(random: &mut Random, call: Call, end: plain::End, block: &mut Block) {
     let max = usize::from(end.out_max);
     let gift = if call == Call::Take { random_unit(random, &end) } else { random_gift(random, &end) };
     let image = if random.chance(1, 64) { random.below(64) } else { IMAGE };
@@ -863,6 +886,23 @@ fn check(call: Call, before: &Block, after: &Block, answer: &raw::Answer, openin
         may.extend(kept_cells(call, before, after, answer));
     }
     assert!(unchanged_outside(before, after, &may), "{call:?} wrote outside what it may");
+    if let Some((from, to)) = only_the_state(call) {
+        let state = before.image.start + at::STATE;
+        let cell = state..state + 1;
+        assert_eq!(answer.unit, 0, "{call:?} makes no unit");
+        assert!(from.contains(&before.cells[state]) && after.cells[state] == to, "{call:?} leaves another state");
+        assert!(unchanged_outside(before, after, std::slice::from_ref(&cell)), "{call:?} changes more than the state");
+    }
+}
+
+// For a call that changes no more than the state: from which states and to which.
+fn only_the_state(call: Call) -> Option<(&'static [u8], u8)> {
+    match call {
+        Call::DeferTurn => Some((&[1], 5)),
+        Call::DeferEnd => Some((&[1], 6)),
+        Call::Withdraw => Some((&[5, 6], 1)),
+        _ => None,
+    }
 }
 
 // What the calls are tried with: the block as it was before, as the plain end leaves it, and the areas with pages beside them.
@@ -928,18 +968,18 @@ fn forged_calls() {
     let mut random = Random(SEED);
     let mut block = Block::new();
     let mut bench = Bench::new();
-    let mut seen = [[0usize; 30]; 11];
+    let mut seen = [[0usize; 30]; ALL.len()];
     // Reads inside a record, at its end, and at the end of a part that another follows.
     let mut reads = [0usize; 3];
     for i in 0..CALLS {
         // Takes have the most questions.
-        let which = if random.chance(1, 4) { 9 } else { random.below(ALL.len()) };
-        let call = ALL[which];
-        prepare(&mut random, call, &mut block);
+        let call = if random.chance(1, 4) { Call::Take } else { random.pick(&ALL) };
+        let end = random_end(&mut random);
+        fill_block(&mut random, call, end, &mut block);
         let opening = random_opening(&mut random);
         let confirm = random.pick(&[0, 0, 1, 1, 2, 255]);
         let answer = bench.tried(i, call, &mut block, &opening, confirm);
-        seen[which][answer.refusal as usize] += 1;
+        seen[call as usize][answer.refusal as usize] += 1;
         reads[(answer.complete + answer.more) as usize] += usize::from(answer.copied > 0);
     }
     println!("forged: seed {SEED:#x}, {CALLS} calls, each against pages that cannot be touched too");
@@ -953,6 +993,63 @@ fn forged_calls() {
             assert!(counts[n as usize] >= 50, "{call:?} was hardly ever refused with {n}");
         }
     }
+}
+
+// The four ways in which what is prepared is carried out, and the call that does the same at once.
+#[derive(Clone, Copy)]
+struct Way {
+    defer: Call,
+    carry_out: Call,
+    at_once: Call,
+    confirm: u8,
+}
+
+const WAYS: [Way; 4] = [
+    Way { defer: Call::DeferTurn, carry_out: Call::Flush, at_once: Call::Turn, confirm: 0 },
+    Way { defer: Call::DeferTurn, carry_out: Call::Confirm, at_once: Call::Turn, confirm: 1 },
+    Way { defer: Call::DeferEnd, carry_out: Call::Flush, at_once: Call::Deallocate, confirm: 0 },
+    Way { defer: Call::DeferEnd, carry_out: Call::Confirm, at_once: Call::Deallocate, confirm: 1 },
+];
+
+#[test]
+fn prepared_and_carried_out() {
+    let mut random = Random(SEED + 1);
+    let mut bench = Bench::new();
+    let [mut block, mut later, mut at_once] = [(); 3].map(|()| Block::new());
+    // Calls made; refusals of preparing; refusals of carrying out, for each way.
+    let (mut calls, mut unprepared, mut seen) = (0, [0usize; 30], [[0usize; 30]; WAYS.len()]);
+    for i in 0..IMAGES {
+        let way = random.below(WAYS.len());
+        let Way { defer, carry_out, at_once: other, confirm } = WAYS[way];
+        let state = if random.chance(15, 16) { State::Send } else { random.pick(&STATES) };
+        let end = random_end_in(&mut random, state);
+        fill_block(&mut random, defer, end, &mut block);
+        copy_block(&block, &mut later);
+        let prepared = bench.tried(i, defer, &mut later, &AN_OPENING, 0);
+        unprepared[prepared.refusal as usize] += 1;
+        calls += 1;
+        if prepared.refusal != 0 {
+            continue;
+        }
+        copy_block(&later, &mut at_once);
+        assert_eq!(bench.tried(i, Call::Withdraw, &mut at_once, &AN_OPENING, 0), prepared, "withdrawing is accepted");
+        assert!(at_once.cells == block.cells, "image {i}: withdrawing gives every cell back");
+        let answer = bench.tried(i, carry_out, &mut later, &AN_OPENING, 0);
+        assert_eq!(answer, bench.tried(i, other, &mut block, &AN_OPENING, confirm), "image {i}, {carry_out:?} after {defer:?}");
+        if answer.refusal == 0 {
+            assert!(answer.unit > 0 && later.cells == block.cells, "image {i}: {carry_out:?} after {defer:?} leaves other cells");
+        }
+        seen[way][answer.refusal as usize] += 1;
+        calls += 3;
+    }
+    println!("prepared: {calls} calls on {IMAGES} images to prepare a turn or an end, and to withdraw it or carry it out");
+    for (way, counts) in WAYS.iter().zip(&seen) {
+        let [accepted, bad_buffer, no_credit] = [0, 4, 10].map(|n| counts[n]);
+        println!("prepared: {:?} after {:?}: 0: {accepted}, 4: {bad_buffer}, 10: {no_credit}", way.carry_out, way.defer);
+        assert_eq!(accepted + bad_buffer + no_credit, counts.iter().sum(), "only 4 and 10 are left to refuse with");
+        assert!(accepted >= 1000 && bad_buffer >= 100 && no_credit >= 100);
+    }
+    assert!([4, 5, 7, 9].iter().all(|&n: &usize| unprepared[n] >= 1000), "hardly any refusal of one kind: {unprepared:?}");
 }
 
 // ---- calls at the bounds of the rules, one by one
@@ -970,6 +1067,7 @@ fn accepting(call: Call) -> (plain::End, Vec<u8>) {
             Call::Allocate => State::Reset,
             Call::Confirmed => State::Owes,
             Call::Take | Call::Read | Call::Pace => State::Receive,
+            Call::Withdraw => State::DeferTurn,
             _ => State::Send,
         },
         follow: Follow::Stay,
@@ -1064,6 +1162,20 @@ fn record_places_at_their_bounds() {
 }
 
 #[test]
+fn states_at_their_bounds() {
+    let mut bench = Bench::new();
+    for call in later_calls() {
+        for state in 0..=255 {
+            let (end, gift) = accepting(call);
+            let mut block = laid(&end, &gift, &GOOD_INBOX, [0; 4]);
+            block.cells[block.image.start + at::STATE] = state;
+            let answer = bench.tried(5, call, &mut block, &AN_OPENING, 0);
+            assert_eq!(answer.refusal == 5, usize::from(state) >= STATES.len(), "{call:?} in state {state}: {}", answer.refusal);
+        }
+    }
+}
+
+#[test]
 fn record_lengths_at_their_bounds() {
     let mut bench = Bench::new();
     let others = [0x0003, 0x00FF, 0x0100, 0x7FFE, 0x8003, 0x80FF, 0x8100, 0xFFFE];
@@ -1103,7 +1215,7 @@ fn record_lengths_at_their_bounds() {
     }
 }
 
-// A mark behind a part that another follows, however the part ends, and the calls that would make one.
+// A mark behind a part that another follows, however the part ends.
 #[test]
 fn parts_at_a_mark() {
     let mut bench = Bench::new();
@@ -1133,14 +1245,22 @@ fn parts_at_a_mark() {
                 assert_eq!(answer.refusal, expected, "header 03 {byte1:02X} {byte2:02X}, {place:?}, {bytes:02X?}");
             }
         }
-        for call in [Call::Confirm, Call::Turn, Call::Deallocate] {
-            for confirm in 0..2 {
-                let (mut end, gift) = accepting(call);
-                end.given = Place::Between(more);
-                let mut block = laid(&end, &gift, &[], [0; 4]);
-                let answer = bench.tried(4, call, &mut block, &AN_OPENING, confirm);
-                assert_eq!(answer.refusal, if more { 9 } else { 0 }, "{call:?} with another part to follow: {more}");
-            }
+    }
+}
+
+// The calls that would make a mark, or prepare one.
+#[test]
+fn parts_before_a_mark() {
+    let mut bench = Bench::new();
+    let in_send = [Call::Confirm, Call::Turn, Call::Deallocate, Call::DeferTurn, Call::DeferEnd].map(|call| (call, State::Send));
+    let in_defer = [State::DeferTurn, State::DeferEnd].map(|state| [(Call::Flush, state), (Call::Confirm, state)]);
+    for (call, state) in in_send.into_iter().chain(in_defer.into_iter().flatten()) {
+        for (more, confirm) in [(false, 0), (false, 1), (true, 0), (true, 1)] {
+            let (mut end, gift) = accepting(call);
+            (end.state, end.given) = (state, Place::Between(more));
+            let mut block = laid(&end, &gift, &[], [0; 4]);
+            let answer = bench.tried(4, call, &mut block, &AN_OPENING, confirm);
+            assert_eq!(answer.refusal, if more { 9 } else { 0 }, "{call:?} in {state:?} with another part to follow: {more}");
         }
     }
 }

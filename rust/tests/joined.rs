@@ -1,12 +1,14 @@
 //! Two joined ends, called in any order with anything their callers choose, units crossing on the line.
 //!
-//! After every call: the ends are not both in Send; a take was not refused as a breach; the number of bytes accepted and not yet read
-//! is that of the bytes in the inbox, on the line and in the send buffer; requests made and credit left are the windows allowed.
+//! After every call: the ends are not both in Send or Defer; a take was not refused as a breach; the number of bytes accepted and
+//! not yet read is that of the bytes in the inbox, on the line and in the send buffer; requests made and credit left are the windows
+//! allowed.
 //! At every read: each byte is the next of those accepted at the other end, none past the end of a record, and what is complete,
 //! whether more parts follow and which cells change is right. At every send data: 8 is answered for a bad LL and for nothing else. At
-//! every confirm, turn and end: 9 is answered in Send for a record that is not whole or that another part follows, and for nothing
-//! else. At every read that completes a table (parts joined by what the reads say, until one that no other follows): it is the first
-//! table given that has not been read.
+//! every confirm, turn, end and prepare: 9 is answered in Send for a record that is not whole or that another part follows, and for
+//! nothing else. At every call in Defer: flush and confirm carry out what is prepared, or are refused with 10; withdraw gives Send
+//! back; take, read and pace leave the state; all others are refused, with 7 or, for a wrong length, 6. At every read that completes
+//! a table (parts joined by what the reads say, until one that no other follows): it is the first table given that has not been read.
 //!
 //! At times: the bytes in the inbox, on the line and in the send buffer are compared with those accepted, one by one. That is after
 //! every call while fewer than 256 bytes are under way; with more, once in as many calls as there are 256s of them; and at the end
@@ -17,7 +19,7 @@
 mod common;
 
 use common::{at, credit, word, Random};
-use lu62::{Answer, End, ReadAnswer, Reason, Refusal, Role, Session};
+use lu62::{Answer, Deferred, End, ReadAnswer, Reason, Refusal, Role, Session};
 use plain::{walk, Place, WHOLE};
 use std::collections::VecDeque;
 
@@ -37,6 +39,20 @@ enum Call {
     Take,
     // The cells that the caller's buffer holds before the read.
     Read(Vec<u8>),
+    Defer(Deferred),
+    Withdraw,
+}
+
+const SEND: u8 = 1;
+const DEFER_TURN: u8 = 5;
+const DEFER_END: u8 = 6;
+
+fn is_defer(state: u8) -> bool {
+    state == DEFER_TURN || state == DEFER_END
+}
+
+fn holds_send(state: u8) -> bool {
+    state == SEND || is_defer(state)
 }
 
 #[derive(Clone, Debug, PartialEq, Eq)]
@@ -63,6 +79,8 @@ struct Side {
     inbox: Vec<u8>,
     // Units that the partner made and this end has not taken, oldest first.
     line: VecDeque<Vec<u8>>,
+    // The unit last taken here.
+    taken: Vec<u8>,
     // Bytes accepted here and not yet read at the partner.
     unread: VecDeque<u8>,
     // Data bytes on the line towards this end.
@@ -124,8 +142,11 @@ fn ended(part: &[u8]) -> bool {
 #[derive(Default)]
 struct Seen {
     calls: usize,
-    accepted: [usize; 10],
+    accepted: [usize; 13],
     refused: [usize; 30],
+    // In Defer-turn and Defer-end: carried out by flush, by confirm; withdrawn; refused with 10, with 7 or 6; pacing responses taken;
+    // bids refused.
+    deferred: [[usize; 7]; 2],
     grants: usize,
     bid_refusals: usize,
     marks: [usize; 6],
@@ -185,6 +206,9 @@ impl Seen {
             Call::Pace => 7,
             Call::Take => 8,
             Call::Read(_) => 9,
+            Call::Defer(Deferred::Turn) => 10,
+            Call::Defer(Deferred::End) => 11,
+            Call::Withdraw => 12,
         };
         match outcome {
             Outcome::Called(Err(refusal)) | Outcome::Read(Err(refusal), _) => {
@@ -216,6 +240,9 @@ impl Seen {
         println!("joined: LLs given {EDGES:04X?}: {:?}", self.edges);
         println!("joined: at most {} parts in a table", self.most_parts);
         println!("joined: bids granted {}, refused {}; marks read {:?}", self.grants, self.bid_refusals, self.marks);
+        let what =
+            "carried out by flush, by confirm, withdrawn, refused with 10, with 7 or 6, pacing responses taken, bids refused";
+        println!("joined: in Defer-turn and in Defer-end: {what}: {:?}", self.deferred);
     }
 
     // Runs that never reach a rule would show nothing about it.
@@ -229,6 +256,7 @@ impl Seen {
         assert!(self.parts >= 10_000 && self.tables_of_parts >= 10_000 && self.most_parts >= 10);
         assert!(self.unfinished.iter().all(|&n| n >= 1000));
         assert!(self.edges.iter().all(|&n| n >= 20));
+        assert!(self.deferred.iter().all(|counts| counts[..5].iter().all(|&n| n >= 500) && counts[5..].iter().all(|&n| n >= 50)));
     }
 }
 
@@ -248,7 +276,7 @@ impl Side {
                 let fits = (1..=word(image, at::OUT_MAX)).contains(&bytes.len());
                 assert_eq!(
                     refusal.reason == Reason::BadLl,
-                    fits && image[at::STATE] == 1 && after.is_none(),
+                    fits && image[at::STATE] == SEND && after.is_none(),
                     "8 is for a bad LL given in Send: {refusal}"
                 );
                 if refusal.reason == Reason::BadLl {
@@ -258,12 +286,65 @@ impl Side {
         }
     }
 
-    // A confirm, turn or end made here in this state: 9 is answered where the last record is not whole or another part is to follow it.
+    // A confirm, turn, end or prepare made here in this state: 9 is answered where the last record is not whole or another part is to
+    // follow it.
     fn note_closed(&self, state: u8, result: &Result<Answer, Refusal>, seen: &mut Seen) {
         let refused = result.is_err_and(|refusal| refusal.reason == Reason::UnfinishedRecord);
-        assert_eq!(refused, state == 1 && self.given != WHOLE, "9 at record place {:?}", self.given);
+        assert_eq!(refused, state == SEND && self.given != WHOLE, "9 at record place {:?}", self.given);
         if refused {
             seen.unfinished[usize::from(self.given == Place::Between(true))] += 1;
+        }
+    }
+
+    // A call made here in Defer.
+    fn note_deferred(&self, call: &Call, state: u8, outcome: &Outcome, seen: &mut Seen) {
+        let counts = &mut seen.deferred[usize::from(state == DEFER_END)];
+        let after = self.end.image()[at::STATE];
+        match (call, outcome) {
+            (Call::Flush | Call::Confirm, Outcome::Called(Ok(answer))) => {
+                let confirm = *call == Call::Confirm;
+                self.check_carried_out(state == DEFER_TURN, confirm, answer);
+                counts[usize::from(confirm)] += 1;
+            }
+            (Call::Withdraw, Outcome::Called(Ok(_))) => {
+                assert_eq!(after, SEND, "withdrawing gives Send back");
+                counts[2] += 1;
+            }
+            (Call::Take | Call::Read(_) | Call::Pace, _) => {
+                assert_eq!(after, state, "{call:?} leaves Defer as it is");
+                if let (Call::Take, Outcome::Called(Ok(answer))) = (call, outcome) {
+                    counts[5] += usize::from(self.taken[2..5] == PACING_RESPONSE);
+                    counts[6] += usize::from(answer.unit > 0);
+                }
+            }
+            (_, Outcome::Called(Err(refusal))) => {
+                assert_eq!((refusal.reason, after), (self.reason_in_defer(call), state), "{call:?} in Defer");
+                counts[if refusal.reason == Reason::NoCredit { 3 } else { 4 }] += 1;
+            }
+            _ => panic!("{call:?} is accepted in Defer"),
+        }
+    }
+
+    // A turn or an end carried out: the unit that was made, and the state after it.
+    fn check_carried_out(&self, turn: bool, confirm: bool, answer: &Answer) {
+        assert!(answer.unit >= 5, "flush and confirm in Defer make a unit");
+        let header = [self.unit[2] & 0x01, self.unit[3] & 0xFE, self.unit[4] & 0x7F];
+        let expected = [0x01, if confirm { 0x20 } else { 0x90 }, if turn { 0x20 } else { 0x01 }];
+        assert_eq!(header, expected, "last in its chain, and what it says, but for first, pacing bit and BB");
+        let state = match (confirm, turn) {
+            (true, _) => 4,
+            (false, true) => 2,
+            (false, false) => 0,
+        };
+        assert_eq!(self.end.image()[at::STATE], state, "the state after it");
+    }
+
+    // Why this call can be refused in Defer, if it is.
+    fn reason_in_defer(&self, call: &Call) -> Reason {
+        match call {
+            Call::Flush | Call::Confirm => Reason::NoCredit,
+            Call::SendData(bytes) if !(1..=word(self.end.image(), at::OUT_MAX)).contains(&bytes.len()) => Reason::BadLength,
+            _ => Reason::WrongState,
         }
     }
 }
@@ -271,6 +352,9 @@ impl Side {
 struct Pair {
     sides: [Side; 2],
 }
+
+// The header of a pacing response.
+const PACING_RESPONSE: [u8; 3] = [0x83, 0x01, 0x00];
 
 fn data_ru(unit: &[u8]) -> &[u8] {
     if unit[2] <= 3 {
@@ -308,6 +392,7 @@ impl Pair {
                 unit,
                 inbox,
                 line: VecDeque::new(),
+                taken: Vec::new(),
                 unread: VecDeque::new(),
                 on_line: 0,
                 given: WHOLE,
@@ -342,14 +427,14 @@ impl Pair {
                 let result = side.end.receive(&mut side.inbox, &mut buffer);
                 return Outcome::Read(result, buffer);
             }
+            Call::Defer(what) => side.end.defer(*what).map(|()| Answer { unit: 0 }),
+            Call::Withdraw => side.end.withdraw().map(|()| Answer { unit: 0 }),
         };
         if let Ok(answer) = result {
             if *call == Call::Take {
-                let taken = side.line.pop_front().unwrap_or_default();
-                side.on_line -= data_ru(&taken).len();
-                if taken[2..5] == [0x83, 0x01, 0x00] {
-                    side.pacing_taken += 1;
-                }
+                side.taken = side.line.pop_front().unwrap_or_default();
+                side.on_line -= data_ru(&side.taken).len();
+                side.pacing_taken += usize::from(side.taken[2..5] == PACING_RESPONSE);
             }
             if answer.unit > 0 {
                 let unit = side.unit[..answer.unit].to_vec();
@@ -367,10 +452,19 @@ impl Pair {
     // What the outcome adds to the histories, with the checks that belong to this one call. `state` is that before the call.
     fn note(&mut self, who: usize, call: &Call, state: u8, outcome: &Outcome, seen: &mut Seen) {
         seen.count(call, outcome);
+        if is_defer(state) {
+            self.sides[who].note_deferred(call, state, outcome, seen);
+        }
         match (call, outcome) {
             (Call::SendData(bytes), Outcome::Called(result)) => self.sides[who].note_given(bytes, result, seen),
             (Call::Confirm | Call::Turn(_) | Call::Deallocate(_), Outcome::Called(result)) => {
                 self.sides[who].note_closed(state, result, seen);
+            }
+            (Call::Defer(what), Outcome::Called(result)) => {
+                self.sides[who].note_closed(state, result, seen);
+                let after = if result.is_err() { state } else { DEFER_TURN + *what as u8 };
+                assert_eq!(self.sides[who].end.image()[at::STATE], after, "what is prepared is noted");
+                assert!(result.is_err() || state == SEND, "a turn or an end was prepared outside Send");
             }
             (Call::Read(cells), Outcome::Read(result, buffer)) => {
                 let copied = result.map_or(0, |answer| answer.copied);
@@ -380,11 +474,12 @@ impl Pair {
                     Err(refusal) => assert!([Reason::NothingToRead, Reason::BadLength].contains(&refusal.reason)),
                 }
             }
-            (Call::Take, Outcome::Called(Ok(answer))) if answer.unit > 0 => match self.sides[who].unit[2] {
-                0xCB => seen.grants += 1,
-                0xCF => seen.bid_refusals += 1,
-                other => panic!("a take made a unit of kind {other:02X}"),
+            (Call::Take, Outcome::Called(Ok(answer))) if answer.unit > 0 => match (self.sides[who].unit[2], state) {
+                (0xCB, 0) => seen.grants += 1,
+                (0xCF, 1..) => seen.bid_refusals += 1,
+                (other, _) => panic!("a take in state {state} made a unit of kind {other:02X}"),
             },
+            (Call::Withdraw, Outcome::Called(Ok(_))) => assert!(is_defer(state), "nothing was prepared"),
             _ => {}
         }
     }
@@ -420,7 +515,7 @@ impl Pair {
     // What must hold after every call. The bytes themselves are compared where `whole` says so, their number always.
     fn check(&self, sizes: &Sizes, whole: bool) {
         let images = [self.sides[0].end.image(), self.sides[1].end.image()];
-        assert!(!(images[0][at::STATE] == 1 && images[1][at::STATE] == 1), "both ends are in Send");
+        assert!(!images.iter().all(|image| holds_send(image[at::STATE])), "both ends are in Send or Defer");
         for who in 0..2 {
             let (giver, taker) = (&self.sides[who], &self.sides[1 - who]);
             let window = usize::from(sizes.window[who]);
@@ -546,7 +641,7 @@ fn read(random: &mut Random, habits: &Habits) -> Call {
 }
 
 fn odd_call(random: &mut Random, side: &Side, max: usize, habits: &Habits) -> Call {
-    match random.below(13) {
+    match random.below(15) {
         0 => Call::Allocate,
         1 => Call::Flush,
         2 => Call::Confirm,
@@ -566,6 +661,8 @@ fn odd_call(random: &mut Random, side: &Side, max: usize, habits: &Habits) -> Ca
             }
         }
         11 => send_data(random, side, max, habits),
+        12 => Call::Defer(random.pick(&[Deferred::Turn, Deferred::End])),
+        13 => Call::Withdraw,
         _ => read(random, habits),
     }
 }
@@ -577,6 +674,9 @@ fn closes(given: Place, random: &mut Random, habits: &Habits) -> bool {
         _ => false,
     }
 }
+
+// What Defer suggests.
+const DEFER_CALLS: [&Call; 5] = [&Call::Flush, &Call::Flush, &Call::Confirm, &Call::Confirm, &Call::Withdraw];
 
 // The next call of an end: mostly one that its state suggests.
 fn choose(random: &mut Random, side: &Side, max: usize, habits: &Habits) -> Call {
@@ -596,14 +696,17 @@ fn choose(random: &mut Random, side: &Side, max: usize, habits: &Habits) -> Call
     match image[at::STATE] {
         0 => Call::Allocate,
         // After a part that another follows, confirm, turn and end are tried too, but not often: they are refused.
-        1 if closes(side.given, random, habits) => match random.below(4) {
+        SEND if closes(side.given, random, habits) => match random.below(6) {
             0 => Call::Confirm,
             1 => Call::Deallocate(random.chance(1, 2)),
             2 => Call::Flush,
-            _ => Call::Turn(random.chance(1, 2)),
+            3 => Call::Turn(random.chance(1, 2)),
+            _ => Call::Defer(random.pick(&[Deferred::Turn, Deferred::End])),
         },
-        1 if random.chance(1, 16) => Call::Flush,
-        1 => send_data(random, side, max, habits),
+        SEND if random.chance(1, 16) => Call::Flush,
+        SEND => send_data(random, side, max, habits),
+        DEFER_TURN | DEFER_END if random.chance(1, 8) => odd_call(random, side, max, habits),
+        DEFER_TURN | DEFER_END => random.pick(&DEFER_CALLS).clone(),
         3 => Call::Confirmed,
         _ => Call::Take,
     }

@@ -1,8 +1,10 @@
 /* What the blender prints is what was sent, or nothing: the test is a laboratory that keeps the protocol and sends odd records, or
- * stops in the middle of a unit, and looks at what the blender prints, says and answers. At the end the laboratory with a silent
- * blender. Prints how many cases were tried, or what differed. */
+ * stops in the middle of a unit, and looks at what the blender prints, says and answers. Then a laboratory without a pacing response,
+ * on which the turn of the blender waits. At the end the laboratory with a silent blender. Prints how many cases were tried, or what
+ * differed. */
 #include "child.h"
 
+#include "../../hosts/clock.h"
 #include "../../hosts/session.h"
 
 #include <poll.h>
@@ -13,6 +15,9 @@
 
 /* The time limit where it is to be reached, and where it is not, on a machine that does other work too. */
 enum { LIMIT_MS = 400, LONG_LIMIT_MS = 5000, PATIENCE_MS = 10000, MOST_RECORDS = 6, LONG = 600 };
+
+/* How long it is listened for more units than are due. */
+enum { QUIET_MS = 150 };
 
 #define HEADINGS "campaign MARINE-05\nbatch       viscosity    sulphur\n"
 #define GOOD_COLUMNS "1 batch 1 8 8 viscosity 1 16 8 sulphur 1 24 8"
@@ -198,26 +203,40 @@ static void expect(bool good, const char *name, const char *what, const struct c
     fprintf(stderr, "records: %s: %s\n  status %d\n  printed %s\n  said %s\n", name, what, child->status, child->out, child->err);
 }
 
-/* Sends what waits and receives what comes, once. False if the line is at its end. */
-static bool exchange_once(struct session *session)
+/* Makes a pacing response if one is due. */
+static void pace(struct session *session)
 {
-    size_t length;
-    const uint8_t *unit;
     if (lu62_end_send_pacing_response(&session->end) == LU62_ACCEPTED)
         (void)line_put(&session->line, session->end.unit, session->end.answer.unit);
     line_send(&session->line);
-    if (!line_wait(&session->line, PATIENCE_MS))
+}
+
+/* Waits at most so long, receives what comes and takes what may be taken. `taken` counts the units. False if the line is at its end. */
+static bool take_what_comes(struct session *session, int64_t most_ms, size_t *taken)
+{
+    size_t length;
+    const uint8_t *unit;
+    if (!line_wait(&session->line, most_ms))
         return false;
     (void)line_receive(&session->line);
     while ((unit = line_front(&session->line, &length)) != NULL) {
         if (lu62_end_receive_unit(&session->end, unit, length) == LU62_UNREAD_MARK)
             break;
         line_drop(&session->line);
+        ++*taken;
         if (session->end.answer.unit > 0 && !line_put(&session->line, session->end.unit, session->end.answer.unit))
             return false;
     }
     line_send(&session->line);
     return !session->line.closed;
+}
+
+/* Sends what waits and receives what comes, once. False if the line is at its end. */
+static bool exchange_once(struct session *session)
+{
+    size_t taken = 0;
+    pace(session);
+    return take_what_comes(session, PATIENCE_MS, &taken);
 }
 
 /* Reads whatever has come until this end may send: for a table, the blender's query and its turn. */
@@ -307,6 +326,74 @@ static void run_case(const struct record_case *the)
     expect(strcmp(child.err, the->err) == 0, the->name, "another message", &child);
 }
 
+/* What a laboratory hears until nothing more comes. */
+struct heard {
+    size_t units, records, turns;
+    bool query; /* the last record was the query for the first campaign */
+};
+
+/* Takes and reads what comes without a pacing response: so many units are due, and then nothing for QUIET_MS. */
+static struct heard listen_for(struct session *session, size_t due)
+{
+    struct heard heard = {0, 0, 0, false};
+    enum reading found;
+    int64_t until = clock_ms() + PATIENCE_MS;
+    while (clock_ms() < until) {
+        size_t before = heard.units;
+        if (!take_what_comes(session, until - clock_ms(), &heard.units))
+            break;
+        while ((found = session_read(session)) != READ_NOTHING)
+            if (found == READ_RECORD) {
+                heard.records++;
+                heard.query =
+                    record_kind(&session->record) == RECORD_QUERY && text_is(record_text(&session->record), "MARINE-05");
+            } else if (found == READ_MARK && session->end.answer.mark == LU62_MARK_TURN)
+                heard.turns++;
+        if (before < due && heard.units >= due)
+            until = clock_ms() + QUIET_MS;
+    }
+    return heard;
+}
+
+/* Whether so many units come and no more, with this many records, all queries, and turns in them. */
+static bool hears(struct session *session, size_t units, size_t records, size_t turns)
+{
+    struct heard heard = listen_for(session, units);
+    return heard.units == units && heard.records == records && heard.turns == turns && heard.query == (records > 0);
+}
+
+/* The blender with a laboratory that makes no pacing response. Its window is used up by the bid and the front of the query: the turn
+ * stays prepared. Then the pacing response comes, and the turn goes once with the rest of the query; or it does not come in time. */
+static void the_turn_waits(bool paced)
+{
+    static struct session session;
+    static struct child child;
+    const char *name = paced ? "a late pacing response" : "no pacing response";
+    struct options options = {.limit_ms = paced ? LONG_LIMIT_MS : LIMIT_MS, .pause_ms = DEFAULT_PAUSE_MS};
+    int sockets[2];
+    if (socketpair(AF_UNIX, SOCK_STREAM, 0, sockets) < 0)
+        cannot("socketpair");
+    child_start(&child, blender, sockets[0], &sockets[1], 1, &options);
+    (void)close(sockets[0]);
+    if (!session_open_laboratory(&session, sockets[1], &options))
+        exit(EXIT_FAILURE);
+    bool waited = hears(&session, BLENDER_WINDOW, 0, 0), went = !paced;
+    if (paced) {
+        pace(&session);
+        went = hears(&session, 1, 1, 1) && lu62_end_state(&session.end) == LU62_SEND;
+        (void)close(sockets[1]);
+    }
+    child_wait(&child, PATIENCE_MS);
+    if (!paced)
+        (void)close(sockets[1]);
+    expect(waited, name, "the turn did not wait for it", &child);
+    expect(went, name, "the turn did not go with the query, or not once", &child);
+    expect(child.status == EXIT_FAILURE && child.out[0] == '\0', name, "the exit status is not 1, or something was printed", &child);
+    expect(strcmp(child.err, paced ? SAYS("it has gone in the middle of the conversation")
+                                   : SAYS("time limit: nothing got on for 400 ms, in state DeferTurn")) == 0,
+           name, "another message", &child);
+}
+
 /* The laboratory with a blender that sends no more than these bytes, which are no whole unit. */
 static void laboratory_waits(const char *name, const char *bytes, size_t length, const char *says)
 {
@@ -381,6 +468,8 @@ int main(void)
     (void)snprintf(long_revised, sizeof long_revised, "%-60s0.491", "FU-3803 sulphur");
     for (size_t i = 0; i < count; i++)
         run_case(&cases[i]);
+    the_turn_waits(true);
+    the_turn_waits(false);
     laboratory_waits("a silent blender", "", 0, LABORATORY_SAYS("time limit: nothing got on for 400 ms, in state ConfirmAwaited"));
     laboratory_waits("a blender that sends half a length", "\0", 1, LABORATORY_SAYS("time limit: " HALF));
     laboratory_waits("a blender that sends half a unit", "\0\020\0\1\2", 5, LABORATORY_SAYS("time limit: " HALF));
@@ -390,7 +479,7 @@ int main(void)
         fprintf(stderr, "records: %d differences\n", failures);
         return EXIT_FAILURE;
     }
-    count += 3 + sizeof queries / sizeof queries[0];
+    count += 5 + sizeof queries / sizeof queries[0];
     printf("records: %zu odd partners; the program printed what was sent or nothing, and said why it stopped\n", count);
     return EXIT_SUCCESS;
 }

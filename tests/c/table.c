@@ -1,5 +1,6 @@
 /* Examples byte for byte through the C interface: every row of document 01's table, each under the row's own words (`row`), and some
- * of our own beside them (`ours`), those of tables in several parts among them. Prints how many there were of each, or what differed. */
+ * of our own beside them (`ours`), those of tables in several parts and of a turn or an end prepared among them. Prints how many there
+ * were of each, or what differed. */
 #include "lu62_end.h"
 
 #include <stdbool.h>
@@ -86,6 +87,11 @@ static void expect_unit(const struct host *host, const uint8_t *expected, size_t
     expect_refusal(host, LU62_ACCEPTED);
     expect_bytes("unit", host->unit, answer->unit, expected, length);
     expect_number("copied, complete, more and mark", answer->copied + answer->complete + answer->more + answer->mark, 0);
+}
+
+static void expect_no_unit(const struct host *host)
+{
+    expect_unit(host, host->unit, 0);
 }
 
 #define UNIT(host, ...) \
@@ -338,6 +344,10 @@ static void expect_unfinished(struct host *host)
         (void)lu62_end_deallocate(&host->end, confirm);
         expect_refusal(host, LU62_UNFINISHED_RECORD);
     }
+    (void)lu62_end_defer_turn(&host->end);
+    expect_refusal(host, LU62_UNFINISHED_RECORD);
+    (void)lu62_end_defer_end(&host->end);
+    expect_refusal(host, LU62_UNFINISHED_RECORD);
     expect_bytes("image", host->end.image, sizeof host->end.image, image, sizeof image);
 }
 
@@ -352,13 +362,13 @@ static void parts_given(void)
     expect_refusal(&host, LU62_BAD_LL);
     expect_place(&host, 0, 0);
 
-    ours("LL 80 02 given, then a turn, an end, a confirm");
+    ours("LL 80 02 given, then a turn, an end, a confirm, a turn and an end prepared");
     SEND(&host, 0x80, 0x02);
     expect_refusal(&host, LU62_ACCEPTED);
     expect_place(&host, 1, 0);
     expect_unfinished(&host);
 
-    ours("LL 80 02 sent by flush, then a turn, an end, a confirm");
+    ours("LL 80 02 sent by flush, then a turn, an end, a confirm, a turn and an end prepared");
     (void)lu62_end_flush(&host.end);
     UNIT(&host, 0x00, 0x01, 0x03, 0x91, 0x80, 0x80, 0x02);
     expect_unfinished(&host);
@@ -479,6 +489,256 @@ static void places_in_an_image(void)
         }
 }
 
+/* What can be prepared: the call, the state that it leaves, the call that does it at once, and byte 2 of the header. */
+static const struct prepared {
+    uint32_t (*defer)(struct lu62_end *end);
+    uint32_t (*at_once)(struct lu62_end *end, int confirm);
+    uint32_t state, state_after;
+    uint8_t byte_2;
+} prepared[] = {
+    {lu62_end_defer_turn, lu62_end_prepare_to_receive, LU62_DEFER_TURN, LU62_RECEIVE, 0x20},
+    {lu62_end_defer_end, lu62_end_deallocate, LU62_DEFER_END, LU62_RESET, 0x01},
+};
+
+enum { PREPARED = sizeof prepared / sizeof prepared[0] };
+
+/* The last call, which prepared something or withdrew it, made no unit and left this state in this image. */
+static void expect_noted(const struct host *host, const uint8_t *image, uint32_t state)
+{
+    uint8_t noted[LU62_IMAGE];
+    memcpy(noted, image, sizeof noted);
+    noted[STATE_AT] = (uint8_t)state;
+    expect_no_unit(host);
+    expect_bytes("image", host->end.image, sizeof host->end.image, noted, sizeof noted);
+}
+
+/* The last call was refused so and changed nothing. */
+static void expect_untouched(const struct host *host, const struct host *before, uint32_t refusal)
+{
+    expect_refusal(host, refusal);
+    expect_number("sense, rule and length of a unit", host->end.answer.sense + host->end.answer.rule + host->end.answer.unit, 0);
+    expect_bytes("image", host->end.image, sizeof host->end.image, before->end.image, sizeof before->end.image);
+    expect_bytes("send", host->send, sizeof host->send, before->send, sizeof before->send);
+    expect_bytes("unit buffer", host->unit, sizeof host->unit, before->unit, sizeof before->unit);
+}
+
+/* Carries out what is prepared: by flush, or by confirm. */
+static void carry_out(struct host *host, int confirm)
+{
+    (void)(confirm != 0 ? lu62_end_confirm(&host->end) : lu62_end_flush(&host->end));
+}
+
+/* The turn or end goes with the bytes kept, or with none, as it would have at once. */
+static void prepared_and_carried_out(void)
+{
+    struct host host, other;
+    ours("a turn or an end prepared, then flush or confirm, with five bytes kept and with none");
+    for (size_t i = 0; i < PREPARED; i++)
+        for (int confirm = 0; confirm < 2; confirm++)
+            for (size_t kept = 0; kept <= 5; kept += 5) {
+                const uint8_t byte_1 = confirm != 0 ? 0x21 : 0x91, byte_2 = prepared[i].byte_2 | 0x80;
+                const uint8_t unit[] = {0x00, 0x01, 0x03, byte_1, byte_2, 0x00, 0x05, 0x41, 0x42, 0x43};
+                open_sender(&host, 3, 64);
+                if (kept > 0)
+                    SEND(&host, 0x00, 0x05, 0x41, 0x42, 0x43);
+                memcpy(&other, &host, sizeof other);
+                (void)prepared[i].defer(&host.end);
+                expect_noted(&host, other.end.image, prepared[i].state);
+                carry_out(&host, confirm);
+                expect_unit(&host, unit, LU62_UNIT(kept));
+                expect_state(&host, confirm != 0 ? (uint32_t)LU62_CONFIRM_AWAITED : prepared[i].state_after);
+                lu62_end_lend(&other.end, other.send, sizeof other.send, other.unit, sizeof other.unit, other.inbox,
+                              host.end.inbox_length);
+                (void)prepared[i].at_once(&other.end, confirm);
+                expect_unit(&other, unit, LU62_UNIT(kept));
+                expect_bytes("image", host.end.image, sizeof host.end.image, other.end.image, sizeof other.end.image);
+            }
+}
+
+/* The chain stays open in Defer, and ends with what is carried out. */
+static void prepared_in_a_chain(void)
+{
+    struct host host;
+    ours("M 8: a record of ten bytes, the turn prepared when its first unit has gone, then flush");
+    open_sender(&host, 3, 8);
+    SEND(&host, 0x00, 0x0A, 0x31, 0x32, 0x33, 0x34, 0x35, 0x36);
+    SEND(&host, 0x37, 0x38);
+    UNIT(&host, 0x00, 0x01, 0x02, 0x91, 0x80, 0x00, 0x0A, 0x31, 0x32, 0x33, 0x34, 0x35, 0x36);
+    (void)lu62_end_defer_turn(&host.end);
+    expect_no_unit(&host);
+    expect_number("bytes kept", lu62_end_send_held(&host.end), 2);
+    (void)lu62_end_flush(&host.end);
+    UNIT(&host, 0x00, 0x02, 0x01, 0x90, 0x20, 0x37, 0x38);
+    expect_state(&host, LU62_RECEIVE);
+}
+
+static void prepared_and_withdrawn(void)
+{
+    struct host host;
+    uint8_t image[LU62_IMAGE];
+    for (size_t i = 0; i < PREPARED; i++) {
+        ours(i == 0 ? "a turn prepared, withdrawn, and more is sent" : "an end prepared, withdrawn, and more is sent");
+        open_sender(&host, 3, 64);
+        SEND(&host, 0x00, 0x03, 0x41);
+        memcpy(image, host.end.image, sizeof image);
+        (void)prepared[i].defer(&host.end);
+        expect_noted(&host, image, prepared[i].state);
+        (void)lu62_end_withdraw(&host.end);
+        expect_noted(&host, image, LU62_SEND);
+        SEND(&host, 0x00, 0x03, 0x42);
+        expect_refusal(&host, LU62_ACCEPTED);
+        (void)lu62_end_flush(&host.end);
+        UNIT(&host, 0x00, 0x01, 0x03, 0x91, 0x80, 0x00, 0x03, 0x41, 0x00, 0x03, 0x42);
+        expect_state(&host, LU62_SEND);
+    }
+}
+
+/* W 2, both units gone: what is prepared waits in Defer for a pacing response. */
+static void prepared_without_credit(void)
+{
+    struct host host, before;
+    ours("a turn or an end prepared without credit, a pacing answer taken, then flush or confirm");
+    for (size_t i = 0; i < PREPARED; i++)
+        for (int confirm = 0; confirm < 2; confirm++) {
+            const uint8_t byte_1 = confirm != 0 ? 0x21 : 0x91;
+            const uint8_t unit[] = {0x00, 0x03, 0x03, byte_1, prepared[i].byte_2, 0x00, 0x03, 0x41};
+            open_sender(&host, 2, 64);
+            for (int sent = 0; sent < 2; sent++) {
+                SEND(&host, 0x00, 0x02);
+                (void)lu62_end_flush(&host.end);
+                expect_refusal(&host, LU62_ACCEPTED);
+            }
+            SEND(&host, 0x00, 0x03, 0x41);
+            (void)prepared[i].defer(&host.end);
+            expect_refusal(&host, LU62_ACCEPTED);
+            memcpy(&before, &host, sizeof before);
+            carry_out(&host, confirm);
+            expect_untouched(&host, &before, LU62_NO_CREDIT);
+            TAKE(&host, 0x00, 0x00, 0x83, 0x01, 0x00);
+            expect_no_unit(&host);
+            expect_state(&host, prepared[i].state);
+            carry_out(&host, confirm);
+            expect_unit(&host, unit, sizeof unit);
+        }
+}
+
+/* Document 02: a bid that is taken in Defer is refused, as in Send; what is prepared stays, and goes. */
+static void a_bid_against_defer(void)
+{
+    struct host host;
+    ours("a bid taken where a turn or an end is prepared");
+    for (size_t i = 0; i < PREPARED; i++) {
+        const uint8_t unit[] = {0x00, 0x01, 0x03, 0x91, prepared[i].byte_2 | 0x80};
+        open_sender(&host, 3, 64);
+        (void)prepared[i].defer(&host.end);
+        TAKE(&host, 0x00, 0x01, 0x4B, 0x81, 0x80, 0x04, 0x00, 0x06, 0x00, 0x00);
+        UNIT(&host, 0x00, 0x01, 0xCF, 0x90, 0x00, 0x08, 0x13, 0x00, 0x00, 0x04);
+        expect_state(&host, prepared[i].state);
+        (void)lu62_end_flush(&host.end);
+        expect_unit(&host, unit, sizeof unit);
+    }
+}
+
+/* A read and a pacing response go in Defer as in Send. */
+static void reading_and_pacing_in_defer(void)
+{
+    struct host host, before;
+    uint8_t buffer[4];
+    ours("a bidder reads the turn, prepares an end, reads on, makes a pacing answer and sends the end");
+    open_host(&host, LU62_BIDDER, 1, 64);
+    TAKE(&host, 0x00, 0x01, 0x03, 0x91, 0xA0, 0x00, 0x04, 0x41, 0x42);
+    expect_read(&host, (const uint8_t[]){0x00, 0x04, 0x41, 0x42}, 4, END);
+    (void)lu62_end_receive(&host.end, buffer, sizeof buffer);
+    expect_number("mark", host.end.answer.mark, LU62_MARK_TURN);
+    (void)lu62_end_defer_end(&host.end);
+    expect_refusal(&host, LU62_ACCEPTED);
+    memcpy(&before, &host, sizeof before);
+    (void)lu62_end_receive(&host.end, buffer, sizeof buffer);
+    expect_untouched(&host, &before, LU62_NOTHING_TO_READ);
+    (void)lu62_end_send_pacing_response(&host.end);
+    UNIT(&host, 0x00, 0x00, 0x83, 0x01, 0x00);
+    expect_state(&host, LU62_DEFER_END);
+    (void)lu62_end_flush(&host.end);
+    UNIT(&host, 0x00, 0x01, 0x03, 0x91, 0x01);
+    expect_state(&host, LU62_RESET);
+}
+
+/* In Defer send data, turn, end, prepare, allocate and confirmed are refused with 7, if nothing asked before refuses them. */
+static void refused_in_defer(void)
+{
+    struct host host, before;
+    ours("every call that Defer does not allow");
+    for (size_t i = 0; i < PREPARED; i++) {
+        open_sender(&host, 3, 64);
+        SEND(&host, 0x00, 0x03, 0x41);
+        (void)prepared[i].defer(&host.end);
+        expect_refusal(&host, LU62_ACCEPTED);
+        memcpy(&before, &host, sizeof before);
+        SEND(&host, 0x00, 0x02);
+        expect_untouched(&host, &before, LU62_WRONG_STATE);
+        (void)lu62_end_send_data(&host.end, before.send, 0);
+        expect_untouched(&host, &before, LU62_BAD_LENGTH);
+        (void)lu62_end_allocate(&host.end);
+        expect_untouched(&host, &before, LU62_WRONG_STATE);
+        (void)lu62_end_confirmed(&host.end);
+        expect_untouched(&host, &before, LU62_WRONG_STATE);
+        for (size_t j = 0; j < PREPARED; j++) {
+            (void)prepared[j].defer(&host.end);
+            expect_untouched(&host, &before, LU62_WRONG_STATE);
+            for (int confirm = 0; confirm < 2; confirm++) {
+                (void)prepared[j].at_once(&host.end, confirm);
+                expect_untouched(&host, &before, LU62_WRONG_STATE);
+            }
+        }
+    }
+}
+
+/* Every state's own answer to preparing and withdrawing; a state that is none; a Defer that no calls lead to. */
+static void states_in_an_image(void)
+{
+    struct host host, before;
+    ours("each state in an image, then a turn or an end prepared or withdrawn");
+    for (unsigned state = 0; state < 256; state++)
+        for (size_t call = 0; call <= PREPARED; call++) {
+            bool defer = state == LU62_DEFER_TURN || state == LU62_DEFER_END;
+            bool allowed = call < PREPARED ? state == LU62_SEND : defer;
+            open_host(&host, LU62_FIRST_SPEAKER, 3, 64);
+            host.end.image[STATE_AT] = (uint8_t)state;
+            memcpy(&before, &host, sizeof before);
+            (void)(call < PREPARED ? prepared[call].defer(&host.end) : lu62_end_withdraw(&host.end));
+            if (allowed)
+                expect_noted(&host, before.end.image, call < PREPARED ? prepared[call].state : LU62_SEND);
+            else
+                expect_untouched(&host, &before, state > LU62_DEFER_END ? LU62_BAD_RECORD : LU62_WRONG_STATE);
+        }
+
+    ours("Defer in an image behind a part that another follows, then flush or confirm");
+    for (size_t i = 0; i < PREPARED; i++)
+        for (int confirm = 0; confirm < 2; confirm++) {
+            open_sender(&host, 3, 64);
+            SEND(&host, 0x80, 0x02);
+            host.end.image[STATE_AT] = (uint8_t)prepared[i].state;
+            memcpy(&before, &host, sizeof before);
+            carry_out(&host, confirm);
+            expect_untouched(&host, &before, LU62_UNFINISHED_RECORD);
+        }
+}
+
+/* An image of a wrong length is refused by 4, though these calls are lent nothing. */
+static void wrong_lengths_of_an_image(void)
+{
+    struct host host;
+    ours("images of other lengths, then a turn or an end prepared or withdrawn");
+    open_sender(&host, 3, 64);
+    for (size_t length = 0; length <= LU62_IMAGE; length++) {
+        uint32_t expected = length == LU62_IMAGE ? LU62_ACCEPTED : LU62_BAD_BUFFER;
+        expect_number("a turn prepared", lu62_defer_turn(host.end.image, length, &host.end.answer), expected);
+        expect_number("withdrawn", lu62_withdraw(host.end.image, length, &host.end.answer), expected);
+        expect_number("an end prepared", lu62_defer_end(host.end.image, length, &host.end.answer), expected);
+        expect_state(&host, length == LU62_IMAGE ? LU62_DEFER_END : LU62_SEND);
+    }
+}
+
 static void refused_openings(void)
 {
     static const struct {
@@ -540,6 +800,15 @@ int main(void)
     parts_taken_with_a_mark();
     a_table_cut_over_units();
     places_in_an_image();
+    prepared_and_carried_out();
+    prepared_in_a_chain();
+    prepared_and_withdrawn();
+    prepared_without_credit();
+    a_bid_against_defer();
+    reading_and_pacing_in_defer();
+    refused_in_defer();
+    states_in_an_image();
+    wrong_lengths_of_an_image();
     refused_openings();
     other_formats();
     if (failures != 0) {

@@ -64,14 +64,16 @@ static uint8_t *at(struct room *room, int place)
     return place == NULL_POINTER ? NULL : place == IN_IMAGE ? room->end.image : room->block + place;
 }
 
-/* Sends the record. True if the unit carries it, behind number and header. */
+/* Sends the record, after an end and a turn that are prepared and withdrawn. True if the unit carries it, behind number and header. */
 static int sends(struct room *room, const struct placed *the)
 {
     struct lu62_end *end = &room->end;
     uint8_t *bytes = at(room, the->bytes);
     memcpy(bytes, record, sizeof record);
     return lu62_end_open(end, &session) == LU62_ACCEPTED && lu62_end_allocate(end) == LU62_ACCEPTED &&
-           lu62_end_send_data(end, bytes, sizeof record) == LU62_ACCEPTED && lu62_end_deallocate(end, 0) == LU62_ACCEPTED &&
+           lu62_end_send_data(end, bytes, sizeof record) == LU62_ACCEPTED && lu62_end_defer_end(end) == LU62_ACCEPTED &&
+           lu62_end_withdraw(end) == LU62_ACCEPTED && lu62_end_defer_turn(end) == LU62_ACCEPTED &&
+           lu62_end_withdraw(end) == LU62_ACCEPTED && lu62_end_deallocate(end, 0) == LU62_ACCEPTED &&
            end->answer.unit == LU62_UNIT(sizeof record) && memcmp(end->unit + LU62_UNIT(0), record, sizeof record) == 0;
 }
 

@@ -10,6 +10,24 @@ pub enum State {
     Receive,
     Owes,
     Waits,
+    DeferTurn,
+    DeferEnd,
+}
+
+impl State {
+    // Send or Defer.
+    fn holds_send(self) -> bool {
+        self == State::Send || self.prepared() != Follow::Stay
+    }
+
+    // The turn or end that is prepared; `Stay` where none is.
+    fn prepared(self) -> Follow {
+        match self {
+            State::DeferTurn => Follow::Turn,
+            State::DeferEnd => Follow::End,
+            _ => Follow::Stay,
+        }
+    }
 }
 
 #[derive(Clone, Copy, Debug, PartialEq, Eq)]
@@ -243,6 +261,15 @@ fn kind(header: [u8; 3]) -> Result<Kind, u32> {
     })
 }
 
+// The state after the last unit of a chain, or after its confirmation.
+fn after_last(follow: Follow) -> State {
+    match follow {
+        Follow::Stay => State::Send,
+        Follow::Turn => State::Receive,
+        Follow::End => State::Reset,
+    }
+}
+
 fn mark_of(confirm: bool, follow: Follow) -> Mark {
     match (confirm, follow) {
         (false, Follow::Stay) => Mark::None,
@@ -323,7 +350,7 @@ impl End {
     /// Question 5.
     pub fn good(&self) -> bool {
         let maxima = 8..=1024;
-        let sends = self.state == State::Send;
+        let sends = self.state.holds_send();
         self.out.good()
             && self.into.good()
             && maxima.contains(&self.out_max)
@@ -437,9 +464,12 @@ impl End {
         if !self.good() {
             return refused(5);
         }
-        if self.state != State::Send {
+        // Flush and confirm say nothing to follow, and carry out what is prepared.
+        let carries_out = follow == Follow::Stay && self.state.holds_send();
+        if self.state != State::Send && !carries_out {
             return refused(7);
         }
+        let follow = if carries_out { self.state.prepared() } else { follow };
         let flush = follow == Follow::Stay && !confirm;
         if !flush && self.given != WHOLE {
             return refused(9);
@@ -463,11 +493,7 @@ impl End {
             self.state = State::Waits;
             self.follow = follow;
         } else {
-            self.state = match follow {
-                Follow::Stay => State::Send,
-                Follow::Turn => State::Receive,
-                Follow::End => State::Reset,
-            };
+            self.state = after_last(follow);
         }
         answer
     }
@@ -486,6 +512,39 @@ impl End {
 
     pub fn deallocate(&mut self, confirm: bool, send: &[u8], unit: &mut [u8]) -> Answer {
         self.close(Follow::End, confirm, send, unit)
+    }
+
+    fn defer(&mut self, state: State) -> Answer {
+        if !self.good() {
+            return refused(5);
+        }
+        if self.state != State::Send {
+            return refused(7);
+        }
+        if self.given != WHOLE {
+            return refused(9);
+        }
+        self.state = state;
+        made(0)
+    }
+
+    pub fn defer_turn(&mut self) -> Answer {
+        self.defer(State::DeferTurn)
+    }
+
+    pub fn defer_end(&mut self) -> Answer {
+        self.defer(State::DeferEnd)
+    }
+
+    pub fn withdraw(&mut self) -> Answer {
+        if !self.good() {
+            return refused(5);
+        }
+        if self.state.prepared() == Follow::Stay {
+            return refused(7);
+        }
+        self.state = State::Send;
+        made(0)
     }
 
     pub fn confirmed(&mut self, unit: &mut [u8]) -> Answer {
@@ -650,11 +709,7 @@ impl End {
                 if self.state != State::Waits || number != self.out_number {
                     return refused(28);
                 }
-                self.state = match self.follow {
-                    Follow::Stay => State::Send,
-                    Follow::Turn => State::Receive,
-                    Follow::End => State::Reset,
-                };
+                self.state = after_last(self.follow);
             }
         }
         made(0)

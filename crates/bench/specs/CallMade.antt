@@ -9,7 +9,7 @@ use Rattle.answers.specs.declared.ReadAnswer.{ReadAnswer}
 use Rattle.end.specs.declared.ReadDone.{ReadDone}
 use Rattle.calls.specs.Calls as J
 use Rattle.script.specs.declared.Verb.{Verb}
-use Rattle.script.specs.declared.Verb.the-variants.{Allocate, Confirmed, SendPacingResponse, SendData, Close, Receive}
+use Rattle.script.specs.declared.Verb.the-variants.{Allocate, Confirmed, SendPacingResponse, SendData, Close, Defer, Withdraw, Receive}
 use Rattle.calls.specs.Calls.{Called, Reply, Station, plain, unitsOf}
 
 -- the call of two joined ends, with the bytes given and the cells of a read's buffer
@@ -19,6 +19,8 @@ verbOf Confirmed given buffer = J.confirmed
 verbOf SendPacingResponse given buffer = J.sendPacingResponse
 verbOf SendData given buffer = J.sendData given
 verbOf (Close f b) given buffer = J.close f b
+verbOf (Defer what) given buffer = J.defer what
+verbOf Withdraw given buffer = J.withdraw
 verbOf Receive given buffer = J.receive buffer
 
 abbrev pub isRead : Verb → Bool
@@ -27,6 +29,8 @@ isRead Confirmed = false
 isRead SendPacingResponse = false
 isRead SendData = false
 isRead (Close f b) = false
+isRead (Defer what) = false
+isRead Withdraw = false
 isRead Receive = true
 
 -- only a read's reply has the cells of a buffer

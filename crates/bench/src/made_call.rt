@@ -39,6 +39,8 @@ fn is_read(verb: Verb) -> bool
         Verb::SendPacingResponse => false,
         Verb::SendData => false,
         Verb::Close(_, _) => false,
+        Verb::Defer(_) => false,
+        Verb::Withdraw => false,
         Verb::Receive => true,
     }
 }
@@ -68,6 +70,8 @@ fn make(end: End, verb: Verb, given: &[u8], send: &mut [u8], unit: &mut [u8]) ->
         Verb::SendPacingResponse => end.send_pacing_response(unit),
         Verb::SendData => end.send_data(given, send, unit),
         Verb::Close(follows, confirm) => end.close(follows, confirm, send, unit),
+        Verb::Defer(what) => end.defer(what),
+        Verb::Withdraw => end.withdraw(),
         Verb::Receive => unmade(end),
     }
 }

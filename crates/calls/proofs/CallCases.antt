@@ -4,10 +4,13 @@ use Rattle.calls.proofs.CallWords.{ℕ, _+_, _≤_, eqb-true, leb-true,
 use Rattle.calls.proofs.CallWords.{[], _∷_, _++_, _≡_, refl, sym, ap, _∙_, arith, cases, both, left, or-right, front, written, walk, placeOr, Position}
 use Rattle.calls.proofs.CallWords.{Walked, At, BadLength, headerGood, ChainEnd, Continues, Last, DataHeader, Follows, Header, bidRu, fixedRu, ruGood}
 use Rattle.calls.proofs.CallWords.{RU-START, unitOf, numberIn, headerIn, unit-length, paced, hasCredit, mayAllocate, mayConfirm, positiveResponseFits}
-use Rattle.calls.proofs.CallWords.{negativeResponseFits, confirmationFits, isSend, isNothing, agree, isFirstSpeaker, controlGood, Control, bidAnswer}
+use Rattle.calls.proofs.CallWords.{negativeResponseFits, confirmationFits, holdsSend, maySend, mayWithdraw, Deferred, isNothing, agree, isFirstSpeaker}
+use Rattle.calls.proofs.CallWords.{controlGood, Control, bidAnswer}
 use Rattle.calls.proofs.CallWords.{allocated, confirmationMade, markAnswered, bidReceived, positiveResponseReceived, negativeResponseReceived}
-use Rattle.calls.proofs.CallWords.{confirmationReceived, accepted, refused, refusedNaming, ruleNamed, firstNo, yes, windowAnswered, keeps, nextNumber, bidMade}
-use Rattle.calls.proofs.CallWords.{allocateRefusal, allocateDecision, allocate, lastMade, nothingGoes, closeRefusal, closeDecision, close}
+use Rattle.calls.proofs.CallWords.{confirmationReceived, accepted, refused, refusedNaming, ruleNamed, firstNo, yes, windowAnswered, keeps, nextNumber}
+use Rattle.calls.proofs.CallWords.{bidMade}
+use Rattle.calls.proofs.CallWords.{allocateRefusal, allocateDecision, allocate, lastMade, nothingGoes, closing, closeRefusal, closeDecision, close}
+use Rattle.calls.proofs.CallWords.{deferred, withdrawn, deferRefusal, deferDecision, defer, withdrawRefusal, withdrawDecision, withdraw}
 use Rattle.calls.proofs.CallWords.{confirmedRefusal, confirmedDecision, confirmed, withControl, withReceiving, Decision, decided}
 use Rattle.calls.proofs.CallWords.{sendPacingResponseRefusal, sendPacingResponseDecision, sendPacingResponse, bytesRead, inboxMoved, someHeld}
 use Rattle.calls.proofs.CallWords.{receiveRefusal, markRead, receiveDecision, receive, ruReceived, dataJoined, bidAnswered, creditRaised, headerReceived}
@@ -21,17 +24,17 @@ use Rattle.logical_record.specs.RestOfRecord.{rest}
 use Rattle.unit.specs.Ru.{marks}
 use Rattle.header.specs.declared.Header.the-variants.{Data, Bid, PositiveBidResponse, NegativeBidResponse, Confirmation, PacingResponse}
 use Rattle.control.proofs.Agree.{agrees}
-use Rattle.control.proofs.States.{fits-not-send}
+use Rattle.control.proofs.States.{closing-holds, fits-not-send}
 use Rattle.control.proofs.Within.{control-good}
 use Rattle.pacing.specs.declared.Window.{Window}
-use Rattle.control.specs.Questions.{maySend}
 use Rattle.answers.specs.Answers.{readRefused}
 use Rattle.end.specs.Record.{sendLent, unitLent, inboxLent}
-use Rattle.end.specs.Outcome.{aUnit, cellsOut, doneOf, made}
+use Rattle.end.specs.Outcome.{nothing, aUnit, cellsOut, accept, doneOf, made}
 use Rattle.end.specs.Allocate.{allocateQuestions}
 use Rattle.logical_record.specs.Walk.{isGood}
 use Rattle.end.specs.SendData.{sendQuestions, sendCells}
 use Rattle.end.specs.Close.{closeQuestions}
+use Rattle.end.specs.Defer.{deferQuestions, withdrawQuestions}
 use Rattle.end.specs.Confirmed.{confirmedQuestions}
 use Rattle.end.specs.ReceiveUnit.{headQuestions, kindQuestions, kindReceived, kindJoined, inboxCells, answerNaming}
 use Rattle.end.specs.Receive.{recordRest, receiveQuestions, copyCount}
@@ -43,7 +46,7 @@ use Rattle.answers.proofs.TwoRows.{pass-both}
 use Rattle.bools.proofs.Cases.{never}
 use Rattle.calls.proofs.ControlMoved.{Moved, bid-moves, positive-response-moves, negative-response-moves, confirmation-moves}
 use Rattle.calls.proofs.UnitsByHeader.{Sort, brings, asks, answers, paces, sortOf}
-use Rattle.calls.specs.Calls.{copies, makes, plain, sends, unitsOf}
+use Rattle.calls.specs.Calls.{copies, hands, makes, plain, sends, unitsOf}
 
 -- question 5 of the finite part
 pub control-within : (e : End) → recordGood e ≡ true → controlGood (e .control) ≡ true
@@ -201,10 +204,11 @@ send-cases P s bytes refuses keep spill =
 
 -- ---- flush, confirm, turn, end
 
+-- f is what the last unit says to follow
 pub record CloseAsked (s : Station) (f : Follows) (c : Bool) : Type 0 where
   pub buffer : s .end .sending .max ≤ length (s .send)
   pub good : recordGood (s .end) ≡ true
-  pub sending : maySend (s .end .control) ≡ true
+  pub holding : holdsSend (s .end .control .state) ≡ true
   pub whole : not (marks (Last f c)) || isWhole (s .end .sending .given) ≡ true
 
 abbrev pub lastAct : Station → Follows → Bool → Called
@@ -214,24 +218,63 @@ lastAct s f c =
 pub close-cases :
     (P : Called → Type 0) (s : Station) (f : Follows) (c : Bool)
     → ((q : ℕ) → eqb q 0 ≡ false → P (refusedAct s q))
-    → (CloseAsked s f c → nothingGoes (s .end) f c ≡ true → P (quietAct s (s .end)))
-    → (CloseAsked s f c → nothingGoes (s .end) f c ≡ false → hasCredit (s .end .sending .window) ≡ true → P (lastAct s f c))
+    → (let x = closing (s .end) f in CloseAsked s x c → nothingGoes (s .end) x c ≡ true → P (quietAct s (s .end)))
+    → (let x = closing (s .end) f in
+    CloseAsked s x c → nothingGoes (s .end) x c ≡ false → hasCredit (s .end .sending .window) ≡ true → P (lastAct s x c))
     → P (called s (Verb.close f c))
 unfolding called close closeDecision closeRefusal lastMade
 close-cases P s f c refuses none goes =
     let e = s .end in
+    let x = closing e f in
     decided-cases P s (closeQuestions e f c (length (s .send)) (length (s .unit))) _ tt refuses
     (λ t.
-    let asked : CloseAsked s f c =
+    let asked : CloseAsked s x c =
     record {
       buffer = leb-true _ _ (left (sendLent e (length (s .send))) (unitLent e (length (s .unit))) (t 0));
       good = t 1;
-      sending = t 2;
+      holding = closing-holds f (e .control) (t 2);
       whole = t 3;
     } in
-    cases (λ (d : Decision). P (makes s (made d (s .unit)))) (nothingGoes e f c) (λ n. none asked n)
-    (λ n. made-unit P s (lastMade e f c (s .send) .end) (nextNumber (e .sending .number)) (dataHeader e (Last f c)) (heldBytes e (s .send))
+    cases (λ (d : Decision). P (makes s (made d (s .unit)))) (nothingGoes e x c) (λ n. none asked n)
+    (λ n. made-unit P s (lastMade e x c (s .send) .end) (nextNumber (e .sending .number)) (dataHeader e (Last x c)) (heldBytes e (s .send))
     (goes asked n (or-right _ (hasCredit (e .sending .window)) (t 4) n))))
+
+-- ---- prepare, withdraw
+
+-- a call that is lent nothing: it is refused, or every question was answered yes and the record is this
+noted-cases :
+    (P : Called → Type 0) (s : Station) (qs : List (Bool × ℕ)) (next : End) → T (numbered qs)
+    → ((q : ℕ) → eqb q 0 ≡ false → P (refusedAct s q))
+    → (((k : ℕ) → getD (outcomes qs) k true ≡ true) → P (quietAct s next))
+    → P (hands s (doneOf (decided (firstNo qs) (s .end) (accept next nothing))))
+noted-cases P s qs next t refuses stands =
+    cases (λ (d : Decision). P (hands s (doneOf d))) (eqb (firstNo qs) 0)
+    (λ y. stands (yes qs t (eqb-true (firstNo qs) 0 y))) (λ y. rw y (refuses (firstNo qs) y))
+
+pub record DeferAsked (s : Station) : Type 0 where
+  pub good : recordGood (s .end) ≡ true
+  pub sending : maySend (s .end .control) ≡ true
+  pub whole : isWhole (s .end .sending .given) ≡ true
+
+abbrev pub deferredAct : Station → Deferred → Called
+deferredAct s d = quietAct s (withControl (deferred d (s .end .control)) (s .end))
+
+pub defer-cases :
+    (P : Called → Type 0) (s : Station) (d : Deferred)
+    → ((q : ℕ) → eqb q 0 ≡ false → P (refusedAct s q))
+    → (DeferAsked s → P (deferredAct s d))
+    → P (called s (Verb.defer d))
+unfolding called defer deferDecision deferRefusal
+defer-cases P s d refuses notes =
+    noted-cases P s (deferQuestions (s .end)) _ tt refuses (λ t. notes (record { good = t 0; sending = t 1; whole = t 2 }))
+
+pub withdraw-cases :
+    (P : Called → Type 0) (s : Station)
+    → ((q : ℕ) → eqb q 0 ≡ false → P (refusedAct s q))
+    → (recordGood (s .end) ≡ true → mayWithdraw (s .end .control) ≡ true → P (quietAct s (withControl (withdrawn (s .end .control)) (s .end))))
+    → P (called s Verb.withdraw)
+unfolding called withdraw withdrawDecision withdrawRefusal
+withdraw-cases P s refuses drops = noted-cases P s (withdrawQuestions (s .end)) _ tt refuses (λ t. drops (t 0) (t 1))
 
 -- ---- confirmed
 
@@ -366,7 +409,7 @@ abbrev pub tookKind : Station → Header → ℕ → List ℕ → Called
 tookKind s h n ru = tookAs s h (sortOf h) n ru
 
 -- what a take leaves by its decision
-abbrev tookOf : Station → List ℕ → Decision → List ℕ → Called
+abbrev pub tookOf : Station → List ℕ → Decision → List ℕ → Called
 tookOf s u d inbox =
     record {
       end = record { end = d .end; send = s .send; unit = cellsOut (d .out) (s .unit); inbox = inbox };
@@ -393,15 +436,16 @@ abbrev pub passes : ℕ → List (Bool × ℕ) → Bool
 passes k [] = true
 passes k (q ∷ qs) = (not (eqb (q .1) k) || q .0) && passes k qs
 
--- every kind that is taken is accepted, and none of its questions gives the number 5
-pub kind-accepted : (e : End) (h : Header) (n : ℕ) (ru : List ℕ) → (kindReceived e h n ru .refusal ≡ 0) × (passes 5 (kindQuestions e h n ru) ≡ true)
+-- every kind that is taken is accepted, and none of its questions gives the number 5, or 7
+pub kind-accepted : (e : End) (h : Header) (n : ℕ) (ru : List ℕ)
+    → (kindReceived e h n ru .refusal ≡ 0) × (passes 5 (kindQuestions e h n ru) ≡ true) × (passes 7 (kindQuestions e h n ru) ≡ true)
 unfolding dataJoined bidAnswered creditRaised
-kind-accepted e (Data d) n ru = (refl, refl)
-kind-accepted e (Bid p) n ru = (refl, refl)
-kind-accepted e PositiveBidResponse n ru = (refl, refl)
-kind-accepted e NegativeBidResponse n ru = (refl, refl)
-kind-accepted e Confirmation n ru = (refl, refl)
-kind-accepted e PacingResponse n ru = (refl, refl)
+kind-accepted e (Data d) n ru = (refl, refl, refl)
+kind-accepted e (Bid p) n ru = (refl, refl, refl)
+kind-accepted e PositiveBidResponse n ru = (refl, refl, refl)
+kind-accepted e NegativeBidResponse n ru = (refl, refl, refl)
+kind-accepted e Confirmation n ru = (refl, refl, refl)
+kind-accepted e PacingResponse n ru = (refl, refl, refl)
 
 -- what an accepted take has been asked before the unit's kind
 pub record TakeAsked (s : Station) (u : List ℕ) : Type 0 where
@@ -450,7 +494,7 @@ pub record RequestAsked (w : Window) (b : Bool) : Type 0 where
 pub record DataAsked (s : Station) (d : DataHeader) (ru : List ℕ) : Type 0 where
   pub short : length ru ≤ s .end .receiving .max
   pub request : RequestAsked (s .end .receiving .window) (d .pacing)
-  pub away : isSend (s .end .control .state) ≡ false
+  pub away : holdsSend (s .end .control .state) ≡ false
   pub walked : walk (s .end .receiving .taken) ru ≡ At (placeOr (s .end .receiving .taken) (walk (s .end .receiving .taken) ru))
 
 request-asked : (w : Window) (bit : Bool) → hasCredit w && agree bit (paced w) ≡ true → RequestAsked w bit

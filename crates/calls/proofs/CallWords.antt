@@ -20,14 +20,15 @@ pub use Rattle.unit.proofs.{UnitLaws.unit-length}
 pub use Rattle.pacing.specs.{Pacing.paced, Pacing.hasCredit}
 unfoldable pub use Rattle.pacing.specs.{Pacing.advanced, Pacing.answered}
 pub use Rattle.control.specs.{Questions.mayAllocate, Questions.mayConfirm, Questions.positiveResponseFits, Questions.negativeResponseFits}
-pub use Rattle.control.specs.{Questions.confirmationFits, StateTests.isSend, StateTests.isNothing, StateTests.agree, StateTests.isFirstSpeaker}
-pub use Rattle.control.specs.{declared.Control.Control}
+pub use Rattle.control.specs.{Questions.confirmationFits, StateTests.isSend, StateTests.holdsSend, StateTests.isNothing, StateTests.agree}
+pub use Rattle.control.specs.{StateTests.isFirstSpeaker}
+pub use Rattle.control.specs.{declared.Control.Control, declared.Deferred.Deferred, Questions.maySend, Questions.mayWithdraw}
 unfoldable pub use Rattle.control.specs.{Within.controlGood}
 pub use Rattle.control.proofs.{Within.within}
 pub use Rattle.transitions.specs.{Transitions.bidAnswer}
 unfoldable pub use Rattle.transitions.specs.{Transitions.allocated, Transitions.confirmationMade, Transitions.markAnswered, Transitions.bidReceived}
 unfoldable pub use Rattle.transitions.specs.{Transitions.positiveResponseReceived, Transitions.negativeResponseReceived}
-unfoldable pub use Rattle.transitions.specs.{Transitions.confirmationReceived}
+unfoldable pub use Rattle.transitions.specs.{Transitions.confirmationReceived, Transitions.closed, Transitions.deferred, Transitions.withdrawn}
 pub use Rattle.answers.specs.{Answers.accepted, Answers.refused, Answers.refusedNaming, FirstNo.firstNo}
 pub use Rattle.answers.proofs.{Rows.yes}
 unfoldable pub use Rattle.receiving.specs.{Receiving.requestReceived}
@@ -35,6 +36,7 @@ pub use Rattle.receiving.specs.{Receiving.windowAnswered}
 unfoldable pub use Rattle.sending.specs.{Sending.requestMade}
 pub use Rattle.sending.specs.{Sending.keeps}
 unfoldable pub use Rattle.end.specs.{Allocate.bidMade, Allocate.allocateRefusal, Allocate.allocateDecision, Allocate.allocate, Close.lastMade}
+unfoldable pub use Rattle.end.specs.{Defer.deferRefusal, Defer.deferDecision, Defer.defer, Defer.withdrawRefusal, Defer.withdrawDecision, Defer.withdraw}
 unfoldable pub use Rattle.end.specs.{Close.closeRefusal, Close.closeDecision, Close.close, Confirmed.confirmedRefusal, Confirmed.confirmedDecision}
 unfoldable pub use Rattle.end.specs.{Confirmed.confirmed, SendPacingResponse.sendPacingResponseRefusal, SendPacingResponse.sendPacingResponseDecision}
 unfoldable pub use Rattle.end.specs.{SendPacingResponse.sendPacingResponse, Receive.bytesRead, Receive.inboxMoved, Receive.receiveRefusal}
@@ -42,7 +44,7 @@ unfoldable pub use Rattle.end.specs.{Receive.markRead, Receive.receiveDecision,
 unfoldable pub use Rattle.end.specs.{ReceiveUnit.creditRaised, ReceiveUnit.receiveUnitRefusal, ReceiveUnit.receiveUnitDecision}
 unfoldable pub use Rattle.end.specs.{ReceiveUnit.receiveUnit, Requests.dataHeader, SendData.bytesKept, SendData.bytesSpilled, SendData.sendRefusal}
 unfoldable pub use Rattle.end.specs.{SendData.sendDecision, SendData.sendData}
-pub use Rattle.end.specs.{Close.nothingGoes, Outcome.withControl, Outcome.withReceiving, Outcome.Decision, Outcome.decided, Receive.someHeld}
+pub use Rattle.end.specs.{Close.nothingGoes, Close.closing, Outcome.withControl, Outcome.withReceiving, Outcome.Decision, Outcome.decided, Receive.someHeld}
 pub use Rattle.end.specs.{ReceiveUnit.ruleNamed, ReceiveUnit.ruReceived, ReceiveUnit.headerReceived, Record.recordGood, SendData.heldBytes, SendData.gone}
 pub use Rattle.end.specs.{declared.End.End, declared.ReadDone.ReadDone}
 pub use Rattle.end.proofs.{RecordGood.facts}

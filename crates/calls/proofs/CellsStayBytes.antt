@@ -1,7 +1,8 @@
 -- The cells that a call leaves and the unit that it makes are bytes, if those that it was lent and given are.
 -- Assumes nothing.
 use Rattle.calls.proofs.CallWords.{ℕ, _<_, eqb, take, drop, Bool, true, false, cond, List, [], _∷_, arith, cases, confirms, Continues, Last, Follows}
-use Rattle.calls.proofs.CallWords.{Header, bidRu, fixedRu, RU-START, unitOf, numberIn, paced, bidAnswer, nextNumber, bidMade, lastMade, bytesRead}
+use Rattle.calls.proofs.CallWords.{Header, bidRu, fixedRu, RU-START, unitOf, numberIn, paced, bidAnswer, nextNumber, bidMade, lastMade, closing}
+use Rattle.calls.proofs.CallWords.{bytesRead}
 use Rattle.calls.proofs.CallWords.{inboxMoved, ruReceived, dataJoined, bidAnswered, creditRaised, dataHeader, heldBytes, gone, bytesKept, bytesSpilled}
 use Rattle.calls.proofs.CallWords.{Called, Station, Verb, called, taken, AllBytes, BytesOf}
 use Rattle.header.specs.declared.Header.the-variants.{Bid, Confirmation, PacingResponse}
@@ -10,7 +11,7 @@ use Rattle.calls.proofs.ByteLists.{none-bytes, take-bytes, drop-bytes, 
 use Rattle.calls.proofs.ByteLists.{AllUnits}
 use Rattle.calls.proofs.UnitsByHeader.{unit-bytes, fixed-ru}
 use Rattle.calls.proofs.CallCases.{allocate-cases, bidNumber, send-cases, spilledRu, close-cases, confirmed-cases, pacing-response-cases, read-cases}
-use Rattle.calls.proofs.CallCases.{readCount, take-cases}
+use Rattle.calls.proofs.CallCases.{defer-cases, withdraw-cases, readCount, take-cases}
 
 -- ---- the cells and units are bytes, and the number owed is one of two bytes
 
@@ -38,7 +39,7 @@ module _ (s : Station) (c : Cells s) where
       close-cases After s f b (λ q n. (c, tt)) (λ a n. (c, tt))
       (λ a n k. (
         c,
-        one-unit (nextNumber (s .end .sending .number)) (dataHeader (s .end) (Last f b)) (heldBytes (s .end) (s .send))
+        one-unit (nextNumber (s .end .sending .number)) (dataHeader (s .end) (Last (closing (s .end) f) b)) (heldBytes (s .end) (s .send))
             (next-small (s .end .sending .number)) held-bytes,
       ))
 
@@ -82,6 +83,8 @@ module _ (s : Station) (c : Cells s) where
       (λ g a. (c, one-unit 0 PacingResponse [] (omega arith) none-bytes))
   cells-acts (Verb.sendData bytes) b = gives bytes b
   cells-acts (Verb.close f x) b = closes f x
+  cells-acts (Verb.defer d) b = defer-cases After s d (λ q n. (c, tt)) (λ a. (c, tt))
+  cells-acts Verb.withdraw b = withdraw-cases After s (λ q n. (c, tt)) (λ g a. (c, tt))
   cells-acts (Verb.receive buffer) b =
       read-cases After s buffer (λ q w n. (c, tt))
       (λ a h. (record { send = c .send; inbox = moved-bytes (readCount s buffer); owed = c .owed }, tt))

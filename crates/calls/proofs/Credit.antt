@@ -2,14 +2,15 @@
 -- Assumes nothing.
 use Rattle.calls.proofs.CallWords.{ℕ, _+_, _*_, eqb, Bool, true, false, _&&_, List, [], _∷_, _≡_, refl, ap, _∙_, arith, left, ChainEnd, Continues, Last}
 use Rattle.calls.proofs.CallWords.{Header, bidRu, unitOf, paced, hasCredit, advanced, answered, requestReceived, requestMade, nextNumber, bidMade}
-use Rattle.calls.proofs.CallWords.{lastMade, bytesRead, markRead, dataJoined, bidAnswered, creditRaised, recordGood, dataHeader, heldBytes, bytesKept}
+use Rattle.calls.proofs.CallWords.{lastMade, closing, bytesRead, markRead, dataJoined, bidAnswered, creditRaised, recordGood, dataHeader, heldBytes}
+use Rattle.calls.proofs.CallWords.{bytesKept}
 use Rattle.calls.proofs.CallWords.{bytesSpilled, facts, Called, Station, Verb, called, taken, refusalIn, count, isPacingResponse, isRequest}
 use Rattle.calls.proofs.CallWords.{requestsAmong}
 use Rattle.header.specs.declared.Header.the-variants.{Bid, Confirmation, PacingResponse}
 use Rattle.pacing.specs.Pacing.{credit}
 use Rattle.end.specs.Record.{creditOf, openOf}
 use Rattle.calls.proofs.CallCases.{allocate-cases, bidNumber, close-cases, confirmed-cases, pacing-response-cases, read-cases, send-cases, spilledRu}
-use Rattle.calls.proofs.CallCases.{take-cases}
+use Rattle.calls.proofs.CallCases.{defer-cases, withdraw-cases, take-cases}
 use Rattle.calls.proofs.UnitsByHeader.{sortOf, isAsking, pacing-taken, request-received, requests-unit}
 use Rattle.calls.specs.Laws.{CreditExact, isSendPacingResponse}
 use Rattle.pacing.proofs.Windows.{request-costs, response-raises}
@@ -68,10 +69,13 @@ module _ (s : Station) where
       (λ a k h.
       request-made s (nextNumber (s .end .sending .number)) (dataHeader (s .end) Continues) (spilledRu s bytes) (data-asks s Continues) (a .good) h)
   request-costs-one (Verb.close f b) =
+      let x = closing (s .end) f in
       close-cases Costs s f b (λ q n. free) (λ a n. free)
       (λ a n k.
-      request-made s (nextNumber (s .end .sending .number)) (dataHeader (s .end) (Last f b)) (heldBytes (s .end) (s .send))
-      (data-asks s (Last f b)) (a .good) k)
+      request-made s (nextNumber (s .end .sending .number)) (dataHeader (s .end) (Last x b)) (heldBytes (s .end) (s .send))
+      (data-asks s (Last x b)) (a .good) k)
+  request-costs-one (Verb.defer d) = defer-cases Costs s d (λ q n. free) (λ a. free)
+  request-costs-one Verb.withdraw = withdraw-cases Costs s (λ q n. free) (λ g a. free)
   request-costs-one (Verb.receive buffer) = read-cases Costs s buffer (λ q w n. free) (λ a h. free) (λ a h m. free)
 
   -- open, and the window that it rises by
@@ -90,6 +94,8 @@ module _ (s : Station) where
       pacing-response-cases (Opens Verb.sendPacingResponse) s (λ q n. rw n same) (λ g a. response-raises w (left (w .pending) _ a) ∙ once (credit w) (w .size))
   pacing-response-opens (Verb.sendData bytes) = send-cases (Opens (Verb.sendData bytes)) s bytes (λ q n. rw n same) (λ a k. same) (λ a k h. same)
   pacing-response-opens (Verb.close f b) = close-cases (Opens (Verb.close f b)) s f b (λ q n. rw n same) (λ a n. same) (λ a n k. same)
+  pacing-response-opens (Verb.defer d) = defer-cases (Opens (Verb.defer d)) s d (λ q n. rw n same) (λ a. same)
+  pacing-response-opens Verb.withdraw = withdraw-cases (Opens Verb.withdraw) s (λ q n. rw n same) (λ g a. same)
   pacing-response-opens (Verb.receive buffer) = read-cases (Opens (Verb.receive buffer)) s buffer (λ q w n. rw n same) (λ a h. same) (λ a h m. same)
 
 -- ---- takes

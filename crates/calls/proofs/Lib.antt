@@ -10,3 +10,6 @@ pub mod CellsStayBytes
 pub mod Credit
 pub mod WindowSizes
 pub mod UnitSizes
+pub mod Prepared
+pub mod AsInSend
+pub mod DeferLaws

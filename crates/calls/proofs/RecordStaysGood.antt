@@ -2,7 +2,8 @@
 -- Assumes nothing.
 use Rattle.calls.proofs.CallWords.{ℕ, _<_, _+_, _*_, _≤_, eqb-true, leb-true, ne-eqb, eqb, leb, take, length, Bool, true, false, not, List, _≡_, refl}
 use Rattle.calls.proofs.CallWords.{sym, ap, arith, both, join, left, right, walk, placeOr, Position, Walked, At, BadLength, Follows, RU-START, numberIn}
-use Rattle.calls.proofs.CallWords.{controlGood, Control, within, allocated, confirmationMade, markAnswered, firstNo, yes, requestReceived}
+use Rattle.calls.proofs.CallWords.{closing, deferred, withdrawn, controlGood, Control, within, allocated, confirmationMade, markAnswered, firstNo, yes}
+use Rattle.calls.proofs.CallWords.{requestReceived}
 use Rattle.calls.proofs.CallWords.{windowAnswered, requestMade, bidMade, lastMade, withControl, withReceiving, bytesRead, ruReceived, dataJoined}
 use Rattle.calls.proofs.CallWords.{bidAnswered, creditRaised, recordGood, gone, bytesKept, bytesSpilled, End, facts, Called, Station, Verb, called}
 use Rattle.calls.proofs.CallWords.{taken, AllBytes, BytesOf}
@@ -21,15 +22,15 @@ use Rattle.session.specs.declared.Session.{Session}
 use Rattle.bools.proofs.Cases.{split}
 use Rattle.calls.proofs.ByteLists.{drop-bytes, take-bytes}
 use Rattle.calls.proofs.CallCases.{allocate-cases, close-cases, confirmed-cases, pacing-response-cases, read-cases, readCount, send-cases, take-cases}
-use Rattle.calls.proofs.CallCases.{control-within}
-use Rattle.calls.proofs.ControlMoved.{Moved, allocate-moves, confirmed-moves, mark-moves}
+use Rattle.calls.proofs.CallCases.{control-within, defer-cases, withdraw-cases}
+use Rattle.calls.proofs.ControlMoved.{allocate-moves, confirmed-moves, mark-moves}
 use Rattle.calls.specs.Laws.{StaysGood}
 use Rattle.calls.proofs.Refusals.{accepted-good, accepted-take-good}
 use Rattle.end.proofs.RecordGood.{good}
 use Rattle.pacing.proofs.Windows.{answered-good, fresh-open, fresh-window}
 use Rattle.logical_record.specs.Positions.{isPosition}
 use Rattle.logical_record.proofs.Walks.{walk-position}
-use Rattle.transitions.proofs.KeptWithin.{closed-leaves, data-keeps, fresh-within, given-leaves, spilled-leaves}
+use Rattle.transitions.proofs.KeptWithin.{closed-leaves, deferred-keeps, withdrawn-keeps, data-keeps, fresh-within, given-leaves, spilled-leaves}
 use Rattle.control.proofs.Within.{control-facts, heldFits}
 use Rattle.sending.proofs.SendingGood.{SendingWithin, request-made}
 use Rattle.receiving.proofs.ReceivingGood.{ReceivingWithin, request-received, window-answered}
@@ -69,8 +70,9 @@ module _ (s : Station) (g : recordGood (s .end) ≡ true) where
   After m = recordGood (m .end .end) ≡ true
 
   -- another finite part, and all else as it was
-  control-kept : (c : Control) → Moved (s .end .control) c → recordGood (withControl c (s .end)) ≡ true
-  control-kept c m = good-from (withControl c (s .end)) (m .keeps _ _ (fits-of (s .end) g)) (facts (s .end) g .sending) (facts (s .end) g .receiving)
+  pub control-kept : (c : Control) → ((some none : Bool) → within (s .end .control) some none ≡ true → within c some none ≡ true)
+      → recordGood (withControl c (s .end)) ≡ true
+  control-kept c k = good-from (withControl c (s .end)) (k _ _ (fits-of (s .end) g)) (facts (s .end) g .sending) (facts (s .end) g .receiving)
 
   allocates : After (called s Verb.allocate)
   unfolding bidMade requestMade
@@ -78,7 +80,7 @@ module _ (s : Station) (g : recordGood (s .end) ≡ true) where
       let e = s .end in
       let o = facts e g .sending in
       let moves = allocate-moves (e .control) (control-within e g) in
-      allocate-cases After s (λ q x. g) (λ x a w. control-kept (allocated (e .control)) (moves a))
+      allocate-cases After s (λ q x. g) (λ x a w. control-kept (allocated (e .control)) (moves a .keeps))
       (λ x a w k.
       good-from (bidMade e .end) (moves a .keeps _ _ (fits-of e g)) (request-made (e .sending) (e .sending .held) (e .sending .given) (o .held) (o .given) o)
       (facts e g .receiving))
@@ -88,9 +90,10 @@ module _ (s : Station) (g : recordGood (s .end) ≡ true) where
   closes f b =
       let e = s .end in
       let o = facts e g .sending in
+      let c = closing e f in
       close-cases After s f b (λ q x. g) (λ a x. g)
       (λ a x k.
-      good-from (lastMade e f b (s .send) .end) (closed-leaves f b (e .control) (a .sending) (control-within e g))
+      good-from (lastMade e c b (s .send) .end) (closed-leaves c b (e .control) (a .holding) (control-within e g))
       (request-made (e .sending) 0 (e .sending .given) (omega arith) (o .given) o) (facts e g .receiving))
 
   gives : (bytes : List ℕ) → AllBytes bytes → After (called s (Verb.sendData bytes))
@@ -132,14 +135,14 @@ module _ (s : Station) (g : recordGood (s .end) ≡ true) where
         taken = i .taken;
         read = place-good (e .receiving .read) (take k (s .inbox)) (i .read) (take-bytes k (s .inbox) b);
       }))
-      (λ a h m. control-kept (markAnswered (e .control)) (mark-moves (e .control) (control-within e g) m))
+      (λ a h m. control-kept (markAnswered (e .control)) (mark-moves (e .control) (control-within e g) m .keeps))
 
   calls : (v : Verb) → BytesOf v → AllBytes (s .inbox) → After (called s v)
   unfolding called
   calls Verb.allocate b i = allocates
   calls Verb.confirmed b i =
       let c = s .end .control in
-      confirmed-cases After s (λ q x. g) (λ x a. control-kept (confirmationMade c) (confirmed-moves c (control-within (s .end) g) a))
+      confirmed-cases After s (λ q x. g) (λ x a. control-kept (confirmationMade c) (confirmed-moves c (control-within (s .end) g) a .keeps))
   calls Verb.sendPacingResponse b i =
       let e = s .end in
       pacing-response-cases After s (λ q x. g)
@@ -147,6 +150,12 @@ module _ (s : Station) (g : recordGood (s .end) ≡ true) where
       good-from (withReceiving (windowAnswered (e .receiving)) e) (fits-of e g) (facts e g .sending) (window-answered (e .receiving) a (facts e g .receiving)))
   calls (Verb.sendData bytes) b i = gives bytes b
   calls (Verb.close f c) b i = closes f c
+  calls (Verb.defer d) b i =
+      let c = s .end .control in
+      defer-cases After s d (λ q x. g) (λ a. control-kept (deferred d c) (λ some none. deferred-keeps d c some none (a .sending)))
+  calls Verb.withdraw b i =
+      let c = s .end .control in
+      withdraw-cases After s (λ q x. g) (λ x a. control-kept (withdrawn c) (λ some none. withdrawn-keeps c some none a))
   calls (Verb.receive buffer) b i = reads buffer i
 
 -- every call leaves a good record
@@ -174,7 +183,7 @@ good-takes s u b g =
     (request-received r (r .held + length ru) _ (k .request .credit) (omega arith) (place-good (r .taken) ru (i .taken) (drop-bytes RU-START u b)) i))
     (λ p a w k m.
     good-from (bidAnswered e (numberIn u) .end) (m .keeps _ _ fits) o (request-received r (r .held) (r .taken) (k .credit) (omega arith) (i .taken) i))
-    (λ c a w m. control-kept s g c m)
+    (λ c a w m. control-kept s g c (m .keeps))
     (λ a w k.
     good-from (creditRaised e .end) fits
     (record { window = answered-good (e .sending .window) (o .window); max = o .max; held = o .held; given = o .given }) i)

@@ -3,17 +3,20 @@
 -- Assumes nothing.
 use Rattle.calls.proofs.CallWords.{ℕ, eqb-true, ne-eqb, eqb, length, Bool, true, false, cond, not, _&&_, _||_, List, [], _∷_, _≡_, refl, sym, ap, _∙_}
 use Rattle.calls.proofs.CallWords.{cases, join, left, right, numberIn, isFirstSpeaker, allocated, accepted, refused, refusedNaming, firstNo, keeps}
-use Rattle.calls.proofs.CallWords.{bidMade, allocateRefusal, allocateDecision, allocate, lastMade, nothingGoes, closeRefusal, closeDecision, close}
+use Rattle.calls.proofs.CallWords.{bidMade, allocateRefusal, allocateDecision, allocate, lastMade, nothingGoes, closing, closeRefusal, closeDecision}
+use Rattle.calls.proofs.CallWords.{close}
+use Rattle.calls.proofs.CallWords.{deferRefusal, deferDecision, defer, withdrawRefusal, withdrawDecision, withdraw}
 use Rattle.calls.proofs.CallWords.{confirmedRefusal, confirmedDecision, confirmed, withControl, Decision, decided, sendPacingResponseRefusal}
 use Rattle.calls.proofs.CallWords.{sendPacingResponseDecision, sendPacingResponse, bytesRead, someHeld, receiveRefusal, markRead, receiveDecision}
-use Rattle.calls.proofs.CallWords.{receive, ruleNamed, ruReceived, headerReceived, receiveUnitRefusal, receiveUnitDecision, receiveUnit, recordGood, bytesKept}
+use Rattle.calls.proofs.CallWords.{receive, ruleNamed, ruReceived, headerReceived, receiveUnitRefusal, receiveUnitDecision, receiveUnit, recordGood}
+use Rattle.calls.proofs.CallWords.{bytesKept}
 use Rattle.calls.proofs.CallWords.{bytesSpilled, sendRefusal, sendDecision, sendData, End, ReadDone, Called, Station, Verb, called, taken, refusalIn}
 use Rattle.answers.specs.declared.Answer.{Answer}
 use Rattle.end.specs.Outcome.{nothing, lengthOut, accept, answerOf}
 use mathlib.Core.Bool.{true≢false as never}
 use Rattle.bools.proofs.Tests.{off}
 use Rattle.calls.proofs.CallCases.{allocate-cases, close-cases, confirmed-cases, pacing-response-cases, read-cases, send-cases, kind-cases, take-cases}
-use Rattle.calls.proofs.CallCases.{kind-accepted, passes}
+use Rattle.calls.proofs.CallCases.{defer-cases, withdraw-cases, kind-accepted, passes}
 use Rattle.calls.specs.Laws.{Refusals, questions, receiveUnitQuestions}
 
 -- an accepted call was not refused, and a refused one not accepted
@@ -45,17 +48,20 @@ decided-number : (q : ℕ) (e : End) (d : Decision) → d .refusal ≡ 0 → ans
 decided-number q e d z = number-of refused (λ n. refl) q e d z
 
 pub number-is : (s : Station) (v : Verb) → refusalIn (called s v .answer) ≡ firstNo (questions s v)
-unfolding called allocate allocateDecision allocateRefusal bidMade sendData sendDecision sendRefusal bytesKept bytesSpilled close closeDecision closeRefusal lastMade confirmed confirmedDecision confirmedRefusal sendPacingResponse sendPacingResponseDecision sendPacingResponseRefusal receive receiveDecision receiveRefusal bytesRead markRead
+unfolding defer deferDecision deferRefusal withdraw withdrawDecision withdrawRefusal called allocate allocateDecision allocateRefusal bidMade sendData sendDecision sendRefusal bytesKept bytesSpilled close closeDecision closeRefusal lastMade confirmed confirmedDecision confirmedRefusal sendPacingResponse sendPacingResponseDecision sendPacingResponseRefusal receive receiveDecision receiveRefusal bytesRead markRead
 number-is s Verb.allocate =
     decided-number _ (s .end) _
     (both-accepted (isFirstSpeaker (s .end .control .role)) (accept (withControl (allocated (s .end .control)) (s .end)) nothing) (bidMade (s .end)) refl refl)
 number-is s Verb.confirmed = decided-number _ (s .end) _ refl
 number-is s Verb.sendPacingResponse = decided-number _ (s .end) _ refl
+number-is s (Verb.defer d) = decided-number _ (s .end) _ refl
+number-is s Verb.withdraw = decided-number _ (s .end) _ refl
 number-is s (Verb.sendData bytes) =
     decided-number _ (s .end) _
     (both-accepted (keeps (s .end .sending) (length bytes)) (bytesKept (s .end) bytes) (bytesSpilled (s .end) bytes (s .send)) refl refl)
 number-is s (Verb.close f b) =
-    decided-number _ (s .end) _ (both-accepted (nothingGoes (s .end) f b) (accept (s .end) nothing) (lastMade (s .end) f b (s .send)) refl refl)
+    let x = closing (s .end) f in
+    decided-number _ (s .end) _ (both-accepted (nothingGoes (s .end) x b) (accept (s .end) nothing) (lastMade (s .end) x b (s .send)) refl refl)
 number-is s (Verb.receive buffer) =
     let q : ℕ = receiveRefusal (s .end) (s .inbox) (length buffer) in
     cases (λ (d : ReadDone). d .answer .answer .refusal ≡ q) (eqb q 0)
@@ -81,6 +87,8 @@ module _ (s : Station) (g : recordGood (s .end) ≡ true) where
   asked-5 Verb.allocate = ap (λ (b : Bool). b && true) g
   asked-5 Verb.confirmed = ap (λ (b : Bool). b && true) g
   asked-5 Verb.sendPacingResponse = ap (λ (b : Bool). b && true) g
+  asked-5 Verb.withdraw = ap (λ (b : Bool). b && true) g
+  asked-5 (Verb.defer d) = ap (λ (b : Bool). b && true) g
   asked-5 (Verb.sendData bytes) = ap (λ (b : Bool). b && true) g
   asked-5 (Verb.close f b) = ap (λ (b : Bool). b && true) g
   asked-5 (Verb.receive buffer) = ap (λ (b : Bool). b && true) g
@@ -107,6 +115,8 @@ module _ (s : Station) where
   refused-nothing Verb.sendPacingResponse = pacing-response-cases Nothing s (λ q n h. (refl, refl)) (λ g a h. yes h)
   refused-nothing (Verb.sendData bytes) = send-cases Nothing s bytes (λ q n h. (refl, refl)) (λ a k h. yes h) (λ a k c h. yes h)
   refused-nothing (Verb.close f b) = close-cases Nothing s f b (λ q n h. (refl, refl)) (λ a n h. yes h) (λ a n k h. yes h)
+  refused-nothing (Verb.defer d) = defer-cases Nothing s d (λ q n h. (refl, refl)) (λ a h. yes h)
+  refused-nothing Verb.withdraw = withdraw-cases Nothing s (λ q n h. (refl, refl)) (λ g a h. yes h)
   refused-nothing (Verb.receive buffer) = read-cases Nothing s buffer (λ q w n h. (refl, refl)) (λ a k h. yes h) (λ a k m h. yes h)
 
   -- a refused read leaves the caller's buffer as it was
@@ -127,6 +137,8 @@ module _ (s : Station) where
   accepted-good Verb.sendPacingResponse = pacing-response-cases Asked s (λ q n h. no (eqb q 0) n h) (λ g a h. g)
   accepted-good (Verb.sendData bytes) = send-cases Asked s bytes (λ q n h. no (eqb q 0) n h) (λ a k h. a .good) (λ a k c h. a .good)
   accepted-good (Verb.close f b) = close-cases Asked s f b (λ q n h. no (eqb q 0) n h) (λ a n h. a .good) (λ a n k h. a .good)
+  accepted-good (Verb.defer d) = defer-cases Asked s d (λ q n h. no (eqb q 0) n h) (λ a h. a .good)
+  accepted-good Verb.withdraw = withdraw-cases Asked s (λ q n h. no (eqb q 0) n h) (λ g a h. g)
   accepted-good (Verb.receive buffer) = read-cases Asked s buffer (λ q w n h. no (eqb q 0) n h) (λ a k h. a .good) (λ a k m h. a .good)
 
 -- ---- takes

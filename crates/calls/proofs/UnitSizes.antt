@@ -6,6 +6,7 @@ use Prim.Native.Nat.{zero-le}
 use lib.ListN.{length-append, length-take}
 use Rattle.calls.specs.Laws.{UnitsFit}
 use Rattle.calls.proofs.CallCases.{spilledRu, allocate-cases, send-cases, close-cases, confirmed-cases, pacing-response-cases, read-cases, take-cases}
+use Rattle.calls.proofs.CallCases.{defer-cases, withdraw-cases}
 use Rattle.calls.proofs.UnitsByHeader.{fixed-ru}
 
 -- a unit of n bytes at the front of these cells, short enough
@@ -43,6 +44,8 @@ module _ (s : Station) where
   acts-fit (Verb.close f c) =
       close-cases After s f c (λ q n. none (s .unit)) (λ a n. none (s .unit))
       (λ a n k. unit-fits _ _ (heldBytes (s .end) (s .send)) (s .unit) (held-short (s .end) (s .send) (a .good)))
+  acts-fit (Verb.defer d) = defer-cases After s d (λ q n. none (s .unit)) (λ a. none (s .unit))
+  acts-fit Verb.withdraw = withdraw-cases After s (λ q n. none (s .unit)) (λ g a. none (s .unit))
   acts-fit (Verb.receive buffer) =
       read-cases After s buffer (λ q w n. none (s .unit)) (λ a h. none (s .unit)) (λ a h m. none (s .unit))
 

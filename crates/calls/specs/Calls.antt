@@ -9,17 +9,20 @@ use lib.ListN.{take}
 use Rattle.header.specs.declared.Follows.{Follows}
 use Rattle.header.specs.declared.Follows.the-variants.{Stay, ChangeDirection, EndBracket}
 use Rattle.control.specs.declared.WhatReceived.the-variants as mark
+use Rattle.control.specs.declared.Deferred.{Deferred}
 use Rattle.answers.specs.declared.Answer.{Answer}
 use Rattle.answers.specs.declared.ReadAnswer.{ReadAnswer}
 use Rattle.end.specs.Allocate as A
 use Rattle.end.specs.SendData as S
 use Rattle.end.specs.Close as C
+use Rattle.end.specs.Defer as D
 use Rattle.end.specs.Confirmed as F
 use Rattle.end.specs.ReceiveUnit as T
 use Rattle.end.specs.Receive as R
 use Rattle.end.specs.SendPacingResponse as P
 use Rattle.end.specs.Outcome.{Made, Sent, Taken, Copied}
 use Rattle.end.specs.declared.End.{End}
+use Rattle.end.specs.declared.Done.{Done}
 
 -- An end with the buffers that were lent to it at opening, which nobody else writes.
 pub record Station : Type 0 where
@@ -28,12 +31,13 @@ pub record Station : Type 0 where
   pub unit : List ℕ
   pub inbox : List ℕ
 
--- A call with all that its caller chooses: the bytes given; of a closing call what follows, and whether confirmation is asked; the read's buffer
--- with its former cells.
+-- A call with all that its caller chooses: the bytes given; of a closing call what follows, and whether confirmation is asked; what is prepared; the
+-- read's buffer with its former cells.
 pub data Verb : Type 0 where
-  allocate confirmed sendPacingResponse : Verb
+  allocate confirmed sendPacingResponse withdraw : Verb
   sendData : List ℕ → Verb
   close : Follows → Bool → Verb
+  defer : Deferred → Verb
   receive : List ℕ → Verb
 
 -- the four closing calls by their names; document 01 says turn and end for the last two
@@ -71,6 +75,15 @@ pub record Called : Type 0 where
   pub answer : Reply
   pub sent : List (List ℕ)
 
+-- a call that is lent nothing makes no unit
+abbrev pub hands : Station → Done → Called
+hands s d =
+    record {
+      end = record { end = d .end; send = s .send; unit = s .unit; inbox = s .inbox };
+      answer = plain (d .answer);
+      sent = [];
+    }
+
 -- a call that is lent the unit buffer, and the send buffer only to be read
 abbrev pub makes : Station → Made → Called
 makes s m =
@@ -100,6 +113,8 @@ unfoldable pub called : Station → Verb → Called
 called s allocate = makes s (A.allocate (s .end) (s .unit))
 called s (sendData bytes) = sends s (S.sendData (s .end) bytes (s .send) (s .unit))
 called s (close f b) = makes s (C.close f b (s .end) (s .send) (s .unit))
+called s (defer d) = hands s (D.defer d (s .end))
+called s withdraw = hands s (D.withdraw (s .end))
 called s confirmed = makes s (F.confirmed (s .end) (s .unit))
 called s (receive buffer) = copies s (R.receive (s .end) (s .inbox) buffer)
 called s sendPacingResponse = makes s (P.sendPacingResponse (s .end) (s .unit))

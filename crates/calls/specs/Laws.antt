@@ -1,5 +1,5 @@
 -- What holds of each call by itself, at any record, cells and unit, forged ones too: what a refusal is and leaves, question 5, and what a request and a
--- pacing response cost.
+-- pacing response cost. Those of Defer are in DeferLaws.
 -- Assumes nothing.
 use Prim.Native.Nat.{ℕ, _+_, _*_, _≤_, _<_}
 use mathlib.Core.Path.{_≡_}
@@ -14,12 +14,14 @@ use Rattle.end.specs.Record.{recordGood, creditOf, openOf}
 use Rattle.end.specs.Allocate.{allocateQuestions}
 use Rattle.end.specs.SendData.{sendQuestions}
 use Rattle.end.specs.Close.{closeQuestions}
+use Rattle.end.specs.Defer.{deferQuestions, withdrawQuestions}
 use Rattle.end.specs.Confirmed.{confirmedQuestions}
 use Rattle.end.specs.ReceiveUnit.{headQuestions, kindQuestions, headerReceived, ruReceived}
 use Rattle.end.specs.Receive.{receiveQuestions}
 use Rattle.end.specs.SendPacingResponse.{sendPacingResponseQuestions}
 use Rattle.session.specs.declared.Session.{Session}
-use Rattle.calls.specs.Calls.{Station, Verb, allocate, confirmed, sendPacingResponse, sendData, close, receive, refusalIn, called, taken}
+use Rattle.calls.specs.Calls.{Station, Verb, allocate, confirmed, sendPacingResponse, withdraw, sendData, close, defer, receive, refusalIn, called}
+use Rattle.calls.specs.Calls.{taken}
 use Rattle.calls.specs.UnitCounts.{count, isRequest, requestsAmong, isPacingResponse}
 
 -- ---- refusals
@@ -29,8 +31,10 @@ abbrev pub questions : Station → Verb → List (Bool × ℕ)
 questions s allocate = allocateQuestions (s .end) (length (s .unit))
 questions s confirmed = confirmedQuestions (s .end) (length (s .unit))
 questions s sendPacingResponse = sendPacingResponseQuestions (s .end) (length (s .unit))
+questions s withdraw = withdrawQuestions (s .end)
 questions s (sendData bytes) = sendQuestions (s .end) bytes (length (s .send)) (length (s .unit))
 questions s (close f b) = closeQuestions (s .end) f b (length (s .send)) (length (s .unit))
+questions s (defer d) = deferQuestions (s .end)
 questions s (receive buffer) = receiveQuestions (s .end) (s .inbox) (length buffer)
 
 abbrev pub receiveUnitQuestions : Station → List ℕ → List (Bool × ℕ)
@@ -62,8 +66,10 @@ abbrev pub BytesOf : Verb → Type 0
 BytesOf allocate = Unit {0}
 BytesOf confirmed = Unit {0}
 BytesOf sendPacingResponse = Unit {0}
+BytesOf withdraw = Unit {0}
 BytesOf (sendData bytes) = AllBytes bytes
 BytesOf (close f b) = Unit {0}
+BytesOf (defer d) = Unit {0}
 BytesOf (receive buffer) = Unit {0}
 
 -- An accepted call's record was within the section 'The end's record', and the record that it leaves is; so is that of an accepted opening.
@@ -81,8 +87,10 @@ abbrev pub isSendPacingResponse : Verb → Bool
 isSendPacingResponse allocate = false
 isSendPacingResponse confirmed = false
 isSendPacingResponse sendPacingResponse = true
+isSendPacingResponse withdraw = false
 isSendPacingResponse (sendData bytes) = false
 isSendPacingResponse (close f b) = false
+isSendPacingResponse (defer d) = false
 isSendPacingResponse (receive buffer) = false
 
 -- A request made costs exactly 1 credit and a pacing answer taken raises it by exactly W; a request taken lowers open by exactly 1 and pace raises it by

@@ -1,3 +1,4 @@
 pub mod Calls
 pub mod UnitCounts
 pub mod Laws
+pub mod DeferLaws

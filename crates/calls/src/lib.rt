@@ -2,6 +2,7 @@
 // record, cells and unit, forged ones too. The functions do nothing; their contracts are the laws, so that a check prints their names
 // and fails if a proof goes.
 ghost use Rattle.calls.specs.Laws.{Refusals, StaysGood, CreditExact, UnitsFit};
+ghost use Rattle.calls.specs.DeferLaws.{Deferring};
 
 // A refused call gives the first number that fits and changes nothing.
 pub fn refused_calls()
@@ -21,4 +22,10 @@ pub fn credit_exact()
 // A unit made stands within the unit buffer, and is no longer than the longest RU allows.
 pub fn units_fit()
     ensures { λ _. ⌜ UnitsFit ⌝ }
+{}
+
+// A turn or an end that is prepared: withdrawn, every field is as it was; carried out, it is the call of that name. And what a
+// deferring end may do.
+pub fn deferring()
+    ensures { λ _. ⌜ Deferring ⌝ }
 {}

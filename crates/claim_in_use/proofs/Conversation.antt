@@ -76,7 +76,7 @@ happened =
 
 -- ---- what is asked
 
-asked : Asked
+pub asked : Asked
 unfolding computed
 asked =
     record {

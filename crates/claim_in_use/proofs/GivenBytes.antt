@@ -29,6 +29,8 @@ gives-bytes Verb.confirmed h = tt
 gives-bytes Verb.sendPacingResponse h = tt
 gives-bytes (Verb.sendData bytes) h = all-bytes bytes h
 gives-bytes (Verb.close f b) h = tt
+gives-bytes Verb.withdraw h = tt
+gives-bytes (Verb.defer d) h = tt
 gives-bytes (Verb.receive buffer) h = tt
 
 pub given-bytes : (l : List (At Lane Verb)) → AreBytes (each offered l) → BytesOfAll l

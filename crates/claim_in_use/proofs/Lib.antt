@@ -4,3 +4,4 @@ mod GivenBytes
 mod Orders
 mod OtherWords
 mod Conversation
+mod Deferral

@@ -1,8 +1,8 @@
 -- The claim in other words follows from the claim and from what is said of the records and of question 5, and from nothing else that crate joined proves.
 -- Assumes nothing.
 use Prim.Native.Nat.{ℕ, _+_, _*_}
-use mathlib.Core.Path.{_≡_, sym, ap, _∙_}
-use mathlib.Core.Bool.{false}
+use mathlib.Core.Path.{_≡_, refl, sym, ap, _∙_}
+use mathlib.Core.Bool.{true, false}
 use mathlib.Core.List.{List, [], _++_}
 use lib.ListN.{length, take}
 use Rattle.logical_record.specs.Positions.{start}
@@ -10,7 +10,7 @@ use Rattle.logical_record.specs.Walk.{walk}
 use Rattle.logical_record.specs.Records.{wholeRecords, wholeTables}
 use Rattle.logical_record.specs.RecordClaims.{EveryPlaceCanEnd}
 use Rattle.pacing.specs.Pacing.{credit}
-use Rattle.control.specs.StateTests.{isSend}
+use Rattle.control.specs.StateTests.{isSend, holdsSend}
 use Rattle.control.specs.declared.State.{State}
 use Rattle.control.specs.declared.State.the-variants.{Send}
 use Rattle.control.proofs.States.{send-is}
@@ -20,12 +20,20 @@ use Rattle.joined.specs.Joined.{Call, At, run}
 use Rattle.joined.specs.Ends.{Lane, normal, sameLane, acts, takes, openedBoth, Buffers}
 use Rattle.joined.specs.Histories.{bytesOnLine, breaches}
 use Rattle.joined.specs.Claim.{Claim, BytesConserved, CreditCounted, ReadsRight, RecordsArrive, TablesArrive, TheRecords, AlwaysGood}
-use Rattle.claim_in_use.specs.OtherWords.{Numbers, speaker, bidder, Opens, InRange, story, each, made, request, pacingAnswer, creditLeft, Ends, OneEnd, hasRead, AtOneEnd, OneWay, Agree, Interleaves, after, TakesFind, SameEnd, AreBytes, offered, KeepsRules, InOtherWords, answer}
-use Rattle.claim_in_use.proofs.Stories.{given-is, read-is, line-is, requests-are, answers-are, no-breach-in, never-in, no-bad-read, takes-not-complete, takes-no-more, ends-there, says-so, says-more, none-before}
+use Rattle.claim_in_use.specs.OtherWords.{Numbers, speaker, bidder, Opens, InRange, story, each, made, request, pacingAnswer, creditLeft, Ends, OneEnd}
+use Rattle.claim_in_use.specs.OtherWords.{hasRead, AtOneEnd, OneWay, HasTurn, sends, prepared-turn, prepared-end, Agree, Interleaves, after, TakesFind}
+use Rattle.claim_in_use.specs.OtherWords.{SameEnd, AreBytes, offered, KeepsRules, InOtherWords, answer}
+use Rattle.claim_in_use.proofs.Stories.{given-is, read-is, line-is, requests-are, answers-are, no-breach-in, never-in, no-bad-read, takes-not-complete}
+use Rattle.claim_in_use.proofs.Stories.{takes-no-more, ends-there, says-so, says-more, none-before}
 use Rattle.claim_in_use.proofs.InRangeAccepted.{accepts, openings}
 use Rattle.claim_in_use.proofs.GivenBytes.{parted, all-bytes, given-bytes}
 use Rattle.claim_in_use.proofs.Orders.{firsts-are, seconds-are, fed}
 use Rattle.calls.specs.Calls.{Verb}
+
+turn-held : {s : State} → HasTurn s → holdsSend s ≡ true
+turn-held sends = refl
+turn-held prepared-turn = refl
+turn-held prepared-end = refl
 
 not-send : (s : State) → (s ≡ Send → ⊥) → isSend s ≡ false
 not-send s h = split (isSend s) (λ y. absurd (h (send-is s y))) (λ n. n)
@@ -94,7 +102,7 @@ module _ (claim : Claim) (records : TheRecords) (always : AlwaysGood) (places : 
       let j = claim (speaker n) (bidder n) b c l o .0 in
       let k = records (speaker n) (bidder n) b c l o in
       record {
-        one-sends = λ x y. j .not-both (ap isSend x) (ap isSend y);
+        one-sends = λ x y. j .not-both (turn-held x) (turn-held y);
         at-one = at-one-end (n .window-out) (p .one) (j .no-breach-one) (j .credit-one) (k .one) places;
         at-two = at-one-end (n .window-back) (p .two) (j .no-breach-two) (j .credit-two) (k .two) places;
         out = one-way (p .one) (p .two) (j .bytes-out) (k .out) (k .tables-out);

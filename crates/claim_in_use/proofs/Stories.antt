@@ -17,8 +17,10 @@ use Rattle.joined.specs.Lanes.{Lines}
 use Rattle.joined.specs.Joined.{Event, acted, took}
 use Rattle.joined.specs.Ends.{Lane, normal}
 use Rattle.joined.specs.Histories as H
-use Rattle.joined.specs.Histories.{Log, bytesAccepted, bytesRead, bytesOnLine, isBreach, breaches, refusedWith, isBadRead, badReads, requestsMade, pacingResponsesTaken, CompleteIsRight, MoreIsRight, NoneCrosses}
-use Rattle.claim_in_use.specs.OtherWords.{Seen, story, each, All, numberOf, gave, copied, made, answer, takeAnswer, ofRead, readAnswer, request, pacingAnswer, dataBytes}
+use Rattle.joined.specs.Histories.{Log, bytesAccepted, bytesRead, bytesOnLine, isBreach, breaches, refusedWith, isBadRead, badReads, requestsMade}
+use Rattle.joined.specs.Histories.{pacingResponsesTaken, CompleteIsRight, MoreIsRight, NoneCrosses}
+use Rattle.claim_in_use.specs.OtherWords.{Seen, story, each, All, numberOf, gave, copied, made, answer, takeAnswer, ofRead, readAnswer, request}
+use Rattle.claim_in_use.specs.OtherWords.{pacingAnswer, dataBytes}
 use Rattle.calls.specs.Calls.{Reply, Verb}
 use Rattle.calls.specs.UnitCounts.{count, requestsAmong, isPacingResponse}
 
@@ -53,6 +55,8 @@ gave-is Verb.confirmed r us = gave-none (eqb (numberOf r) 0)
 gave-is Verb.sendPacingResponse r us = gave-none (eqb (numberOf r) 0)
 gave-is (Verb.sendData bytes) r us = refl
 gave-is (Verb.close f b) r us = gave-none (eqb (numberOf r) 0)
+gave-is Verb.withdraw r us = gave-none (eqb (numberOf r) 0)
+gave-is (Verb.defer d) r us = gave-none (eqb (numberOf r) 0)
 gave-is (Verb.receive buffer) r us = gave-none (eqb (numberOf r) 0)
 
 pub given-is : (es : Log) → each gave (story es) ≡ bytesAccepted es
@@ -156,6 +160,8 @@ not-bad Verb.confirmed r e = tt
 not-bad Verb.sendPacingResponse r e = tt
 not-bad (Verb.sendData bytes) r e = tt
 not-bad (Verb.close f b) r e = tt
+not-bad Verb.withdraw r e = tt
+not-bad (Verb.defer d) r e = tt
 not-bad (Verb.receive buffer) r e = (other-than 8 r e, tt)
 
 pub no-bad-read : (es : Log) → badReads es ≡ 0 → All (Not 8) (each readAnswer (story es))

@@ -1,5 +1,5 @@
--- One conversation, with the claim read off it: a bid that is refused, pacing answers that cross, a table of two parts cut over three units and by a
--- read, and a way back that is under way. What the claim says of it is written out in bytes and numbers.
+-- One conversation, with the claim read off it: a turn that is prepared and carried out, a bid that is refused and pacing answers that cross meanwhile, a
+-- table of two parts cut over three units and by a read, and a way back that is under way. What the claim says of it is written out in bytes and numbers.
 -- Assumes nothing.
 use Prim.Native.Nat.{ℕ, _+_, _*_}
 use mathlib.Core.Path.{_≡_}
@@ -10,17 +10,19 @@ use Rattle.logical_record.specs.Walk.{walk}
 use Rattle.logical_record.specs.RecordClaims.{CanEnd}
 use Rattle.logical_record.specs.declared.Position.the-variants.{Between, Remaining}
 use Rattle.logical_record.specs.declared.Walked.the-variants.{At}
-use Rattle.control.specs.StateTests.{isSend}
+use Rattle.control.specs.StateTests.{isSend, holdsSend}
 use Rattle.control.specs.declared.State.the-variants.{Send, Receive}
+use Rattle.control.specs.declared.Deferred.the-variants as deferral
 use Rattle.end.specs.Record.{recordGood, creditOf}
 use Rattle.session.specs.declared.Session.{Session}
 use Rattle.joined.specs.Joined as J
 use Rattle.joined.specs.Joined.{first, second, act, AllFed, run}
 use Rattle.joined.specs.Ends.{Lane, normal, sameLane, Buffers, JoinedOpenings, openedBoth, acts, takes}
-use Rattle.joined.specs.Histories.{bytesAccepted, bytesRead, bytesInInbox, bytesOnLine, bytesInSendBuffer, requestsMade, pacingResponsesTaken, breaches, refusedWith, badReads, CompleteIsRight, MoreIsRight, NoneCrosses}
+use Rattle.joined.specs.Histories.{bytesAccepted, bytesRead, bytesInInbox, bytesOnLine, bytesInSendBuffer, requestsMade, pacingResponsesTaken, breaches}
+use Rattle.joined.specs.Histories.{refusedWith, badReads, CompleteIsRight, MoreIsRight, NoneCrosses}
 use Rattle.joined.specs.Claim.{Pair}
 use Rattle.worked_examples.specs.Stations.{zeros, session}
-use Rattle.calls.specs.Calls.{Verb, prepareToReceive}
+use Rattle.calls.specs.Calls.{Verb, flush}
 
 -- ---- the calls
 
@@ -67,20 +69,35 @@ reply3 = 0x00 ∷ 0x02 ∷ []
 abbrev pub reply4 : List ℕ
 reply4 = 0xAB ∷ 0x01 ∷ 0x02 ∷ 0x03 ∷ 0x04 ∷ 0x05 ∷ 0x06 ∷ 0x07 ∷ 0x08 ∷ []
 
-abbrev pub calls : List (J.At Lane Verb)
-calls =
+-- the bidder makes its bid, and the first speaker gives all of its table
+abbrev pub begun : List (J.At Lane Verb)
+begun =
     second (act Verb.allocate)
     ∷ first (act Verb.allocate)
     ∷ first (act (Verb.sendData given1))
     ∷ first (act (Verb.sendData given2))
-    ∷ first (J.take normal)
+    ∷ first (act (Verb.sendData given3))
+    ∷ []
+
+-- and prepares the turn, with no credit left to give it
+abbrev pub early : List (J.At Lane Verb)
+early = begun ++ (first (act (Verb.defer deferral.Turn)) ∷ [])
+
+-- while the turn is prepared: the bid is refused, and pacing answers cross
+abbrev pub meanwhile : List (J.At Lane Verb)
+meanwhile =
+    first (J.take normal)
     ∷ first (act Verb.sendPacingResponse)
     ∷ second (J.take normal)
     ∷ second (act Verb.sendPacingResponse)
     ∷ second (act (Verb.receive (zeros 5)))
-    ∷ first (act (Verb.sendData given3))
     ∷ first (J.take normal)
-    ∷ first (act (prepareToReceive false))
+    ∷ []
+
+-- the turn is carried out, and the bidder replies
+abbrev pub late : List (J.At Lane Verb)
+late =
+    first (act flush)
     ∷ second (J.take normal)
     ∷ second (J.take normal)
     ∷ second (J.take normal)
@@ -95,6 +112,9 @@ calls =
     ∷ second (act (Verb.sendData (0x01 ∷ 0x02 ∷ 0x03 ∷ 0x04 ∷ 0x05 ∷ 0x06 ∷ 0x07 ∷ 0x08 ∷ [])))
     ∷ []
 
+abbrev pub calls : List (J.At Lane Verb)
+calls = early ++ (meanwhile ++ late)
+
 -- the same calls at each end, in another order between the ends
 abbrev pub reordered : List (J.At Lane Verb)
 reordered =
@@ -104,15 +124,16 @@ reordered =
     ∷ second (act Verb.allocate)
     ∷ second (J.take normal)
     ∷ second (act Verb.sendPacingResponse)
-    ∷ first (J.take normal)
-    ∷ second (act (Verb.receive (zeros 5)))
-    ∷ first (act Verb.sendPacingResponse)
     ∷ first (act (Verb.sendData given3))
+    ∷ second (act (Verb.receive (zeros 5)))
     ∷ second (J.take normal)
+    ∷ first (act (Verb.defer deferral.Turn))
     ∷ first (J.take normal)
     ∷ second (J.take normal)
+    ∷ first (act Verb.sendPacingResponse)
     ∷ second (J.take normal)
-    ∷ first (act (prepareToReceive false))
+    ∷ first (J.take normal)
+    ∷ first (act flush)
     ∷ second (J.take normal)
     ∷ second (act (Verb.receive (zeros 32)))
     ∷ second (act (Verb.receive (zeros 32)))
@@ -155,7 +176,7 @@ pub record Asked : Type 0 where
 -- ---- what the claim says, in bytes and numbers
 
 pub record Said : Type 0 where
-  pub not-both : isSend Receive ≡ true → isSend Send ≡ true → ⊥
+  pub not-both : holdsSend Receive ≡ true → holdsSend Send ≡ true → ⊥
   pub no-breach-one : breaches (talked .one .log) ≡ 0
   pub no-breach-two : breaches (talked .two .log) ≡ 0
   -- read, in the inbox, on the line, in the send buffer

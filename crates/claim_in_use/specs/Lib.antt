@@ -1,2 +1,3 @@
 pub mod OtherWords
 pub mod Conversation
+pub mod Deferral

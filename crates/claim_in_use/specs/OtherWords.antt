@@ -14,7 +14,8 @@ use Rattle.logical_record.specs.Records.{wholeRecords, ended, lastBit, wholeTab
 use Rattle.logical_record.specs.RecordClaims.{CanEnd}
 use Rattle.logical_record.specs.declared.Walked.the-variants as walked
 use Rattle.pacing.specs.declared.Window.{Window}
-use Rattle.control.specs.declared.State.the-variants.{Send}
+use Rattle.control.specs.declared.State.{State}
+use Rattle.control.specs.declared.State.the-variants.{Send, DeferTurn, DeferEnd}
 use Rattle.end.specs.Record.{recordGood}
 use Rattle.session.specs.declared.Session.{Session}
 use Rattle.joined.specs.Lanes.{Lines}
@@ -90,8 +91,10 @@ abbrev pub bytesOf : Verb → List ℕ
 bytesOf Verb.allocate = []
 bytesOf Verb.confirmed = []
 bytesOf Verb.sendPacingResponse = []
+bytesOf Verb.withdraw = []
 bytesOf (Verb.sendData bytes) = bytes
 bytesOf (Verb.close f b) = []
+bytesOf (Verb.defer d) = []
 bytesOf (Verb.receive buffer) = []
 
 -- the bytes that an accepted call gave
@@ -123,8 +126,10 @@ abbrev pub ofRead : Verb → Reply → List Reply
 ofRead Verb.allocate r = []
 ofRead Verb.confirmed r = []
 ofRead Verb.sendPacingResponse r = []
+ofRead Verb.withdraw r = []
 ofRead (Verb.sendData bytes) r = []
 ofRead (Verb.close f b) r = []
+ofRead (Verb.defer d) r = []
 ofRead (Verb.receive buffer) r = r ∷ []
 
 abbrev pub readAnswer : Seen → List Reply
@@ -173,7 +178,7 @@ pub record AtOneEnd (w : ℕ) (x : OneEnd) : Type 0 where
   pub credit :
       length (each request (each made (story (x .log)))) + creditLeft (x .end .end .sending .window)
       ≡ w * (1 + length (each pacingAnswer (story (x .log))))
-  -- what was given and not finished is what the end keeps; there is none outside Send
+  -- what was given and not finished is what the end keeps; there is none outside Send, and none where a turn or an end is prepared
   pub unfinished : walk start (given x) ≡ walked.At (x .end .end .sending .given)
   pub finished : (x .end .end .control .state ≡ Send → ⊥) → isWhole (x .end .end .sending .given) ≡ true
   -- whatever was given, some bytes finish it
@@ -209,8 +214,14 @@ pub record OneWay (x y : OneEnd) : Type 0 where
   pub tables-to-come : List (List (List ℕ))
   pub tables : wholeTables (given x) ≡ wholeTables (hasRead y) ++ tables-to-come
 
+-- an end that may send, or has a turn or an end prepared
+pub data HasTurn : State → Type 0 where
+  sends : HasTurn Send
+  prepared-turn : HasTurn DeferTurn
+  prepared-end : HasTurn DeferEnd
+
 pub record Agree (n : Numbers) (p : Ends) : Type 0 where
-  pub one-sends : p .one .end .end .control .state ≡ Send → p .two .end .end .control .state ≡ Send → ⊥
+  pub one-sends : HasTurn (p .one .end .end .control .state) → HasTurn (p .two .end .end .control .state) → ⊥
   pub at-one : AtOneEnd (n .window-out) (p .one)
   pub at-two : AtOneEnd (n .window-back) (p .two)
   pub out : OneWay (p .one) (p .two)

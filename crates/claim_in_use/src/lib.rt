@@ -1,10 +1,12 @@
-// The claim about two joined ends put to use: said once more in other words, and read off one conversation. The functions do nothing
-// but call those that carry the claim; their contracts follow from the contracts of these.
+// The claim about two joined ends put to use: said once more in other words, and read off one conversation; the laws of Defer too. The
+// functions do nothing but call those that carry the claim and the laws; their contracts follow from the contracts of these.
+use calls::deferring;
 use joined::always_good;
 use joined::joined_ends;
 use joined::the_records;
 use logical_record::theorems::record_places;
 ghost use Rattle.claim_in_use.specs.Conversation.{OneConversation};
+ghost use Rattle.claim_in_use.specs.Deferral.{OneDeferral};
 ghost use Rattle.claim_in_use.specs.OtherWords.{InOtherWords};
 
 // The claim in other words, of every two sessions and every list of calls.
@@ -25,4 +27,13 @@ pub fn one_conversation()
     the_records();
     always_good();
     record_places();
+}
+
+// The claim and the laws of Defer, of the same conversation while a turn is prepared.
+pub fn one_deferral()
+    ensures { λ _. ⌜ OneDeferral ⌝ }
+{
+    joined_ends();
+    the_records();
+    deferring();
 }

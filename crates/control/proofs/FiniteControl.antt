@@ -8,7 +8,7 @@ use Rattle.header.proofs.FiniteHeader.{follows}
 use Rattle.control.specs.declared.Role.{Role}
 use Rattle.control.specs.declared.Role.the-variants.{FirstSpeaker, Bidder}
 use Rattle.control.specs.declared.State.{State}
-use Rattle.control.specs.declared.State.the-variants.{Reset, Send, Receive, ConfirmOwed, ConfirmAwaited}
+use Rattle.control.specs.declared.State.the-variants.{Reset, Send, Receive, ConfirmOwed, ConfirmAwaited, DeferTurn, DeferEnd}
 use Rattle.control.specs.declared.WhatReceived.{WhatReceived}
 use Rattle.control.specs.declared.WhatReceived.the-variants as mark
 use Rattle.control.specs.declared.Control.{Control}
@@ -21,14 +21,16 @@ abbrev pub roles : Finite Role
 roles = record { all = λ f. f FirstSpeaker && f Bidder; at = at-role }
 
 abbrev pub allStates : (State → Bool) → Bool
-allStates f = f Reset && (f Send && (f Receive && (f ConfirmOwed && f ConfirmAwaited)))
+allStates f = f Reset && (f Send && (f Receive && (f ConfirmOwed && (f ConfirmAwaited && (f DeferTurn && f DeferEnd)))))
 
 pub at-state : (f : State → Bool) → allStates f ≡ true → (s : State) → f s ≡ true
-at-state f t Reset = search halves
-at-state f t Send = search halves
-at-state f t Receive = search halves
-at-state f t ConfirmOwed = search halves
-at-state f t ConfirmAwaited = search halves
+at-state f t Reset = search halves depth 9
+at-state f t Send = search halves depth 9
+at-state f t Receive = search halves depth 9
+at-state f t ConfirmOwed = search halves depth 9
+at-state f t ConfirmAwaited = search halves depth 9
+at-state f t DeferTurn = search halves depth 9
+at-state f t DeferEnd = search halves depth 9
 
 abbrev pub states : Finite State
 states = record { all = allStates; at = at-state }

@@ -1,15 +1,21 @@
 -- What a test of a state, a role or a mark tells: which it is, and which it is not.
 -- Assumes nothing.
-use mathlib.Core.Path.{_≡_, refl, sym}
-use mathlib.Core.Bool.{Bool, true, false, _&&_, _||_}
-use Rattle.bools.proofs.Cases.{never}
-use Rattle.control.specs.StateTests.{isFirstSpeaker, isBidder, isReset, isSend, isReceive, isConfirmOwed, isConfirmAwaited, isNothing}
+use mathlib.Core.Path.{_≡_, refl, sym, ap, _∙_}
+use mathlib.Core.Bool.{Bool, true, false, not, _&&_, _||_, or-true}
+use Rattle.bools.proofs.Cases.{never, split}
+use Rattle.bools.proofs.Tests.{follows-from, not-true}
+use Rattle.control.specs.StateTests.{isFirstSpeaker, isBidder, isReset, isSend, isReceive, isConfirmOwed, isConfirmAwaited, isDefer, holdsSend, isNothing}
+use Rattle.header.specs.declared.Follows.{Follows}
+use Rattle.header.specs.declared.Follows.the-variants.{Stay, ChangeDirection, EndBracket}
+use Rattle.control.specs.Questions.{mayClose}
+use Rattle.control.specs.declared.Control.{Control}
 use Rattle.control.specs.declared.Role.{Role}
 use Rattle.control.specs.declared.Role.the-variants.{FirstSpeaker, Bidder}
 use Rattle.control.specs.declared.State.{State}
-use Rattle.control.specs.declared.State.the-variants.{Reset, Send, Receive, ConfirmOwed, ConfirmAwaited}
+use Rattle.control.specs.declared.State.the-variants.{Reset, Send, Receive, ConfirmOwed, ConfirmAwaited, DeferTurn, DeferEnd}
 use Rattle.control.specs.declared.WhatReceived.{WhatReceived}
 use Rattle.control.specs.declared.WhatReceived.the-variants as mark
+use Rattle.control.proofs.FiniteControl.{allStates, at-state}
 
 -- ---- which it is
 
@@ -19,6 +25,8 @@ send-is Send e = refl
 send-is Receive e = never e
 send-is ConfirmOwed e = never e
 send-is ConfirmAwaited e = never e
+send-is DeferTurn e = never e
+send-is DeferEnd e = never e
 
 pub state-is : (s : State)
     → (isReset s ≡ true → s ≡ Reset) × (isReceive s ≡ true → s ≡ Receive) × (isConfirmOwed s ≡ true → s ≡ ConfirmOwed)
@@ -28,6 +36,8 @@ state-is Send = (λ e. cc, λ e. cc, λ e. cc, λ e. cc)
 state-is Receive = (λ e. cc, λ e. refl, λ e. cc, λ e. cc)
 state-is ConfirmOwed = (λ e. cc, λ e. cc, λ e. refl, λ e. cc)
 state-is ConfirmAwaited = (λ e. cc, λ e. cc, λ e. cc, λ e. refl)
+state-is DeferTurn = (λ e. cc, λ e. cc, λ e. cc, λ e. cc)
+state-is DeferEnd = (λ e. cc, λ e. cc, λ e. cc, λ e. cc)
 
 pub nothing-is : (m : WhatReceived) → isNothing m ≡ true → m ≡ mark.Nothing
 nothing-is mark.Nothing e = refl
@@ -43,17 +53,47 @@ pub bidder-not-first : (r : Role) → isBidder r ≡ true → isFirstSpeaker r �
 bidder-not-first FirstSpeaker e = sym e
 bidder-not-first Bidder e = refl
 
-pub reset-not-send : (s : State) → isReset s ≡ true → isSend s ≡ false
-reset-not-send Reset e = refl
-reset-not-send Send e = never e
-reset-not-send Receive e = refl
-reset-not-send ConfirmOwed e = refl
-reset-not-send ConfirmAwaited e = refl
+-- at every state: where one test holds, another does not
+excludes : (f g : State → Bool) → allStates (λ s. not (f s) || not (g s)) ≡ true → (s : State) → f s ≡ true → g s ≡ false
+excludes f g t s e = not-true (g s) (follows-from (f s) (not (g s)) (at-state (λ s. not (f s) || not (g s)) t s) e)
 
--- 26: data comes only outside Send
-pub fits-not-send : (s : State) (b : Bool) → isReceive s || (isReset s && b) ≡ true → isSend s ≡ false
-fits-not-send Reset b e = refl
-fits-not-send Send b e = never e
-fits-not-send Receive b e = refl
-fits-not-send ConfirmOwed b e = refl
-fits-not-send ConfirmAwaited b e = refl
+pub reset-not-send : (s : State) → isReset s ≡ true → holdsSend s ≡ false
+reset-not-send = excludes isReset holdsSend refl
+
+-- 26: data comes only outside Send and Defer
+pub fits-not-send : (s : State) (b : Bool) → isReceive s || (isReset s && b) ≡ true → holdsSend s ≡ false
+fits-not-send s true = excludes (λ s. isReceive s || (isReset s && true)) holdsSend refl s
+fits-not-send s false = excludes (λ s. isReceive s || (isReset s && false)) holdsSend refl s
+
+pub holding-not-receive : (s : State) → holdsSend s ≡ true → isReceive s ≡ false
+holding-not-receive = excludes holdsSend isReceive refl
+
+-- ---- send state
+
+-- an end that may send, and one that may close a chain, holds it
+pub sending-holds : (s : State) → isSend s ≡ true → holdsSend s ≡ true
+sending-holds s e = rw e
+
+pub closing-holds : (f : Follows) (c : Control) → mayClose f c ≡ true → holdsSend (c .state) ≡ true
+closing-holds Stay c e = e
+closing-holds ChangeDirection c e = sending-holds (c .state) e
+closing-holds EndBracket c e = sending-holds (c .state) e
+
+pub not-holding : (s : State) → holdsSend s ≡ false → isSend s ≡ false
+not-holding s e = split (isSend s) (λ y. never (sym e ∙ sending-holds s y)) (λ n. n)
+
+-- an end in Defer
+pub record InDefer (s : State) : Type 0 where
+  pub not-reset : isReset s ≡ false
+  pub not-send : isSend s ≡ false
+  pub not-owed : isConfirmOwed s ≡ false
+  pub holds : holdsSend s ≡ true
+
+pub in-defer : (s : State) → isDefer s ≡ true → InDefer s
+in-defer s e =
+    record {
+      not-reset = excludes isDefer isReset refl s e;
+      not-send = excludes isDefer isSend refl s e;
+      not-owed = excludes isDefer isConfirmOwed refl s e;
+      holds = ap (λ (b : Bool). isSend s || b) e ∙ or-true (isSend s);
+    }

@@ -3,7 +3,7 @@
 use mathlib.Core.Path.{_≡_}
 use mathlib.Core.Bool.{Bool, true, false, not, _&&_, _||_, and-false}
 use Rattle.bools.proofs.Tests.{both, join, off, or-left}
-use Rattle.control.specs.StateTests.{isFirstSpeaker, isSend, isReceive, isNothing}
+use Rattle.control.specs.StateTests.{isFirstSpeaker, isReceive, holdsSend, isNothing}
 use Rattle.control.specs.Within.{markInReceive, dueInSend, bidAtBidder, chainInSend, controlGood}
 use Rattle.control.specs.declared.Control.{Control}
 
@@ -26,12 +26,12 @@ unfolding controlGood
 control-good c w = join (markInReceive c) _ (w .mark) (join (dueInSend c) _ (w .due) (join (bidAtBidder c) (chainInSend c) (w .bid) (w .chain)))
 
 module _ (c : Control) (w : ControlWithin c) where
-  -- outside Send the sending chain is closed
-  pub closed-outside-send : isSend (c .state) ≡ false → c .outchain ≡ false
-  closed-outside-send s = off (c .outchain) (isSend (c .state)) (w .chain) s
+  -- outside Send and Defer the sending chain is closed
+  pub closed-outside-send : holdsSend (c .state) ≡ false → c .outchain ≡ false
+  closed-outside-send s = off (c .outchain) (holdsSend (c .state)) (w .chain) s
 
-  -- BB-due is off outside Send, and at a bidder
-  pub due-outside-send : isSend (c .state) ≡ false → c .due ≡ false
+  -- BB-due is off outside Send and Defer, and at a bidder
+  pub due-outside-send : holdsSend (c .state) ≡ false → c .due ≡ false
   due-outside-send s = off (c .due) _ (w .due) (rw s (and-false (isFirstSpeaker (c .role))))
 
   pub due-at-bidder : isFirstSpeaker (c .role) ≡ false → c .due ≡ false
@@ -44,7 +44,7 @@ module _ (c : Control) (w : ControlWithin c) where
 -- ---- with the bytes held: `some` is whether there is one at least, `none` whether there is none
 
 abbrev pub heldFits : Control → Bool → Bool → Bool
-heldFits c some none = (not (c .outchain) || some) && (isSend (c .state) || none)
+heldFits c some none = (not (c .outchain) || some) && (holdsSend (c .state) || none)
 
 abbrev pub within : Control → Bool → Bool → Bool
 within c some none = controlGood c && heldFits c some none

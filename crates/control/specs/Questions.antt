@@ -1,7 +1,9 @@
 -- What the calls ask of the finite part.
 -- Assumes nothing.
 use mathlib.Core.Bool.{Bool, not, _&&_, _||_}
-use Rattle.control.specs.StateTests.{isFirstSpeaker, isBidder, isReset, isSend, isReceive, isConfirmOwed, isConfirmAwaited, agree}
+use Rattle.control.specs.StateTests.{isFirstSpeaker, isBidder, isReset, isSend, isReceive, isConfirmOwed, isConfirmAwaited, holdsSend, isDefer, agree}
+use Rattle.header.specs.declared.Follows.{Follows}
+use Rattle.header.specs.declared.Follows.the-variants.{Stay, ChangeDirection, EndBracket}
 use Rattle.control.specs.declared.Control.{Control}
 
 -- ---- 7: does the state (and bid flag) allow it?
@@ -9,16 +11,21 @@ use Rattle.control.specs.declared.Control.{Control}
 abbrev pub mayAllocate : Control → Bool
 mayAllocate c = isReset (c .state) && not (c .bid)
 
--- send data, flush, confirm, turn, end
+-- send data, turn, end, and preparing one
 abbrev pub maySend : Control → Bool
 maySend c = isSend (c .state)
 
+-- flush and confirm carry out what is prepared; turn and end by name are for Send alone
+abbrev pub mayClose : Follows → Control → Bool
+mayClose Stay c = holdsSend (c .state)
+mayClose ChangeDirection c = maySend c
+mayClose EndBracket c = maySend c
+
+abbrev pub mayWithdraw : Control → Bool
+mayWithdraw c = isDefer (c .state)
+
 abbrev pub mayConfirm : Control → Bool
 mayConfirm c = isConfirmOwed (c .state)
-
--- the end holds send state, when two ends are compared
-abbrev pub holdsSend : Control → Bool
-holdsSend c = isSend (c .state)
 
 -- ---- take
 

@@ -1,24 +1,24 @@
--- What the section 'The end's record' says of the finite part, a sentence a definition.
+-- What the section 'The end's record' says of the finite part, a sentence a definition. Where it says "in Send", document 02 has "in Send or Defer".
 -- Assumes nothing.
 use mathlib.Core.Bool.{Bool, not, _&&_, _||_}
-use Rattle.control.specs.StateTests.{isFirstSpeaker, isBidder, isSend, isReceive, isNothing}
+use Rattle.control.specs.StateTests.{isFirstSpeaker, isBidder, isReceive, holdsSend, isNothing}
 use Rattle.control.specs.declared.Control.{Control}
 
 -- a mark stands only in Receive
 abbrev pub markInReceive : Control → Bool
 markInReceive c = isNothing (c .mark) || isReceive (c .state)
 
--- BB-due: only a first speaker in Send, no sending chain open
+-- BB-due: only a first speaker in Send or Defer, no sending chain open
 abbrev pub dueInSend : Control → Bool
-dueInSend c = not (c .due) || (isFirstSpeaker (c .role) && (isSend (c .state) && not (c .outchain)))
+dueInSend c = not (c .due) || (isFirstSpeaker (c .role) && (holdsSend (c .state) && not (c .outchain)))
 
 -- flag bid: only a bidder
 abbrev pub bidAtBidder : Control → Bool
 bidAtBidder c = not (c .bid) || isBidder (c .role)
 
--- outside Send the sending chain is closed
+-- outside Send and Defer the sending chain is closed
 abbrev pub chainInSend : Control → Bool
-chainInSend c = not (c .outchain) || isSend (c .state)
+chainInSend c = not (c .outchain) || holdsSend (c .state)
 
 unfoldable pub controlGood : Control → Bool
 controlGood c = markInReceive c && (dueInSend c && (bidAtBidder c && chainInSend c))

@@ -11,13 +11,22 @@ pub enum Role {
     Bidder,
 }
 
-// Document 01's state; ConfirmOwed is its Owes, ConfirmAwaited its Waits.
+// Document 01's state; ConfirmOwed is its Owes, ConfirmAwaited its Waits. DeferTurn and DeferEnd are document 02's Defer: a turn
+// or an end is prepared and not yet carried out (document 004: Defer Receive and Defer Deallocate).
 pub enum State {
     Reset,
     Send,
     Receive,
     ConfirmOwed,
     ConfirmAwaited,
+    DeferTurn,
+    DeferEnd,
+}
+
+// What is prepared in Defer.
+pub enum Deferred {
+    Turn,
+    End,
 }
 
 // Document 01's mark: what the last unit taken says after its bytes, kept until a read answers it.

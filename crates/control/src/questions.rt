@@ -1,18 +1,21 @@
 // What question 5 and the calls ask of the finite part.
 use crate::Control;
 use crate::state_tests::agree;
+use crate::state_tests::holds_send;
 use crate::state_tests::is_bidder;
 use crate::state_tests::is_confirm_awaited;
 use crate::state_tests::is_confirm_owed;
+use crate::state_tests::is_defer;
 use crate::state_tests::is_first_speaker;
 use crate::state_tests::is_nothing;
 use crate::state_tests::is_receive;
 use crate::state_tests::is_reset;
 use crate::state_tests::is_send;
+use header::Follows;
 ghost use mathlib.Core.Path.{_≡_};
 ghost use Rattle.control.specs.StateTests.{isFirstSpeaker, isNothing};
 ghost use Rattle.control.specs.Within.{markInReceive, dueInSend, bidAtBidder, chainInSend, controlGood};
-ghost use Rattle.control.specs.Questions.{mayAllocate, maySend, mayConfirm, chainFits, bracketFits, bidFits, stateFits};
+ghost use Rattle.control.specs.Questions.{mayAllocate, maySend, mayClose, mayWithdraw, mayConfirm, chainFits, bracketFits, bidFits, stateFits};
 ghost use Rattle.control.specs.Questions.{positiveResponseFits, negativeResponseFits, confirmationFits};
 
 impl Control {
@@ -29,7 +32,7 @@ impl Control {
     {
         let role = self.role;
         let state = self.state;
-        !self.due | (is_first_speaker(role) & (is_send(state) & !self.outchain))
+        !self.due | (is_first_speaker(role) & (holds_send(state) & !self.outchain))
     }
 
     fn bid_at_bidder(self) -> bool
@@ -43,7 +46,7 @@ impl Control {
         ensures { λ r. ⌜ r ≡ chainInSend self ⌝ }
     {
         let state = self.state;
-        !self.outchain | is_send(state)
+        !self.outchain | holds_send(state)
     }
 
     // The finite part is within the section 'The end's record'.
@@ -81,6 +84,25 @@ impl Control {
     {
         let state = self.state;
         is_send(state)
+    }
+
+    // Flush and confirm (both say nothing to follow) carry out what is prepared; turn and end are for Send alone.
+    pub fn may_close(self, follows: Follows) -> bool
+        ensures { λ r. ⌜ r ≡ mayClose follows self ⌝ }
+    {
+        let state = self.state;
+        match follows {
+            Follows::Stay => holds_send(state),
+            Follows::ChangeDirection => is_send(state),
+            Follows::EndBracket => is_send(state),
+        }
+    }
+
+    pub fn may_withdraw(self) -> bool
+        ensures { λ r. ⌜ r ≡ mayWithdraw self ⌝ }
+    {
+        let state = self.state;
+        is_defer(state)
     }
 
     pub fn may_confirm(self) -> bool

@@ -4,7 +4,7 @@ use crate::State;
 use crate::WhatReceived;
 ghost use mathlib.Core.Path.{_≡_};
 ghost use Rattle.control.specs.StateTests.{roleOf, isFirstSpeaker, isBidder, isReset, isSend, isReceive, isConfirmOwed};
-ghost use Rattle.control.specs.StateTests.{isConfirmAwaited, isNothing, agree};
+ghost use Rattle.control.specs.StateTests.{isConfirmAwaited, holdsSend, isDefer, isNothing, agree};
 
 // First speaker 0, bidder 1.
 pub fn role_of(number: u8) -> Role
@@ -44,6 +44,8 @@ pub fn is_reset(s: State) -> bool
         State::Receive => false,
         State::ConfirmOwed => false,
         State::ConfirmAwaited => false,
+        State::DeferTurn => false,
+        State::DeferEnd => false,
     }
 }
 
@@ -56,6 +58,8 @@ pub fn is_send(s: State) -> bool
         State::Receive => false,
         State::ConfirmOwed => false,
         State::ConfirmAwaited => false,
+        State::DeferTurn => false,
+        State::DeferEnd => false,
     }
 }
 
@@ -68,6 +72,8 @@ pub fn is_receive(s: State) -> bool
         State::Receive => true,
         State::ConfirmOwed => false,
         State::ConfirmAwaited => false,
+        State::DeferTurn => false,
+        State::DeferEnd => false,
     }
 }
 
@@ -80,6 +86,8 @@ pub fn is_confirm_owed(s: State) -> bool
         State::Receive => false,
         State::ConfirmOwed => true,
         State::ConfirmAwaited => false,
+        State::DeferTurn => false,
+        State::DeferEnd => false,
     }
 }
 
@@ -92,6 +100,38 @@ pub fn is_confirm_awaited(s: State) -> bool
         State::Receive => false,
         State::ConfirmOwed => false,
         State::ConfirmAwaited => true,
+        State::DeferTurn => false,
+        State::DeferEnd => false,
+    }
+}
+
+// Document 02: the end holds send state.
+pub fn holds_send(s: State) -> bool
+    ensures { λ b. ⌜ b ≡ holdsSend s ⌝ }
+{
+    match s {
+        State::Reset => false,
+        State::Send => true,
+        State::Receive => false,
+        State::ConfirmOwed => false,
+        State::ConfirmAwaited => false,
+        State::DeferTurn => true,
+        State::DeferEnd => true,
+    }
+}
+
+// A turn or an end is prepared.
+pub fn is_defer(s: State) -> bool
+    ensures { λ b. ⌜ b ≡ isDefer s ⌝ }
+{
+    match s {
+        State::Reset => false,
+        State::Send => false,
+        State::Receive => false,
+        State::ConfirmOwed => false,
+        State::ConfirmAwaited => false,
+        State::DeferTurn => true,
+        State::DeferEnd => true,
     }
 }
 

@@ -1,14 +1,16 @@
-// Named cases of conversations, headers and tables in parts. A case is one text: its name, its script, a line `=`, and the answers that the
-// script must have. A wrong length in the type of a case is refused by the compiler.
+// Named cases of conversations, headers, tables in parts, and turns and ends prepared. A case is one text: its name, its script, a line `=`,
+// and the answers that the script must have. A wrong length in the type of a case is refused by the compiler.
 mod conversations;
 mod headers;
 mod parts;
+mod prepared;
 
 use conversations::conversations;
 use headers::headers;
 use parts::parts;
+use prepared::prepared;
 
 // Whether the case of that name went as it should; an unknown name is bad.
 pub fn run(name: &[u8]) -> bool {
-    conversations(name) | headers(name) | parts(name)
+    conversations(name) | headers(name) | parts(name) | prepared(name)
 }

@@ -11,7 +11,7 @@ use end::Done;
 use end::End;
 
 // A record whose sending maximum is below 8.
-fn forged() -> End {
+pub fn forged() -> End {
     let mut end = opened_end(0);
     let mut sending = end.sending;
     sending.max = 7;

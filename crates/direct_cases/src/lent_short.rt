@@ -1,11 +1,16 @@
 // Buffers that are not as long as the record says: refused with 4, and not written.
+use crate::deferred::deferring;
+use crate::deferred::sending_end;
 use crate::opened::opened_end;
+use crate::opened::refusal_of;
 use crate::refused::give;
 use crate::refused::read;
 use crate::refused::refused;
 use crate::refused::take;
 use crate::refused::unit_calls;
 use check::same;
+use control::Deferred;
+use end::End;
 
 pub fn refusal_4_unit_buffer() -> bool {
     let mut unit = [0xA5u8; 68];
@@ -46,4 +51,31 @@ pub fn refusal_4_inbox_of_take() -> bool {
 pub fn refusal_4_inbox_of_read() -> bool {
     let mut inbox = [0xA5u8; 191];
     read(opened_end(1), 4, &mut inbox) & same(&inbox, &[0xA5u8; 191])
+}
+
+fn give_in_defer(end: End) -> bool {
+    let mut send = [0xA5u8; 63];
+    give(end, 4, &mut send) & same(&send, &[0xA5u8; 63])
+}
+
+fn flush_in_defer(end: End) -> bool {
+    let mut unit = [0xA5u8; 69];
+    let flushed = end.flush(&[0xA5u8; 63], &mut unit);
+    refused(flushed, 4, &unit)
+}
+
+fn confirm_in_defer(end: End) -> bool {
+    let mut unit = [0xA5u8; 68];
+    let confirmed = end.confirm(&[0xA5u8; 64], &mut unit);
+    (refusal_of(confirmed) == 4) & same(&unit, &[0xA5u8; 68])
+}
+
+fn refused_in_defer(what: Deferred) -> bool {
+    let end = deferring(sending_end(), what);
+    give_in_defer(end) & flush_in_defer(end) & confirm_in_defer(end)
+}
+
+// In Defer too the buffers are asked before the state.
+pub fn refusal_4_in_defer() -> bool {
+    refused_in_defer(Deferred::Turn) & refused_in_defer(Deferred::End)
 }

@@ -1,15 +1,23 @@
 // Named cases that no script can ask for: each makes the delivered calls itself and compares every byte.
+mod deferred;
 mod forged;
+mod forged_defer;
 mod lent_short;
 mod opened;
 mod refused;
 mod wrapping;
 
 use check::same;
+use deferred::prepared_as_at_once;
 use forged::refusal_5_forged_receives;
 use forged::refusal_5_forged_sends;
 use forged::refusal_5_forged_unit_calls;
 use forged::refusal_8_read;
+use forged_defer::refusal_5_defer_chain_of_none;
+use forged_defer::refusal_5_defer_due_at_bidder;
+use forged_defer::refusal_5_forged_prepare;
+use forged_defer::refusal_9_forged_defer;
+use lent_short::refusal_4_in_defer;
 use lent_short::refusal_4_inbox_of_read;
 use lent_short::refusal_4_inbox_of_take;
 use lent_short::refusal_4_send_buffer;
@@ -33,7 +41,16 @@ fn lent(name: &[u8]) -> bool {
         | (same(name, b"refusal_8_read") & refusal_8_read())
 }
 
+fn in_defer(name: &[u8]) -> bool {
+    (same(name, b"prepared_as_at_once") & prepared_as_at_once())
+        | (same(name, b"refusal_4_in_defer") & refusal_4_in_defer())
+        | (same(name, b"refusal_5_forged_prepare") & refusal_5_forged_prepare())
+        | (same(name, b"refusal_5_defer_chain_of_none") & refusal_5_defer_chain_of_none())
+        | (same(name, b"refusal_5_defer_due_at_bidder") & refusal_5_defer_due_at_bidder())
+        | (same(name, b"refusal_9_forged_defer") & refusal_9_forged_defer())
+}
+
 // Whether the case of that name went as it should; an unknown name is bad. Every case is run whatever the name: they are short.
 pub fn run(name: &[u8]) -> bool {
-    opened_and_forged(name) | lent(name)
+    opened_and_forged(name) | lent(name) | in_defer(name)
 }

@@ -23,7 +23,7 @@ use Rattle.end.specs.Requests.{dataHeader}
 use Rattle.end.specs.SendData.{heldBytes}
 use Rattle.end.specs.Outcome.{nothing, aUnit, accept, refuse, doneOf, withControl}
 use Rattle.end.specs.Allocate.{allocateRefusal, bidMade, allocateDecision}
-use Rattle.end.specs.Close.{nothingGoes, closeRefusal, lastMade, closeDecision}
+use Rattle.end.specs.Close.{nothingGoes, closing, closeRefusal, lastMade, closeDecision}
 use Rattle.end.specs.Confirmed.{confirmedRefusal, confirmedDecision}
 use Rattle.end.specs.SendPacingResponse.{sendPacingResponseRefusal, sendPacingResponseDecision}
 use Rattle.end.proofs.RoomToWrite.{allocate-room, confirmed-room, pacing-response-room, HeldRoom, close-room}
@@ -70,15 +70,16 @@ held-room e f confirm send unit z =
     omega (arith, length-take-le (e .sending .held) send (r .in-send), r .in-unit)
 
 pub close-makes : (e : End) (f : Follows) (confirm : Bool) (send : List ℕ) (unit : ℕ)
-    → (let d = closeDecision e f confirm send unit in Makes d (d .end .sending .number) (dataHeader e (Last f confirm)) (heldBytes e send) unit)
+    → (let d = closeDecision e f confirm send unit in Makes d (d .end .sending .number) (dataHeader e (Last (closing e f) confirm)) (heldBytes e send) unit)
 unfolding closeDecision lastMade requestMade
 close-makes e f confirm send unit =
     let q = closeRefusal e f confirm (length send) unit in
-    either (eqb q 0) (nothingGoes e f confirm) q e e (lastMade e f confirm send .end) (λ (x : End). x .sending .number)
-    (dataHeader e (Last f confirm)) (heldBytes e send) unit refl (held-room e f confirm send unit)
+    let x = closing e f in
+    either (eqb q 0) (nothingGoes e x confirm) q e e (lastMade e x confirm send .end) (λ (y : End). y .sending .number)
+    (dataHeader e (Last x confirm)) (heldBytes e send) unit refl (held-room e f confirm send unit)
 
 close-made : (t b : Bool) (e : End) (f : Follows) (confirm : Bool) (send : List ℕ) (unit : ℕ) → eqb (closeRefusal e f confirm (length send) unit) 0 ≡ t
-    → (doneOf (cond t (cond b (accept e nothing) (lastMade e f confirm send)) (refuse (closeRefusal e f confirm (length send) unit) e)) .answer .unit ≡ 0 → ⊥)
+    → (doneOf (cond t (cond b (accept e nothing) (lastMade e (closing e f) confirm send)) (refuse (closeRefusal e f confirm (length send) unit) e)) .answer .unit ≡ 0 → ⊥)
     → HeldRoom e (length send) unit
 close-made false b e f confirm send unit z x = absurd (x (rw z))
 close-made true true e f confirm send unit z x = absurd (x refl)
@@ -90,4 +91,4 @@ pub close-goes : (e : End) (f : Follows) (confirm : Bool) (send : List ℕ) (uni
     → (doneOf (closeDecision e f confirm send unit) .answer .unit ≡ 0 → ⊥) → HeldRoom e (length send) unit
 unfolding closeDecision
 close-goes e f confirm send unit x =
-    close-made (eqb (closeRefusal e f confirm (length send) unit) 0) (nothingGoes e f confirm) e f confirm send unit refl x
+    close-made (eqb (closeRefusal e f confirm (length send) unit) 0) (nothingGoes e (closing e f) confirm) e f confirm send unit refl x

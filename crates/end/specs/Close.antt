@@ -1,5 +1,6 @@
 -- Flush, confirm, turn and end, in Send: one last unit with the held bytes, perhaps none, CD for turn, CEB for end. Flush says nothing to follow and
--- requests no confirmation; with no byte held it makes no unit.
+-- requests no confirmation; with no byte held it makes no unit. In Defer flush and confirm carry out the turn or end that is prepared, as that call would,
+-- without and with confirmation.
 -- Assumes nothing.
 use Prim.Native.Nat.{ℕ}
 use mathlib.Core.Bool.{Bool, true, false, not, cond, _&&_, _||_}
@@ -12,8 +13,8 @@ use Rattle.header.specs.declared.Follows.{Follows}
 use Rattle.header.specs.declared.Follows.the-variants.{Stay, ChangeDirection, EndBracket}
 use Rattle.header.specs.declared.ChainEnd.the-variants.{Last}
 use Rattle.pacing.specs.Pacing.{hasCredit}
-use Rattle.control.specs.Questions.{maySend}
-use Rattle.transitions.specs.Transitions.{closed}
+use Rattle.control.specs.Questions.{mayClose}
+use Rattle.transitions.specs.Transitions.{carriedOut, closed}
 use Rattle.answers.specs.FirstNo.{firstNo}
 use Rattle.answers.specs.Answers.{BAD-BUFFER, BAD-RECORD, WRONG-STATE, UNFINISHED-RECORD, NO-CREDIT}
 use Rattle.unit.specs.Sequence.{nextNumber}
@@ -28,13 +29,17 @@ use Rattle.end.specs.declared.End.{End}
 abbrev pub nothingGoes : End → Follows → Bool → Bool
 nothingGoes e f confirm = not (marks (Last f confirm)) && eqb (e .sending .held) 0
 
+-- what the last unit says to follow
+abbrev pub closing : End → Follows → Follows
+closing e f = carriedOut f (e .control)
+
 abbrev pub closeQuestions : End → Follows → Bool → ℕ → ℕ → List (Bool × ℕ)
 closeQuestions e f confirm send unit =
     (sendLent e send && unitLent e unit, BAD-BUFFER)
     ∷ (recordGood e, BAD-RECORD)
-    ∷ (maySend (e .control), WRONG-STATE)
-    ∷ (not (marks (Last f confirm)) || isWhole (e .sending .given), UNFINISHED-RECORD)
-    ∷ (nothingGoes e f confirm || hasCredit (e .sending .window), NO-CREDIT)
+    ∷ (mayClose f (e .control), WRONG-STATE)
+    ∷ (not (marks (Last (closing e f) confirm)) || isWhole (e .sending .given), UNFINISHED-RECORD)
+    ∷ (nothingGoes e (closing e f) confirm || hasCredit (e .sending .window), NO-CREDIT)
     ∷ []
 
 unfoldable pub closeRefusal : End → Follows → Bool → ℕ → ℕ → ℕ
@@ -48,7 +53,8 @@ lastMade e f confirm send =
 
 unfoldable pub closeDecision : End → Follows → Bool → List ℕ → ℕ → Decision
 closeDecision e f confirm send unit =
-    decided (closeRefusal e f confirm (length send) unit) e (cond (nothingGoes e f confirm) (accept e nothing) (lastMade e f confirm send))
+    decided (closeRefusal e f confirm (length send) unit) e
+    (cond (nothingGoes e (closing e f) confirm) (accept e nothing) (lastMade e (closing e f) confirm send))
 
 unfoldable pub close : Follows → Bool → End → List ℕ → List ℕ → Made
 close f confirm e send unit = made (closeDecision e f confirm send (length unit)) unit

@@ -4,6 +4,7 @@ pub mod Outcome
 pub mod Allocate
 pub mod SendData
 pub mod Close
+pub mod Defer
 pub mod Confirmed
 pub mod ReceiveUnit
 pub mod Receive

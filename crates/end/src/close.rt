@@ -1,5 +1,6 @@
 // The calls that send the last unit of a chain: flush, confirm, prepare to receive (document 01: turn) and deallocate (end).
-// They differ only in what that unit says to follow, and whether it asks for a confirmation.
+// They differ only in what that unit says to follow, and whether it asks for a confirmation. In Defer flush and confirm carry out
+// the turn or end that is prepared.
 use crate::Done;
 use crate::End;
 use crate::results::accepted;
@@ -16,6 +17,7 @@ use sending::bytes_given::send_held;
 use sending::outgoing::given_whole;
 use sending::outgoing::nothing_goes;
 use sending::outgoing::request_sent;
+use transitions::carried_out;
 use transitions::closed;
 use unit::RU_START;
 use unit::ru::marks;
@@ -32,10 +34,13 @@ impl End {
     fn close_refusal(self, follows: Follows, confirm: bool, send: usize, unit: usize) -> u8
         ensures { λ r. ⌜ r ≡ closeRefusal self follows confirm send unit ⌝ }
     {
-        let ends = ChainEnd::Last { follows, confirm };
+        let ends = ChainEnd::Last {
+            follows: carried_out(self.control, follows),
+            confirm,
+        };
         let q = then_ask(0, self.send_lent(send) & self.unit_lent(unit), BAD_BUFFER);
         let q = then_ask(q, self.record_good(), BAD_RECORD);
-        let q = then_ask(q, self.control.may_send(), WRONG_STATE);
+        let q = then_ask(q, self.control.may_close(follows), WRONG_STATE);
         let q = then_ask(
             q,
             !marks(ends) | given_whole(self.sending),
@@ -67,6 +72,7 @@ impl End {
         if q != 0 {
             return refused(q, self);
         }
+        let follows = carried_out(self.control, follows);
         if nothing_goes(self.sending.held, ChainEnd::Last { follows, confirm }) {
             return accepted(0, self);
         }
@@ -81,6 +87,7 @@ impl End {
         if done.answer.unit == 0 {
             return done;
         }
+        let follows = carried_out(self.control, follows);
         let header = self.data_header(ChainEnd::Last { follows, confirm });
         send_held(
             done.end.sending.number,
@@ -92,14 +99,14 @@ impl End {
         done
     }
 
-    // Sends the bytes held, if there are any.
+    // Sends the bytes held, if there are any; in Defer carries out what is prepared, without confirmation.
     pub fn flush(self, send: &[u8], unit: &mut [u8]) -> Done
         ensures { λ r. ⌜ madeBy r (now (unit .exit)) ≡ flush self (now (send .entry)) (now (unit .entry)) ⌝ }
     {
         self.close(Follows::Stay, false, send, unit)
     }
 
-    // Sends the bytes held and asks for a confirmation.
+    // Sends the bytes held and asks for a confirmation; in Defer carries out what is prepared, with it.
     pub fn confirm(self, send: &[u8], unit: &mut [u8]) -> Done
         ensures { λ r. ⌜ madeBy r (now (unit .exit)) ≡ confirm self (now (send .entry)) (now (unit .entry)) ⌝ }
     {

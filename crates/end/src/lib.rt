@@ -2,6 +2,7 @@
 mod allocate;
 mod close;
 mod confirmed;
+mod defer;
 mod receive;
 mod receive_unit;
 mod record;

@@ -1,4 +1,5 @@
-// The ten calls on a lent record: each calls the method and stores the new record where the old one stood.
+// Document 01's ten calls on a lent record: each calls the method and stores the new record where the old one stood. Defer and
+// withdraw, which are lent no buffer, have none here.
 use end::Answer;
 use end::End;
 use end::ReadAnswer;

@@ -17,7 +17,7 @@ use Rattle.control.specs.StateTests.{roleNumber, stateNumber, markNumber}
 use Rattle.control.specs.declared.Role.{Role}
 use Rattle.control.specs.declared.Role.the-variants.{FirstSpeaker, Bidder}
 use Rattle.control.specs.declared.State.{State}
-use Rattle.control.specs.declared.State.the-variants.{Reset, Send, Receive, ConfirmOwed, ConfirmAwaited}
+use Rattle.control.specs.declared.State.the-variants.{Reset, Send, Receive, ConfirmOwed, ConfirmAwaited, DeferTurn, DeferEnd}
 use Rattle.control.specs.declared.WhatReceived.{WhatReceived}
 use Rattle.control.specs.declared.WhatReceived.the-variants as mark
 use Rattle.control.specs.StateTests.{roleOf}
@@ -39,6 +39,8 @@ state-back Send = refl
 state-back Receive = refl
 state-back ConfirmOwed = refl
 state-back ConfirmAwaited = refl
+state-back DeferTurn = refl
+state-back DeferEnd = refl
 
 pub follows-back : (f : Follows) → followsOf (followsNumber f) ≡ f
 follows-back Stay = refl
@@ -73,12 +75,14 @@ pub role-good : (r : Role) → leb (roleNumber r) 1 ≡ true
 role-good FirstSpeaker = refl
 role-good Bidder = refl
 
-pub state-good : (s : State) → leb (stateNumber s) 4 ≡ true
+pub state-good : (s : State) → leb (stateNumber s) 6 ≡ true
 state-good Reset = refl
 state-good Send = refl
 state-good Receive = refl
 state-good ConfirmOwed = refl
 state-good ConfirmAwaited = refl
+state-good DeferTurn = refl
+state-good DeferEnd = refl
 
 pub follows-good : (f : Follows) → leb (followsNumber f) 2 ≡ true
 follows-good Stay = refl
@@ -111,13 +115,15 @@ role-there zero h = refl
 role-there (suc zero) h = refl
 role-there (suc (suc n)) h = past (suc (suc n)) 1 h (omega arith)
 
-pub state-there : (n : ℕ) → leb n 4 ≡ true → stateNumber (stateOf n) ≡ n
+pub state-there : (n : ℕ) → leb n 6 ≡ true → stateNumber (stateOf n) ≡ n
 state-there zero h = refl
 state-there (suc zero) h = refl
 state-there (suc (suc zero)) h = refl
 state-there (suc (suc (suc zero))) h = refl
 state-there (suc (suc (suc (suc zero)))) h = refl
-state-there (suc (suc (suc (suc (suc n))))) h = past (suc (suc (suc (suc (suc n))))) 4 h (omega arith)
+state-there (suc (suc (suc (suc (suc zero))))) h = refl
+state-there (suc (suc (suc (suc (suc (suc zero)))))) h = refl
+state-there (suc (suc (suc (suc (suc (suc (suc n))))))) h = past (suc (suc (suc (suc (suc (suc (suc n))))))) 6 h (omega arith)
 
 pub follows-there : (n : ℕ) → leb n 2 ≡ true → followsNumber (followsOf n) ≡ n
 follows-there zero h = refl

@@ -91,7 +91,7 @@ module _ (image : List ℕ) (bytes : (i : ℕ) → byteAt image i < 256) where
   controls : formatGood image ≡ true → codesGood image ≡ true → flagsGood image ≡ true → FORMAT ∷ controlBytes (controlIn image) ≡ listed image 0 9
   controls g h f =
       let b = byteAt image in
-      let t = each (leb (b 1) 1 ∷ leb (b 2) 4 ∷ leb (b 3) 2 ∷ leb (b 4) 5 ∷ []) h in
+      let t = each (leb (b 1) 1 ∷ leb (b 2) 6 ∷ leb (b 3) 2 ∷ leb (b 4) 5 ∷ []) h in
       let l = each (flagGood image 5 ∷ flagGood image 6 ∷ flagGood image 7 ∷ flagGood image 8 ∷ flagGood image 11 ∷ flagGood image 23 ∷ []) f in
       rw (
         eqb-true (b 0) FORMAT g,

@@ -6,14 +6,16 @@ use lib.Dec.{eqb}
 use Rattle.header.specs.declared.Follows.{Follows}
 use Rattle.header.specs.declared.Follows.the-variants.{Stay, ChangeDirection, EndBracket}
 use Rattle.control.specs.declared.State.{State}
-use Rattle.control.specs.declared.State.the-variants.{Reset, Send, Receive, ConfirmOwed, ConfirmAwaited}
+use Rattle.control.specs.declared.State.the-variants.{Reset, Send, Receive, ConfirmOwed, ConfirmAwaited, DeferTurn, DeferEnd}
 use Rattle.control.specs.declared.WhatReceived.{WhatReceived}
 use Rattle.control.specs.declared.WhatReceived.the-variants as mark
 
--- in the paper's order, from 0: Reset, Send, Receive, Owes, Waits
+-- in the papers' order, from 0: Reset, Send, Receive, Owes, Waits, Defer-turn, Defer-end
 abbrev pub stateOf : ℕ → State
 stateOf n =
-    cond (eqb n 0) Reset (cond (eqb n 1) Send (cond (eqb n 2) Receive (cond (eqb n 3) ConfirmOwed ConfirmAwaited)))
+    cond (eqb n 0) Reset
+    (cond (eqb n 1) Send
+    (cond (eqb n 2) Receive (cond (eqb n 3) ConfirmOwed (cond (eqb n 4) ConfirmAwaited (cond (eqb n 5) DeferTurn DeferEnd)))))
 
 -- in the paper's order, from 0: stay, turn, end
 abbrev pub followsNumber : Follows → ℕ

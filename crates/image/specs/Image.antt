@@ -21,7 +21,8 @@ use Rattle.image.specs.declared.ImageRead.the-variants.{Record, Refused}
 abbrev pub IMAGE : ℕ
 IMAGE = 42
 
--- an image's first byte, raised with each change of what an image holds; images without it began with the role, 0 or 1
+-- an image's first byte, raised with each change by which an image would be read as another record; a code more does not raise it. Images without it
+-- began with the role, 0 or 1
 abbrev pub FORMAT : ℕ
 FORMAT = 3
 
@@ -106,7 +107,7 @@ abbrev pub formatGood : List ℕ → Bool
 formatGood image = eqb (byteAt image 0) FORMAT
 
 abbrev pub codesGood : List ℕ → Bool
-codesGood image = leb (byteAt image 1) 1 && (leb (byteAt image 2) 4 && (leb (byteAt image 3) 2 && leb (byteAt image 4) 5))
+codesGood image = leb (byteAt image 1) 1 && (leb (byteAt image 2) 6 && (leb (byteAt image 3) 2 && leb (byteAt image 4) 5))
 
 abbrev pub flagsGood : List ℕ → Bool
 flagsGood image =

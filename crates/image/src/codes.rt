@@ -34,6 +34,8 @@ pub fn state_code(state: State) -> u8
         State::Receive => 2,
         State::ConfirmOwed => 3,
         State::ConfirmAwaited => 4,
+        State::DeferTurn => 5,
+        State::DeferEnd => 6,
     }
 }
 
@@ -52,7 +54,13 @@ pub fn state_of(code: u8) -> State
     if code == 3 {
         return State::ConfirmOwed;
     }
-    State::ConfirmAwaited
+    if code == 4 {
+        return State::ConfirmAwaited;
+    }
+    if code == 5 {
+        return State::DeferTurn;
+    }
+    State::DeferEnd
 }
 
 pub fn follows_code(follows: Follows) -> u8

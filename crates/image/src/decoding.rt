@@ -34,7 +34,7 @@ fn codes_good(image: &[u8]) -> bool
     requires { ⌜ length (now image) ≡ IMAGE ⌝ }
     ensures { λ r. ⌜ r ≡ codesGood (now (image .entry)) ⌝ }
 {
-    (image[1] <= 1) & ((image[2] <= 4) & ((image[3] <= 2) & (image[4] <= 5)))
+    (image[1] <= 1) & ((image[2] <= 6) & ((image[3] <= 2) & (image[4] <= 5)))
 }
 
 fn flags_good(image: &[u8]) -> bool

@@ -5,7 +5,7 @@
 // |----------|---------------------------------------------------------------------------------|
 // | 0        | the format, 3                                                                   |
 // | 1        | role: 0 first speaker, 1 bidder                                                 |
-// | 2        | state: 0 Reset, 1 Send, 2 Receive, 3 Owes, 4 Waits                              |
+// | 2        | state: 0 Reset, 1 Send, 2 Receive, 3 Owes, 4 Waits, 5 Defer-turn, 6 Defer-end   |
 // | 3        | what follows a confirmation: 0 stay, 1 turn, 2 end                              |
 // | 4        | mark: 0 none, 1 turn, 2 end, 3 confirm, 4 confirm-turn, 5 confirm-end           |
 // | 5        | flag BB-due                                                                     |
@@ -43,8 +43,9 @@ pub mod theorems;
 // The length of an image.
 pub const IMAGE: usize = 42;
 
-// An image's first byte, raised with each change of what an image holds, so that one kept by an older library is refused and not
-// misread. Images without it began with the role, 0 or 1.
+// An image's first byte, raised with each change by which an image would be read as another record, so that one kept by an older
+// library is refused and not misread. The two states of Defer did not raise it: every image that was good is read as it was, and an
+// older library refuses a state above 4. Images without it began with the role, 0 or 1.
 pub const FORMAT: u8 = 3;
 
 // What an image holds: a record, or a refusal number: 4 where the length is wrong, 5 where the format is another or a value is one

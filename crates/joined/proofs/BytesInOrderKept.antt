@@ -2,7 +2,8 @@
 -- Assumes nothing.
 use Rattle.joined.proofs.JoinedWords.{ℕ, _-_, eqb, length, take, drop, length-drop, Bool, false, cond, List, [], _∷_, _++_, append-nil, _≡_, refl, sym}
 use Rattle.joined.proofs.JoinedWords.{ap, arith, front, Continues, Last, DataHeader, Follows, Header, fixedRu, bidRu, unitOf, numberIn, paced, bidAnswer}
-use Rattle.joined.proofs.JoinedWords.{beginOf, readRefused, requestReceived, requestMade, nextNumber, bidMade, lastMade, bytesRead, headerReceived}
+use Rattle.joined.proofs.JoinedWords.{beginOf, readRefused, requestReceived, requestMade, nextNumber, bidMade, lastMade, closing, defer-cases}
+use Rattle.joined.proofs.JoinedWords.{withdraw-cases, bytesRead, headerReceived}
 use Rattle.joined.proofs.JoinedWords.{ruReceived, dataJoined, bidAnswered, creditRaised, dataHeader, heldBytes, bytesKept, bytesSpilled, gone, facts}
 use Rattle.joined.proofs.JoinedWords.{Station, Reply, Verb, allocate-cases, bidNumber, close-cases, confirmed-cases, pacing-response-cases, read-cases}
 use Rattle.joined.proofs.JoinedWords.{send-cases, spilledRu, take-cases, ReadAsked, SendAsked, readCount, spilledUnit, Sort, sortOf, answer-sort, dataOf}
@@ -75,7 +76,9 @@ module _ (s : Station) (xs : Log) (line : List (List ℕ)) (read inbox : List �
       (λ a k h. spill bytes a)
   bytes-acts (Verb.close f b) =
       close-cases (Laned (After (Verb.close f b))) s f b (λ q n. refuses (Verb.close f b) q [] n) (λ a n. quiet c)
-      (λ a n k. rw (append-nil (bytesAccepted xs)) (last f b))
+      (λ a n k. rw (append-nil (bytesAccepted xs)) (last (closing (s .end) f) b))
+  bytes-acts (Verb.defer d) = defer-cases (Laned (After (Verb.defer d))) s d (λ q n. refuses (Verb.defer d) q [] n) (λ a. quiet c)
+  bytes-acts Verb.withdraw = withdraw-cases (Laned (After Verb.withdraw)) s (λ q n. refuses Verb.withdraw q [] n) (λ g a. quiet c)
   bytes-acts (Verb.receive buffer) =
       read-cases (Laned (After (Verb.receive buffer))) s buffer (λ q w n. refuses (Verb.receive buffer) q buffer n) (λ a h. quiet c) (λ a h m. quiet c)
 
@@ -116,6 +119,8 @@ module _ (s : Station) (xs : Log) (acc held : List ℕ) (back : List (List ℕ))
     bytes-in-acts Verb.sendPacingResponse = pacing-response-cases (Laned (AfterIn Verb.sendPacingResponse)) s (λ q n. quiet-in) (λ g a. quiet-in)
     bytes-in-acts (Verb.sendData bytes) = send-cases (Laned (AfterIn (Verb.sendData bytes))) s bytes (λ q n. quiet-in) (λ a k. quiet-in) (λ a k h. quiet-in)
     bytes-in-acts (Verb.close f b) = close-cases (Laned (AfterIn (Verb.close f b))) s f b (λ q n. quiet-in) (λ a n. quiet-in) (λ a n k. quiet-in)
+    bytes-in-acts (Verb.defer d) = defer-cases (Laned (AfterIn (Verb.defer d))) s d (λ q n. quiet-in) (λ a. quiet-in)
+    bytes-in-acts Verb.withdraw = withdraw-cases (Laned (AfterIn Verb.withdraw)) s (λ q n. quiet-in) (λ g a. quiet-in)
     bytes-in-acts (Verb.receive buffer) =
         read-cases (Laned (AfterIn (Verb.receive buffer))) s buffer (λ q w n. quiet-in) (λ a h. read-in buffer a) (λ a h m. quiet-in)
 

@@ -2,9 +2,10 @@
 -- Assumes nothing.
 use Rattle.joined.proofs.JoinedWords.{ℕ, length, List, [], _∷_, _++_, _≡_, refl, sym, ap, _∙_, subst, arith, thenWalk, credit, Role, FirstSpeaker}
 use Prim.Native.Nat.{_+_, _*_}
-use Rattle.joined.proofs.JoinedWords.{Bidder, send-is, Session, freshEnd, Station, Reply, Verb, opened-is, Pair, Lane, normal, acts, takes, sameLane}
+use Rattle.joined.proofs.JoinedWords.{Bidder, Session, freshEnd, Station, Reply, Verb, opened-is, Pair, Lane, normal, acts, takes, sameLane}
 use Rattle.joined.proofs.JoinedWords.{Buffers, OpeningAccepted, openedWith, openedBoth, bytesInSendBuffer, Log, bytesAccepted, bytesOnLine}
-use Rattle.joined.proofs.JoinedWords.{bytesInInbox, requestsMade, pacingResponsesTaken, breaches, badReads, CompleteIsRight, MoreIsRight, NoneCrosses, At, Lines}
+use Rattle.joined.proofs.JoinedWords.{bytesInInbox, requestsMade, pacingResponsesTaken, breaches, badReads, CompleteIsRight, MoreIsRight, NoneCrosses}
+use Rattle.joined.proofs.JoinedWords.{At, Lines}
 use Rattle.logical_record.specs.Records.{wholeRecords, tablesFrom}
 use Rattle.logical_record.proofs.WholeRecords.{whole-records-append}
 use Rattle.logical_record.proofs.WholeTables.{tables-append}
@@ -229,7 +230,7 @@ joint-of : (s t : Session) (p : Pair)
     → Joint s t p
 joint-of s t p i =
     record {
-      not-both = λ x y. not-both (i .order) (send-is (p .one .end .end .control .state) x) (send-is (p .two .end .end .control .state) y);
+      not-both = λ x y. not-both (i .order) x y;
       no-breach-one = i .here .local .no-breach;
       no-breach-two = i .there .local .no-breach;
       bytes-out = i .out .carried .bytes;

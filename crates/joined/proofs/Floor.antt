@@ -2,11 +2,12 @@
 -- Assumes nothing.
 use Rattle.joined.proofs.JoinedWords.{ℕ, eq-eqb, eqb, Bool, true, false, not, cond, _&&_, _||_, List, _≡_, refl, sym, arith, never, beginsBracket}
 use Rattle.joined.proofs.JoinedWords.{Continued, First, FirstWithBracket, ChainEnd, Continues, Last, Follows, Stay, ChangeDirection, EndBracket, Header}
-use Rattle.joined.proofs.JoinedWords.{isFirstSpeaker, isBidder, isReset, isReceive, isConfirmAwaited, isNothing, Role, FirstSpeaker, Bidder, State}
+use Rattle.joined.proofs.JoinedWords.{isFirstSpeaker, isBidder, isReset, isReceive, isConfirmAwaited, isNothing, holdsSend, Role, FirstSpeaker, Bidder}
+use Rattle.joined.proofs.JoinedWords.{State}
 use Rattle.joined.proofs.JoinedWords.{WhatReceived, afterLast, afterOwed, markOf, End}
 use Rattle.header.specs.Header.{confirms}
 use Rattle.header.specs.declared.Header.the-variants.{Data, Bid, PositiveBidResponse, NegativeBidResponse, Confirmation, PacingResponse}
-use Rattle.control.specs.declared.State.the-variants.{Reset, Send, Receive, ConfirmOwed, ConfirmAwaited}
+use Rattle.control.specs.declared.State.the-variants.{Reset, Send, Receive, ConfirmOwed, ConfirmAwaited, DeferTurn, DeferEnd}
 use Rattle.control.specs.declared.WhatReceived.the-variants as mark
 use Rattle.joined.proofs.LineAutomaton.{Ran, ok, stuck, ok-is, went}
 use Rattle.control.proofs.States.{nothing-is}
@@ -36,6 +37,8 @@ floorAt Send due f m owed sent = cond due sendBB send
 floorAt Receive due f m owed sent = afterMarkFloor m owed
 floorAt ConfirmOwed due f m owed sent = confirmOwed f owed
 floorAt ConfirmAwaited due f m owed sent = confirmAwaited f sent
+floorAt DeferTurn due f m owed sent = cond due sendBB send
+floorAt DeferEnd due f m owed sent = cond due sendBB send
 
 abbrev pub floorOf : End → Floor
 floorOf e = floorAt (e .control .state) (e .control .due) (e .control .follows) (e .control .mark) (e .owed) (e .sending .number)
@@ -302,8 +305,24 @@ unmarked-floor Send false f m owed sent n u = (refl, refl, refl)
 unmarked-floor Receive due f m owed sent n u = rw (nothing-is m u) (refl, refl, refl)
 unmarked-floor ConfirmOwed due f m owed sent n u = (refl, refl, refl)
 unmarked-floor ConfirmAwaited due f m owed sent n u = (refl, refl, refl)
+unmarked-floor DeferTurn true f m owed sent n u = (refl, refl, refl)
+unmarked-floor DeferTurn false f m owed sent n u = (refl, refl, refl)
+unmarked-floor DeferEnd true f m owed sent n u = (refl, refl, refl)
+unmarked-floor DeferEnd false f m owed sent n u = (refl, refl, refl)
 
--- ---- never both in Send
+-- ---- an end that holds send state stands where one in Send does; what it has prepared, nobody else knows
+
+pub holding-floor :
+    (s : State) (due : Bool) (f : Follows) (m : WhatReceived) (owed sent : ℕ) → holdsSend s ≡ true → floorAt s due f m owed sent ≡ cond due sendBB send
+holding-floor Reset due f m owed sent e = never e
+holding-floor Send due f m owed sent e = refl
+holding-floor Receive due f m owed sent e = never e
+holding-floor ConfirmOwed due f m owed sent e = never e
+holding-floor ConfirmAwaited due f m owed sent e = never e
+holding-floor DeferTurn due f m owed sent e = refl
+holding-floor DeferEnd due f m owed sent e = refl
+
+-- ---- never both in send state
 
 pub not-both-send : (r : Role) (due due′ : Bool) → Partners r (cond due sendBB send) (cond due′ sendBB send) → ⊥
 not-both-send FirstSpeaker true true p = let z : _≡_ {A = ℕ} 0 1 = cc in omega arith

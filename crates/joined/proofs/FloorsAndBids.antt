@@ -1,16 +1,17 @@
 -- The order of a conversation at two joined ends: floors and bids fit, whatever is still under way.
 -- Assumes nothing.
 use Rattle.joined.proofs.JoinedWords.{ℕ, eqb, Bool, true, cond, _&&_, List, [], _∷_, _≡_, refl, sym, ap, _∙_, subst, on, left, beginsBracket, DataHeader}
-use Rattle.joined.proofs.JoinedWords.{Header, numberIn, confirmationFits, isBidder, isReset, isReceive, isConfirmAwaited, isNothing, Role, FirstSpeaker}
+use Rattle.joined.proofs.JoinedWords.{Header, numberIn, confirmationFits, isBidder, isReset, isReceive, isConfirmAwaited, isNothing, holdsSend, Role}
+use Rattle.joined.proofs.JoinedWords.{FirstSpeaker}
 use Rattle.joined.proofs.JoinedWords.{Bidder, State, markOf, headerReceived, End, freshEnd}
 use Rattle.header.specs.declared.Header.the-variants.{Data, Bid, PositiveBidResponse, NegativeBidResponse, Confirmation}
 use Rattle.control.specs.Questions.{bracketFits, bidFits, stateFits, positiveResponseFits, negativeResponseFits}
-use Rattle.control.specs.declared.State.the-variants.{Send}
 use Rattle.joined.proofs.LineAutomaton.{ok, stuck}
 use Rattle.control.proofs.DataFits.{data-fits}
 use Rattle.joined.proofs.TwoLines.{other, other-other, led-nowhere, led-flip, led-as, led-goes, led-settled}
 use Rattle.joined.proofs.Floor.{Floor, sendBB, send, afterMarkFloor, floorAt, floorOf, isResetFloor, awaitsConfirmation, dataMoves}
 use Rattle.joined.proofs.Floor.{positiveResponseMoves, confirmedFloor, Floors, quiet-sending, not-both-send, isReceiveFloor, unmarked-floor}
+use Rattle.joined.proofs.Floor.{holding-floor}
 use Rattle.joined.proofs.Bids.{Pending, none, some, bidOf, bidMoves, answerMoves, bidOn, Bids, bid-speaker, answer-flag}
 
 -- Two joined ends: e has the role r and f the other one, `line` waits for f and `back` for e.
@@ -36,6 +37,12 @@ order-fresh w m w′ m′ inbox v k v′ k′ inbox′ =
 pub floor-in : (e : End) (s : State) → e .control .state ≡ s
     → floorOf e ≡ floorAt s (e .control .due) (e .control .follows) (e .control .mark) (e .owed) (e .sending .number)
 floor-in e s p = ap (λ (k : State). floorAt k (e .control .due) (e .control .follows) (e .control .mark) (e .owed) (e .sending .number)) p
+
+-- the floor of an end that holds send state
+pub floor-holding : (e : End) → holdsSend (e .control .state) ≡ true → floorOf e ≡ cond (e .control .due) sendBB send
+floor-holding e h =
+    let c = e .control in
+    holding-floor (c .state) (c .due) (c .follows) (c .mark) (e .owed) (e .sending .number) h
 
 -- ---- what the first unit tells of the end that it waits for, and what is left of floor and bid once it is taken
 
@@ -105,13 +112,14 @@ module _ {r : Role} {e f : End} {u : List ℕ} {line back : List (List ℕ)} (i 
       isNothing (e .control .mark) ≡ true → headerReceived u ≡ Confirmation → confirmationFits (e .control) && eqb (numberIn u) (e .sending .number) ≡ true
   order-fits-confirmation m h = sym (unmarked m .2) ∙ confirmation-moves h .0
 
--- ---- never both in Send
+-- ---- never both in send state
 
 pub not-both :
-    {r : Role} {e f : End} {line back : List (List ℕ)} → Order r e f line back → e .control .state ≡ Send → f .control .state ≡ Send → ⊥
+    {r : Role} {e f : End} {line back : List (List ℕ)} → Order r e f line back
+    → holdsSend (e .control .state) ≡ true → holdsSend (f .control .state) ≡ true → ⊥
 not-both {r} {e} {f} {line} {back} i p q =
     let x : Floor = cond (e .control .due) sendBB send in
     let y : Floor = cond (f .control .due) sendBB send in
-    let w : Floors r x y line back = subst (λ (v : Floor). Floors r x v line back) (floor-in f Send q) (led-as (floor-in e Send p) (i .floors)) in
+    let w : Floors r x y line back = subst (λ (v : Floor). Floors r x v line back) (floor-holding f q) (led-as (floor-holding e p) (i .floors)) in
     not-both-send r (e .control .due) (f .control .due)
     (led-settled (quiet-sending r (e .control .due)) (quiet-sending (other r) (f .control .due)) w)

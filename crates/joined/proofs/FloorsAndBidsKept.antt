@@ -2,15 +2,16 @@
 -- Assumes nothing.
 use Rattle.joined.proofs.JoinedWords.{ℕ, eq-eqb, eqb, Bool, true, false, not, cond, List, [], _∷_, _++_, append-nil, _≡_, refl, sym, ap, _∙_, never, on}
 use Rattle.joined.proofs.JoinedWords.{left, or-right, beginsBracket, ChainEnd, Continues, Last, Follows, Header, fixedRu, bidRu, unitOf, numberIn, paced}
-use Rattle.joined.proofs.JoinedWords.{confirmationFits, isFirstSpeaker, isBidder, isReset, isReceive, isNothing, isSend, Control, Role, FirstSpeaker}
-use Rattle.joined.proofs.JoinedWords.{Bidder, WhatReceived, send-is, afterLast, afterOwed, markOf, beginOf, closed, spilled, confirmationMade}
+use Rattle.joined.proofs.JoinedWords.{confirmationFits, isFirstSpeaker, isBidder, isReset, isReceive, isNothing, holdsSend, Control, Role, FirstSpeaker}
+use Rattle.joined.proofs.JoinedWords.{Bidder, WhatReceived, send-is, sending-holds, closing, deferred, withdrawn, defer-cases, withdraw-cases}
+use Rattle.joined.proofs.JoinedWords.{afterLast, afterOwed, markOf, beginOf, closed, spilled, confirmationMade}
 use Rattle.joined.proofs.JoinedWords.{dataReceived, requestReceived, requestMade, nextNumber, bidMade, lastMade, bytesRead, headerReceived, ruReceived}
 use Rattle.joined.proofs.JoinedWords.{dataJoined, bidAnswered, creditRaised, recordGood, dataHeader, heldBytes, bytesKept, bytesSpilled, End, facts}
 use Rattle.joined.proofs.JoinedWords.{Station, Reply, Verb, allocate-cases, bidNumber, close-cases, confirmed-cases, pacing-response-cases, read-cases}
 use Rattle.joined.proofs.JoinedWords.{send-cases, spilledRu, TakeAsked, Lane, normal, acts, takes, Acted, Took}
 use Rattle.unit.specs.Ru.{positiveRu, negativeRu}
 use Rattle.header.specs.declared.Header.the-variants.{Data, Bid, PositiveBidResponse, NegativeBidResponse, Confirmation, PacingResponse}
-use Rattle.control.specs.Questions.{mayAllocate, maySend}
+use Rattle.control.specs.Questions.{mayAllocate}
 use Rattle.control.specs.FieldChanged.{setState, setBid, setMark}
 use Rattle.transitions.specs.Transitions.{allocated, afterMark, markAnswered, bidReceived, positiveResponseReceived, negativeResponseReceived}
 use Rattle.transitions.specs.Transitions.{confirmationReceived}
@@ -20,7 +21,8 @@ use Rattle.end.specs.Outcome.{withControl, withSending, withReceiving, withBidd
 use Rattle.receiving.specs.declared.Receiving.{Receiving}
 use Rattle.joined.proofs.LineAutomaton.{ok, goes}
 use Rattle.bools.proofs.Tests.{right, not-true}
-use Rattle.control.proofs.States.{state-is, nothing-is, bidder-not-first}
+use Rattle.control.proofs.States.{state-is, nothing-is, bidder-not-first, holding-not-receive, in-defer}
+use Rattle.transitions.proofs.KeptWithin.{deferred-defers}
 use Rattle.control.proofs.Within.{due-outside-send, due-at-bidder, unmarked-outside-receive}
 use Rattle.joined.proofs.TwoLines.{other, led-as, led-past, led-took, led-moved, led-still}
 use Rattle.joined.proofs.Floor.{Floor, reset, sendBB, send, receive, afterMarkFloor, floorAt, floorOf, isResetFloor, dataMoves, afterAwaitedFloor}
@@ -29,7 +31,7 @@ use Rattle.joined.proofs.Floor.{confirmed-floor, last-floor, mark-floor
 use Rattle.joined.proofs.Bids.{Pending, none, some, bidAt, bidOf, bidMoves, bidOn, Bids, bids-moved, bid-speaker, bid-off}
 use Rattle.calls.proofs.CallCases.{kind-cases, tookKind}
 use Rattle.joined.proofs.CallsOnLanes.{Laned, LanedTake}
-use Rattle.joined.proofs.FloorsAndBids.{Order, floor-in, data-moves, bid-moves, positive-response-moves, bid-answered, confirmation-moves}
+use Rattle.joined.proofs.FloorsAndBids.{Order, floor-in, floor-holding, data-moves, bid-moves, positive-response-moves, bid-answered, confirmation-moves}
 use Rattle.joined.proofs.FloorsAndBids.{order-fits-confirmation}
 
 -- an end after a call, its role and its partner as they were
@@ -91,7 +93,7 @@ module _ (r : Role) (s : Station) (f : End) (line back : List (List ℕ)) (i : O
   After m = Order r (m .end .end) f (line ++ m .sent normal) back
 
   -- data is made, by an end that then stands where the unit leaves it
-  sent : (e′ : End) (ends : ChainEnd) (n : ℕ) (ru : List ℕ) → recordGood (s .end) ≡ true → maySend (s .end .control) ≡ true
+  sent : (e′ : End) (ends : ChainEnd) (n : ℕ) (ru : List ℕ) → recordGood (s .end) ≡ true → holdsSend (s .end .control .state) ≡ true
       → floorOf e′ ≡ sentFloor ends n → bidOf e′ ≡ bidOf (s .end) → e′ .control .role ≡ s .end .control .role
       → Order r e′ f (line ++ (unitOf n (dataHeader (s .end) ends) ru ∷ [])) back
   unfolding dataHeader
@@ -106,11 +108,11 @@ module _ (r : Role) (s : Station) (f : End) (line back : List (List ℕ)) (i : O
       (λ v w. (
         after,
         (
-          goes (dataMoves (other r) v (beginsBracket (beginOf c))) after (sent-moves r (c .due) (c .outchain) (isSend (c .state)) v due w),
+          goes (dataMoves (other r) v (beginsBracket (beginOf c))) after (sent-moves r (c .due) (c .outchain) (holdsSend (c .state)) v due w),
           sent-partners r ends n,
         ),
       ))
-      (led-as (floor-in e Send (send-is (c .state) m)) (i .floors))))
+      (led-as (floor-holding e m) (i .floors))))
       (led-as (sym q) (led-past n (dataHeader e ends) ru (λ v. refl) (i .bids))) i
 
   spoke : recordGood (s .end) ≡ true → mayAllocate (s .end .control) ≡ true → isFirstSpeaker (s .end .control .role) ≡ true
@@ -141,8 +143,15 @@ module _ (r : Role) (s : Station) (f : End) (line back : List (List ℕ)) (i : O
       (rw bidder (bid-bids r n (e .bidding) b bidRu (rw bidder at w) (led-as (rw (bidder, flag)) (i .bids)))) i in
       rw w h
 
+  -- send state is held before and after, and only the state changes: the floor is the same
+  held : (c : Control) → c .due ≡ s .end .control .due → c .role ≡ s .end .control .role → c .bid ≡ s .end .control .bid
+      → holdsSend (c .state) ≡ true → holdsSend (s .end .control .state) ≡ true → Order r (withControl c (s .end)) f line back
+  held c p q b h g =
+      let e = s .end in
+      order-same (floor-holding (withControl c e) h ∙ ap (λ (x : Bool). cond x sendBB send) p ∙ sym (floor-holding e g)) (same-bid e c q b) q i
+
   pub order-acts : (v : Verb) → After (acts s v)
-  unfolding acts bytesKept bytesSpilled spilled lastMade requestMade confirmationMade bytesRead markAnswered
+  unfolding acts bytesKept bytesSpilled spilled lastMade requestMade confirmationMade bytesRead markAnswered deferred withdrawn
   order-acts Verb.allocate =
       allocate-cases (Laned After) s (λ q n. rw append-nil i) (λ g a w. rw append-nil (spoke g a w)) (λ g a w k. bid a w)
   order-acts Verb.confirmed =
@@ -166,17 +175,27 @@ module _ (r : Role) (s : Station) (f : End) (line back : List (List ℕ)) (i : O
   order-acts (Verb.sendData bytes) =
       send-cases (Laned After) s bytes (λ q n. rw append-nil i) (λ a k. rw append-nil (order-same refl refl refl i))
       (λ a k h.
-      sent (bytesSpilled (s .end) bytes (s .send) .end) Continues (nextNumber (s .end .sending .number)) (spilledRu s bytes) (a .good) (a .sending)
+      sent (bytesSpilled (s .end) bytes (s .send) .end) Continues (nextNumber (s .end .sending .number)) (spilledRu s bytes) (a .good)
+      (sending-holds (s .end .control .state) (a .sending))
       (floor-in (bytesSpilled (s .end) bytes (s .send) .end) Send (send-is (s .end .control .state) (a .sending))) refl refl)
   order-acts (Verb.close x c) =
       close-cases (Laned After) s x c (λ q n. rw append-nil i) (λ a n. rw append-nil i)
       (λ a n k.
       let e = s .end in
+      let y = closing e x in
       let m = nextNumber (e .sending .number) in
-      let u = unmarked-outside-receive (e .control) (facts e (a .good) .control) (rw (send-is (e .control .state) (a .sending))) in
-      let q = last-control (e .control) x c (e .owed) m u in
-      sent (lastMade e x c (s .send) .end) (Last x c) m (heldBytes e (s .send)) (a .good) (a .sending) (q .0)
-      (same-bid e (closed x c (e .control)) (q .1) (q .2)) (q .1))
+      let u = unmarked-outside-receive (e .control) (facts e (a .good) .control) (holding-not-receive (e .control .state) (a .holding)) in
+      let q = last-control (e .control) y c (e .owed) m u in
+      sent (lastMade e y c (s .send) .end) (Last y c) m (heldBytes e (s .send)) (a .good) (a .holding) (q .0)
+      (same-bid e (closed y c (e .control)) (q .1) (q .2)) (q .1))
+  order-acts (Verb.defer d) =
+      defer-cases (Laned After) s d (λ q n. rw append-nil i)
+      (λ a.
+      let c = s .end .control in
+      rw append-nil (held (deferred d c) refl refl refl (in-defer (deferred d c .state) (deferred-defers d c) .holds) (sending-holds (c .state) (a .sending))))
+  order-acts Verb.withdraw =
+      withdraw-cases (Laned After) s (λ q n. rw append-nil i)
+      (λ g a. rw append-nil (held (withdrawn (s .end .control)) refl refl refl refl (in-defer (s .end .control .state) a .holds)))
   order-acts (Verb.receive buffer) =
       read-cases (Laned After) s buffer (λ q w n. rw append-nil i) (λ a h. rw append-nil (order-same refl refl refl i))
       (λ a h m.

@@ -26,12 +26,14 @@ pub use Rattle.unit.proofs.{UnitLaws.unit-number}
 pub use Rattle.pacing.specs.{Pacing.hasCredit, Pacing.paced}
 unfoldable pub use Rattle.pacing.specs.{Pacing.advanced, Pacing.answered, Pacing.credit}
 pub use Rattle.control.specs.{Questions.confirmationFits, StateTests.agree, StateTests.isFirstSpeaker, StateTests.isBidder, StateTests.isReset}
-pub use Rattle.control.specs.{StateTests.isReceive, StateTests.isConfirmAwaited, StateTests.isNothing, StateTests.isSend, declared.Control.Control}
+pub use Rattle.control.specs.{StateTests.isReceive, StateTests.isConfirmAwaited, StateTests.isNothing, StateTests.isSend, StateTests.holdsSend}
+pub use Rattle.control.specs.{declared.Control.Control}
 pub use Rattle.control.specs.{declared.Role.Role, declared.Role.the-variants.FirstSpeaker, declared.Role.the-variants.Bidder, declared.State.State}
 pub use Rattle.control.specs.{declared.WhatReceived.WhatReceived}
-pub use Rattle.control.proofs.{States.send-is}
+pub use Rattle.control.proofs.{States.send-is, States.sending-holds}
 pub use Rattle.transitions.specs.{Transitions.bidAnswer, Transitions.afterLast, Transitions.afterOwed, Transitions.markOf, Transitions.beginOf}
 unfoldable pub use Rattle.transitions.specs.{Transitions.closed, Transitions.spilled, Transitions.confirmationMade, Transitions.dataReceived}
+unfoldable pub use Rattle.transitions.specs.{Transitions.deferred, Transitions.withdrawn}
 pub use Rattle.answers.specs.{Answers.readRefused, Answers.accepted}
 unfoldable pub use Rattle.receiving.specs.{Receiving.requestReceived}
 pub use Rattle.receiving.specs.{BytesRead.restBytes}
@@ -40,12 +42,14 @@ pub use Rattle.session.specs.{declared.Session.Session, Opening.freshEnd}
 unfoldable pub use Rattle.end.specs.{Allocate.bidMade, Close.lastMade, Receive.bytesRead, Receive.copyCount, ReceiveUnit.dataJoined}
 unfoldable pub use Rattle.end.specs.{ReceiveUnit.bidAnswered, ReceiveUnit.creditRaised, ReceiveUnit.receiveUnitRefusal, Requests.dataHeader}
 unfoldable pub use Rattle.end.specs.{SendData.bytesKept, SendData.bytesSpilled}
-pub use Rattle.end.specs.{Receive.recordRest, ReceiveUnit.headerReceived, ReceiveUnit.ruReceived, ReceiveUnit.ruleNamed, Record.recordGood, SendData.heldBytes}
+pub use Rattle.end.specs.{Close.closing, Receive.recordRest, ReceiveUnit.headerReceived, ReceiveUnit.ruReceived, ReceiveUnit.ruleNamed, Record.recordGood}
+pub use Rattle.end.specs.{SendData.heldBytes}
 pub use Rattle.end.specs.{SendData.gone, declared.End.End}
 pub use Rattle.end.proofs.{RecordGood.facts}
 pub use Rattle.calls.specs.{Calls.Station, Calls.Reply, Calls.Verb, UnitCounts.count, UnitCounts.isPacingResponse}
 unfoldable pub use Rattle.calls.specs.{UnitCounts.requestsAmong}
 pub use Rattle.calls.proofs.{CallCases.allocate-cases, CallCases.bidNumber, CallCases.close-cases, CallCases.confirmed-cases}
+pub use Rattle.calls.proofs.{CallCases.defer-cases, CallCases.withdraw-cases}
 pub use Rattle.calls.proofs.{CallCases.pacing-response-cases, CallCases.read-cases, CallCases.send-cases, CallCases.spilledRu, CallCases.take-cases}
 pub use Rattle.calls.proofs.{CallCases.ReadAsked, CallCases.SendAsked, CallCases.readCount, CallCases.spilledUnit, CallCases.control-within}
 pub use Rattle.calls.proofs.{CallCases.TakeAsked, ControlMoved.allocate-moves, ControlMoved.mark-moves, RecordStaysGood.opened-is, UnitsByHeader.Sort}
@@ -57,5 +61,6 @@ pub use Rattle.joined.specs.{Histories.isBreach, Joined.Acted, Joined.To
 pub use Rattle.joined.specs.{Joined.Both, Joined.Local, Joined.Event, Joined.took, Joined.takeOldest, Joined.apply, Joined.run, Joined.acted}
 pub use Rattle.joined.specs.{Lanes.Lines, Lanes.join, Lanes.put}
 unfoldable pub use Rattle.joined.specs.{Ends.acts, Ends.takes, Histories.bytesAccepted, Histories.bytesOnLine, Histories.requestsMade}
-unfoldable pub use Rattle.joined.specs.{Histories.pacingResponsesTaken, Histories.breaches, Histories.badReads, Histories.CompleteIsRight, Histories.MoreIsRight}
+unfoldable pub use Rattle.joined.specs.{Histories.pacingResponsesTaken, Histories.breaches, Histories.badReads, Histories.CompleteIsRight}
+unfoldable pub use Rattle.joined.specs.{Histories.MoreIsRight}
 unfoldable pub use Rattle.joined.specs.{Histories.NoneCrosses, Joined.step}

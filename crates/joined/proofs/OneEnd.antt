@@ -92,8 +92,10 @@ refused-gives : (verb : Verb) (q : ℕ) → eqb q 0 ≡ false → given verb q �
 refused-gives Verb.allocate q e = refl
 refused-gives Verb.confirmed q e = refl
 refused-gives Verb.sendPacingResponse q e = refl
+refused-gives Verb.withdraw q e = refl
 refused-gives (Verb.sendData bytes) q e = rw e
 refused-gives (Verb.close f b) q e = refl
+refused-gives (Verb.defer d) q e = refl
 refused-gives (Verb.receive buffer) q e = refl
 
 pub refused-accepts : (verb : Verb) (q : ℕ) (buffer : List ℕ) (us : Lines Lane (List ℕ)) (xs : Log) → eqb q 0 ≡ false

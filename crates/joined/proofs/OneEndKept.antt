@@ -4,7 +4,8 @@ use Rattle.joined.proofs.JoinedWords.{ℕ, _+_, _*_, _≤_, _<_, eqb, l
 use Rattle.joined.proofs.JoinedWords.{refl, sym, ap, _∙_, arith, front, ended, thenWalk, walk, placeOr, Position, Walked, walk-append, walk-prefix}
 use Rattle.joined.proofs.JoinedWords.{Through, Continues, Last, Follows, fixedRu, bidRu, RU-START, unitOf, numberIn, paced, advanced, answered, credit}
 use Rattle.joined.proofs.JoinedWords.{bidAnswer, spilled, dataReceived, readRefused, accepted, requestReceived, requestMade, nextNumber, restBytes}
-use Rattle.joined.proofs.JoinedWords.{bidMade, lastMade, bytesRead, recordRest, copyCount, headerReceived, ruReceived, ruleNamed, dataJoined, bidAnswered}
+use Rattle.joined.proofs.JoinedWords.{bidMade, lastMade, closing, deferred, withdrawn, defer-cases, withdraw-cases, bytesRead, recordRest, copyCount}
+use Rattle.joined.proofs.JoinedWords.{headerReceived, ruReceived, ruleNamed, dataJoined, bidAnswered}
 use Rattle.joined.proofs.JoinedWords.{creditRaised, receiveUnitRefusal, dataHeader, heldBytes, bytesKept, bytesSpilled, facts, Station, Reply, Verb}
 use Rattle.joined.proofs.JoinedWords.{count, isPacingResponse, requestsAmong, allocate-cases, bidNumber, close-cases, confirmed-cases}
 use Rattle.joined.proofs.JoinedWords.{pacing-response-cases, read-cases, send-cases, spilledRu, take-cases, ReadAsked, readCount, control-within}
@@ -18,6 +19,7 @@ use Rattle.logical_record.specs.declared.Rest.{Rest}
 use Rattle.logical_record.specs.declared.Rest.the-variants as restIs
 use Rattle.header.specs.declared.Header.the-variants.{Bid, Confirmation, PacingResponse}
 use Rattle.control.specs.declared.WhatReceived.the-variants as mark
+use Rattle.control.proofs.States.{not-holding}
 use Rattle.end.specs.Receive.{someHeld, receiveQuestions, receiveRefusal, markRead}
 use Rattle.receiving.specs.BytesRead.{restGood}
 use Rattle.joined.specs.Histories as H
@@ -50,15 +52,16 @@ module _ (s : Station) (xs : Log) (l : Local (valuesOf s) xs) where
   unfolding acts lastMade requestMade advanced
   closes f c =
       let v = Verb.close f c in
+      let x = closing (s .end) f in
       close-cases (Laned (After v)) s f c (refuses v (λ q. refl))
       (λ a n. local-act v (accepted 0) mark.Nothing [] (onNormal []) (valuesOf s) l here (l .whole) refl
       (none-made (credit (s .end .sending .window))) refl)
       (λ a n k.
-      let h = dataHeader (s .end) (Last f c) in
+      let h = dataHeader (s .end) (Last x c) in
       let ru = heldBytes (s .end) (s .send) in
       let u = unitOf (nextNumber (s .end .sending .number)) h ru in
-      local-act v (accepted (RU-START + length ru)) mark.Nothing [] (onNormal (u ∷ [])) _ l here (closed-whole f c (s .end .control) _ (a .whole)) refl
-      (request-made s (nextNumber (s .end .sending .number)) h ru (data-asks s (Last f c)) (a .good) k) refl)
+      local-act v (accepted (RU-START + length ru)) mark.Nothing [] (onNormal (u ∷ [])) _ l here (closed-whole x c (s .end .control) _ (a .whole)) refl
+      (request-made s (nextNumber (s .end .sending .number)) h ru (data-asks s (Last x c)) (a .good) k) refl)
 
   at-place : (g p : Position) (w : Walked) → w ≡ At p → w ≡ At (placeOr g w)
   at-place g p w e = rw e
@@ -128,7 +131,7 @@ module _ (s : Station) (xs : Log) (l : Local (valuesOf s) xs) where
       refl (none-made (credit (s .end .sending .window))) refl)
 
   pub local-acts : (v : Verb) → After v (acts s v)
-  unfolding acts bytesKept bytesSpilled bidMade requestMade advanced spilled answered
+  unfolding acts bytesKept bytesSpilled bidMade requestMade advanced spilled answered deferred withdrawn
   local-acts Verb.allocate =
       allocate-cases (Laned (After Verb.allocate)) s (refuses Verb.allocate (λ q. refl))
       (λ g a w.
@@ -163,6 +166,15 @@ module _ (s : Station) (xs : Log) (l : Local (valuesOf s) xs) where
       (at-place g (a .place) (walk g bytes) (a .walked)) (λ n. absurd (never (sym (a .sending) ∙ n))) refl
       (request-made s (nextNumber (s .end .sending .number)) hd (spilledRu s bytes) (data-asks s Continues) (a .good) h) refl)
   local-acts (Verb.close f c) = closes f c
+  local-acts (Verb.defer d) =
+      defer-cases (Laned (After (Verb.defer d))) s d (refuses (Verb.defer d) (λ q. refl))
+      (λ a.
+      local-act (Verb.defer d) (accepted 0) mark.Nothing [] (onNormal []) _ l here (λ n. a .whole) refl (none-made (credit (s .end .sending .window))) refl)
+  local-acts Verb.withdraw =
+      withdraw-cases (Laned (After Verb.withdraw)) s (refuses Verb.withdraw (λ q. refl))
+      (λ g a.
+      local-act Verb.withdraw (accepted 0) mark.Nothing [] (onNormal []) _ l here (λ n. absurd (never n)) refl
+      (none-made (credit (s .end .sending .window))) refl)
   local-acts (Verb.receive buffer) = reads buffer
 
 -- ---- takes
@@ -188,7 +200,7 @@ module _ (s : Station) (xs : Log) (u : List ℕ) (l : Local (valuesOf s) xs) whe
       let same = no-rise (credit w) (w .size) in
       take-cases (LanedTake Left) s u (λ q x n. local-take-refused normal u (ruleNamed u) q n (nb q x) l)
       (λ d a e k.
-      local-took normal u (accepted 0) (onNormal []) false _ l (counts-pacing _ e a) refl refl (λ m. l .whole (k .away)) refl
+      local-took normal u (accepted 0) (onNormal []) false _ l (counts-pacing _ e a) refl refl (λ m. l .whole (not-holding (s .end .control .state) (k .away))) refl
       (ap (walk (r .read)) (written-bytes (r .held) ru (s .inbox) (inbox-room s (a .inbox) (a .good)))
       ∙ walk-append (r .read) (bytesInInbox s) ru ∙ ap (λ (x : Walked). thenWalk x ru) (l .inbox) ∙ k .walked) refl same)
       (λ p a e k m.

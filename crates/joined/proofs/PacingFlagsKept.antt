@@ -2,7 +2,8 @@
 -- Assumes nothing.
 use Rattle.joined.proofs.JoinedWords.{ℕ, Bool, true, false, not, cond, _||_, List, [], _∷_, _++_, append-nil, _≡_, refl, ap, left, ChainEnd, Continues}
 use Rattle.joined.proofs.JoinedWords.{Last, Header, fixedRu, bidRu, unitOf, numberIn, hasCredit, paced, advanced, answered, bidAnswer, requestReceived}
-use Rattle.joined.proofs.JoinedWords.{requestMade, nextNumber, bidMade, lastMade, bytesRead, headerReceived, dataJoined, bidAnswered, creditRaised}
+use Rattle.joined.proofs.JoinedWords.{requestMade, nextNumber, bidMade, lastMade, closing, defer-cases, withdraw-cases, bytesRead, headerReceived}
+use Rattle.joined.proofs.JoinedWords.{dataJoined, bidAnswered, creditRaised}
 use Rattle.joined.proofs.JoinedWords.{dataHeader, heldBytes, bytesKept, bytesSpilled, Station, Reply, Verb, allocate-cases, bidNumber, close-cases}
 use Rattle.joined.proofs.JoinedWords.{confirmed-cases, pacing-response-cases, read-cases, send-cases, spilledRu, take-cases, Sort, sortOf, isPacing}
 use Rattle.joined.proofs.JoinedWords.{bitOf, answer-sort, Lane, normal, acts, takes, Acted, Took}
@@ -54,7 +55,9 @@ module _ (s f : Station) (line back : List (List ℕ)) (p : PacesOf s f line bac
       (λ a k h. data-out (nextNumber (s .end .sending .number)) Continues (spilledRu s bytes) h)
   paces-acts (Verb.close x c) =
       close-cases (Laned After) s x c (λ q n. rw append-nil p) (λ a n. rw append-nil p)
-      (λ a n k. data-out (nextNumber (s .end .sending .number)) (Last x c) (heldBytes (s .end) (s .send)) k)
+      (λ a n k. data-out (nextNumber (s .end .sending .number)) (Last (closing (s .end) x) c) (heldBytes (s .end) (s .send)) k)
+  paces-acts (Verb.defer d) = defer-cases (Laned After) s d (λ q n. rw append-nil p) (λ a. rw append-nil p)
+  paces-acts Verb.withdraw = withdraw-cases (Laned After) s (λ q n. rw append-nil p) (λ g a. rw append-nil p)
   paces-acts (Verb.receive buffer) =
       read-cases (Laned After) s buffer (λ q w n. rw append-nil p) (λ a h. rw append-nil p) (λ a h m. rw append-nil p)
 

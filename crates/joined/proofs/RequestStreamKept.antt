@@ -4,7 +4,8 @@ use Rattle.joined.proofs.JoinedWords.{ℕ, _+_, _-_, length, take, drop
 use Rattle.joined.proofs.JoinedWords.{_++_, append-nil, _≡_, refl, sym, ap, subst, arith, left, front, written, isWhole, thenWalk, walk, placeOr}
 use Rattle.joined.proofs.JoinedWords.{Position, same-position, Continues, Last, DataHeader, Follows, marks, unitOf, numberIn, paced, advanced, answered}
 use Rattle.joined.proofs.JoinedWords.{isReset, bidAnswer, beginOf, closed, spilled, confirmationMade, dataReceived, requestReceived, requestMade}
-use Rattle.joined.proofs.JoinedWords.{nextNumber, bidMade, lastMade, bytesRead, headerReceived, ruReceived, dataJoined, bidAnswered, creditRaised}
+use Rattle.joined.proofs.JoinedWords.{nextNumber, bidMade, lastMade, closing, deferred, withdrawn, defer-cases, withdraw-cases, bytesRead}
+use Rattle.joined.proofs.JoinedWords.{headerReceived, ruReceived, dataJoined, bidAnswered, creditRaised}
 use Rattle.joined.proofs.JoinedWords.{dataHeader, heldBytes, bytesKept, bytesSpilled, gone, facts, Station, Reply, Verb, allocate-cases, close-cases}
 use Rattle.joined.proofs.JoinedWords.{confirmed-cases, pacing-response-cases, read-cases, send-cases, spilledRu, take-cases, SendAsked, spilledUnit}
 use Rattle.joined.proofs.JoinedWords.{control-within, allocate-moves, mark-moves, Sort, sortOf, answer-sort, Lane, normal, acts, takes, Acted, Took}
@@ -82,7 +83,7 @@ module _ (s : Station) (i : Inside) (line : List (List ℕ)) (st : Stream (outsi
       (λ x w. subst (λ (p : Position). not (marks (Last f c)) || isWhole p ≡ true) (sym (same-position x (e .sending .given) w)) (a .whole))
 
   pub stream-acts : (v : Verb) → After (acts s v)
-  unfolding acts bytesKept bytesRead bidMade requestMade advanced confirmationMade
+  unfolding acts bytesKept bytesRead bidMade requestMade advanced confirmationMade deferred withdrawn
   stream-acts Verb.allocate =
       let c = s .end .control in
       allocate-cases (Laned After) s (λ q n. rw append-nil st)
@@ -102,7 +103,9 @@ module _ (s : Station) (i : Inside) (line : List (List ℕ)) (st : Stream (outsi
       (same-held (take (o .held + length bytes) (written (o .held) bytes (s .send))) (placeOr (o .given) (walk (o .given) bytes))
       (written-bytes (o .held) bytes (s .send) (omega arith)) (ap (placeOr (o .given)) (a .walked)) (stream-keep bytes (a .place) st (a .walked))))
       (λ a k h. spill bytes a k)
-  stream-acts (Verb.close f c) = close-cases (Laned After) s f c (λ q n. rw append-nil st) (λ a n. rw append-nil st) (λ a n k. last f c a n)
+  stream-acts (Verb.close f c) = close-cases (Laned After) s f c (λ q n. rw append-nil st) (λ a n. rw append-nil st) (λ a n k. last (closing (s .end) f) c a n)
+  stream-acts (Verb.defer d) = defer-cases (Laned After) s d (λ q n. rw append-nil st) (λ a. rw append-nil st)
+  stream-acts Verb.withdraw = withdraw-cases (Laned After) s (λ q n. rw append-nil st) (λ g a. rw append-nil st)
   stream-acts (Verb.receive buffer) =
       read-cases (Laned After) s buffer (λ q w n. rw append-nil st) (λ a h. rw append-nil st)
       (λ a h m. rw append-nil (same-chain _ (mark-moves (s .end .control) (control-within (s .end) (a .good)) m .out) st))
@@ -125,7 +128,7 @@ module _ (s : Station) (o : Outside) (back : List (List ℕ)) where
   AfterIn m = Stream o (insideOf (m .end)) back
 
   pub stream-in-acts : Stream o (insideOf s) back → (v : Verb) → AfterIn (acts s v)
-  unfolding acts bytesKept bytesSpilled bytesRead bidMade lastMade requestMade spilled confirmationMade answered
+  unfolding acts bytesKept bytesSpilled bytesRead bidMade lastMade requestMade spilled confirmationMade answered deferred withdrawn
   stream-in-acts st Verb.allocate =
       let c = s .end .control in
       allocate-cases (Laned AfterIn) s (λ q n. st) (λ g a w. same-link _ (allocate-moves c (control-within (s .end) g) a .into) st)
@@ -134,7 +137,9 @@ module _ (s : Station) (o : Outside) (back : List (List ℕ)) where
   stream-in-acts st Verb.sendPacingResponse = pacing-response-cases (Laned AfterIn) s (λ q n. st) (λ g a. st)
   stream-in-acts st (Verb.sendData bytes) = send-cases (Laned AfterIn) s bytes (λ q n. st) (λ a k. st) (λ a k h. st)
   stream-in-acts st (Verb.close f c) =
-      close-cases (Laned AfterIn) s f c (λ q n. st) (λ a n. st) (λ a n k. same-link _ (closed-in f c (s .end .control)) st)
+      close-cases (Laned AfterIn) s f c (λ q n. st) (λ a n. st) (λ a n k. same-link _ (closed-in (closing (s .end) f) c (s .end .control)) st)
+  stream-in-acts st (Verb.defer d) = defer-cases (Laned AfterIn) s d (λ q n. st) (λ a. st)
+  stream-in-acts st Verb.withdraw = withdraw-cases (Laned AfterIn) s (λ q n. st) (λ g a. st)
   stream-in-acts st (Verb.receive buffer) =
       read-cases (Laned AfterIn) s buffer (λ q w n. st) (λ a h. st)
       (λ a h m. same-link _ (mark-moves (s .end .control) (control-within (s .end) (a .good)) m .into) st)

@@ -8,13 +8,15 @@ use Rattle.logical_record.specs.Positions.{start, isWhole}
 use Rattle.logical_record.specs.Walk.{walk}
 use Rattle.logical_record.specs.Records.{wholeRecords, wholeTables}
 use Rattle.logical_record.specs.declared.Walked.the-variants as walked
-use Rattle.control.specs.Questions.{holdsSend}
+use Rattle.control.specs.StateTests.{holdsSend}
+use Rattle.control.specs.Questions.{maySend}
 use Rattle.answers.specs.Answers.{BAD-RECORD}
 use Rattle.end.specs.Record.{recordGood, creditOf}
 use Rattle.session.specs.declared.Session.{Session}
 use Rattle.joined.specs.Joined.{Call, act, take, At, first, second, Side, Both, firsts, seconds, run, AllFed}
 use Rattle.joined.specs.Ends.{Lane, normal, sameLane, Buffers, OpeningAccepted, JoinedOpenings, openedBoth, acts, takes}
-use Rattle.joined.specs.Histories.{bytesAccepted, bytesRead, bytesOnLine, bytesInInbox, bytesInSendBuffer, requestsMade, pacingResponsesTaken, breaches, refusedWith, badReads, CompleteIsRight, MoreIsRight, NoneCrosses}
+use Rattle.joined.specs.Histories.{bytesAccepted, bytesRead, bytesOnLine, bytesInInbox, bytesInSendBuffer, requestsMade, pacingResponsesTaken, breaches}
+use Rattle.joined.specs.Histories.{refusedWith, badReads, CompleteIsRight, MoreIsRight, NoneCrosses}
 use Rattle.calls.specs.Calls.{Reply, Station, Verb}
 use Rattle.calls.specs.Laws.{AllBytes, BytesOf}
 
@@ -39,8 +41,8 @@ abbrev pub CreditCounted : ℕ → JoinedEnd → Type 0
 CreditCounted w x = requestsMade (x .log) + creditOf (x .end .end) ≡ w * (1 + pacingResponsesTaken (x .log))
 
 pub record Joint (s t : Session) (p : Pair) : Type 0 where
-  -- never both in Send
-  pub not-both : holdsSend (p .one .end .end .control) ≡ true → holdsSend (p .two .end .end .control) ≡ true → ⊥
+  -- never do both hold send state, Send or Defer
+  pub not-both : holdsSend (p .one .end .end .control .state) ≡ true → holdsSend (p .two .end .end .control .state) ≡ true → ⊥
   -- no take was refused as a breach of protocol
   pub no-breach-one : breaches (p .one .log) ≡ 0
   pub no-breach-two : breaches (p .two .log) ≡ 0
@@ -97,8 +99,8 @@ pub record ReadsRight (x : JoinedEnd) : Type 0 where
   pub apart : NoneCrosses (x .log)
   -- no read is refused with 8
   pub never-8 : badReads (x .log) ≡ 0
-  -- outside Send nothing given is unfinished, neither a record nor a table
-  pub whole : holdsSend (x .end .end .control) ≡ false → isWhole (x .end .end .sending .given) ≡ true
+  -- outside Send, in Defer too, nothing given is unfinished, neither a record nor a table
+  pub whole : maySend (x .end .end .control) ≡ false → isWhole (x .end .end .sending .given) ≡ true
 
 pub record Records (p : Pair) : Type 0 where
   pub out : RecordsArrive (p .one) (p .two)

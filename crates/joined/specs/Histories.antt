@@ -14,7 +14,7 @@ use Rattle.answers.specs.Answers.{BAD-LL}
 use Rattle.calls.specs.UnitCounts.{count, dataRu, requestsAmong, isPacingResponse}
 use Rattle.joined.specs.Joined.{Event, acted, took}
 use Rattle.joined.specs.Ends.{Lane, normal}
-use Rattle.calls.specs.Calls.{Reply, Station, Verb, allocate, close, confirmed, sendPacingResponse, receive, refusalIn, sendData}
+use Rattle.calls.specs.Calls.{Reply, Station, Verb, allocate, close, confirmed, defer, sendPacingResponse, receive, refusalIn, sendData, withdraw}
 
 abbrev pub Log : Type 0
 Log = List (Event Lane Verb Reply (List ℕ))
@@ -26,8 +26,10 @@ abbrev pub given : Verb → ℕ → List ℕ
 given allocate q = []
 given confirmed q = []
 given sendPacingResponse q = []
+given withdraw q = []
 given (sendData bytes) q = cond (eqb q 0) bytes []
 given (close f b) q = []
+given (defer d) q = []
 given (receive buffer) q = []
 
 -- accepted are the bytes of accepted send data calls
@@ -93,8 +95,10 @@ abbrev pub isBadRead : Verb → ℕ → Bool
 isBadRead allocate q = false
 isBadRead confirmed q = false
 isBadRead sendPacingResponse q = false
+isBadRead withdraw q = false
 isBadRead (sendData bytes) q = false
 isBadRead (close f b) q = false
+isBadRead (defer d) q = false
 isBadRead (receive buffer) q = eqb q BAD-LL
 
 unfoldable pub badReads : Log → ℕ

@@ -13,9 +13,9 @@ use Rattle.image.specs.Image.{IMAGE, imageRead}
 use Rattle.image.specs.declared.ImageRead.{ImageRead}
 use Rattle.image.specs.declared.ImageRead.the-variants.{Record, Refused}
 use Rattle.image.proofs.WhatIsRead.{record-known}
-use Rattle.lu62.specs.Handing.{answerNumbers, readNumbers, refusalNumbers, Handed, handed, handedOut, Left, left, onImage}
-use Rattle.lu62.specs.Exported.{madeOut, sentOut, takenOut, copiedOut}
-use Rattle.lu62.proofs.LengthsFit.{WORD, small}
+use Rattle.lu62.specs.Handing.{answerNumbers, readNumbers, refusalNumbers, Handed, handed, handedOut, Left, left, onImage, onImageAlone}
+use Rattle.lu62.specs.Exported.{doneOut, madeOut, sentOut, takenOut, copiedOut}
+use Rattle.lu62.proofs.LengthsFit.{WORD, small, small-alone}
 
 -- ---- the image is refused
 
@@ -23,6 +23,11 @@ pub refused-arm : {Cells : Type 0} (image : List ℕ) (cells : Cells) (call : En
     → read ≡ imageRead image → read ≡ Refused q → r ≡ q → answer ≡ refusalNumbers q
     → left (handed r answer image) cells ≡ onImage image cells call
 refused-arm image cells call {read} {q} {r} {answer} p s n a = rw (← p, s, n, a)
+
+pub refused-alone : (image : List ℕ) (call : End → Handed) {read : ImageRead} {q r : ℕ} {answer : List ℕ}
+    → read ≡ imageRead image → read ≡ Refused q → r ≡ q → answer ≡ refusalNumbers q
+    → handed r answer image ≡ onImageAlone image call
+refused-alone image call p s n a = ap (λ (l : Left (Unit {0})). l .out) (refused-arm image tt (λ e. left (call e) tt) p s n a)
 
 -- ---- the image holds a record
 
@@ -33,7 +38,19 @@ pub record-arm : {Cells : Type 0} (image : List ℕ) (cells : Cells) (call : End
     → read ≡ imageRead image → read ≡ Record e → l ≡ call e → l ≡ onImage image cells call
 record-arm image cells call {read} {e} {l} p s h = rw (← p, s, h)
 
+pub record-alone : (image : List ℕ) (call : End → Handed) {read : ImageRead} {e : End} {h : Handed}
+    → read ≡ imageRead image → read ≡ Record e → h ≡ call e → h ≡ onImageAlone image call
+record-alone image call p s k =
+    ap (λ (l : Left (Unit {0})). l .out) (record-arm image tt (λ e. left (call e) tt) p s (ap (λ (h : Handed). left h tt) k))
+
 -- what a call hands out, and the length of the unit made, from the call's promise
+module _ {d m : Done} (p : d ≡ m) where
+  pub done-out : {h : Handed} → h ≡ handedOut (answerNumbers (d .answer)) (d .end) → h ≡ doneOut m
+  done-out {h} k = rw k (ap (λ (x : Done). doneOut x) p)
+
+  pub done-unit : m .answer .unit < WORD → d .answer .unit < WORD
+  done-unit h = subst (λ (x : Done). x .answer .unit < WORD) (sym p) h
+
 module _ {d : Done} {after : List ℕ} {m : Made} (p : madeBy d after ≡ m) where
   pub made-out : {h : Handed} → h ≡ handedOut (answerNumbers (d .answer)) (d .end) → left h after ≡ madeOut m
   made-out {h} k = rw k (ap (λ (x : Made). madeOut x) p)
@@ -70,3 +87,6 @@ pub ruleset handed-out = (record-arm, made-out, sent-out, taken-out, copied-out)
 pub ruleset units = (whole, made-unit, sent-unit, taken-unit, copied-unit, copied-count)
 
 pub ruleset arms = (refused-arm, handed-out, units, small)
+
+-- of a call that is lent no buffer
+pub ruleset arms-alone = (refused-alone, record-alone, done-out, whole, done-unit, small-alone)

@@ -6,12 +6,14 @@ use mathlib.Core.List.{List, []}
 use native.Mathlib.Omega.{arith}
 use lib.Dec.{eqb}
 use Rattle.header.specs.declared.Follows.{Follows}
+use Rattle.control.specs.declared.Deferred.{Deferred}
 use Rattle.session.specs.OpeningQuestions.{openingRefusal}
 use Rattle.session.specs.declared.Session.{Session}
 use Rattle.session.specs.Opening.{opened}
 use Rattle.end.specs.Allocate.{allocate}
 use Rattle.end.specs.SendData.{sendData}
 use Rattle.end.specs.Close.{close}
+use Rattle.end.specs.Defer.{defer, withdraw}
 use Rattle.end.specs.Confirmed.{confirmed}
 use Rattle.end.specs.SendPacingResponse.{sendPacingResponse}
 use Rattle.end.specs.ReceiveUnit.{receiveUnit}
@@ -58,6 +60,14 @@ pub close-small : (f : Follows) (asked : Bool) (e : End) (send unit : List ℕ) 
 unfolding called
 close-small f asked e send unit = word _ _ (acts-fit (at e send unit []) (Verb.close f asked))
 
+pub defer-small : (what : Deferred) (e : End) → defer what e .answer .unit < WORD
+unfolding called
+defer-small what e = word _ _ (acts-fit (at e [] [] []) (Verb.defer what))
+
+pub withdraw-small : (e : End) → withdraw e .answer .unit < WORD
+unfolding called
+withdraw-small e = word _ _ (acts-fit (at e [] [] []) Verb.withdraw)
+
 pub send-small : (e : End) (bytes send unit : List ℕ) → sendData e bytes send unit .done .answer .unit < WORD
 unfolding called
 send-small e bytes send unit = word _ _ (acts-fit (at e send unit []) (Verb.sendData bytes))
@@ -79,3 +89,5 @@ module _ (e : End) (inbox buffer : List ℕ) where
       (λ q w n. omega arith) (λ a k. omega (arith, count-held (at e [] [] inbox) buffer, h)) (λ a k m. omega arith)
 
 pub ruleset small = (allocate-small, confirmed-small, pacing-response-small, close-small, send-small, take-small, read-small, count-small)
+
+pub ruleset small-alone = (defer-small, withdraw-small)

@@ -6,24 +6,27 @@ use mathlib.Core.Bool.{Bool, true, false}
 use mathlib.Core.List.{List, []}
 use Rattle.header.specs.declared.Follows.{Follows}
 use Rattle.header.specs.declared.Follows.the-variants.{Stay, ChangeDirection, EndBracket}
+use Rattle.control.specs.declared.Deferred.{Deferred}
 use Rattle.end.specs.Outcome.{Made}
 use Rattle.end.specs.Allocate.{allocate}
 use Rattle.end.specs.SendData.{sendData}
 use Rattle.end.specs.Close.{close}
+use Rattle.end.specs.Defer.{defer, withdraw}
 use Rattle.end.specs.Confirmed.{confirmed}
 use Rattle.end.specs.SendPacingResponse.{sendPacingResponse}
 use Rattle.end.specs.ReceiveUnit.{receiveUnit}
 use Rattle.end.specs.Receive.{receive}
 use Rattle.end.specs.declared.End.{End}
-use Rattle.calls.specs.Calls.{Station, Verb, makes, called, taken}
+use Rattle.end.specs.declared.Done.{Done}
+use Rattle.calls.specs.Calls.{Station, Verb, hands, makes, called, taken}
 use Rattle.calls.proofs.Refusals.{refused-nothing, refused-buffer, refused-take-nothing}
 use Rattle.image.specs.Image.{imageOf, imageRead}
 use Rattle.image.specs.declared.ImageRead.{ImageRead}
 use Rattle.image.specs.declared.ImageRead.the-variants.{Record, Refused}
 use Rattle.image.proofs.ImageRoundTrip.{read-is-written}
-use Rattle.lu62.specs.Handing.{Left, byReading, onImage}
-use Rattle.lu62.specs.Exported.{madeOut, sentOut, takenOut, copiedOut, closeOn}
-use Rattle.lu62.specs.Untouched.{Bytes, Untouched, RefusedChangesNothing}
+use Rattle.lu62.specs.Handing.{Handed, Left, left, byReading, onImage, onImageAlone}
+use Rattle.lu62.specs.Exported.{doneOut, madeOut, sentOut, takenOut, copiedOut, closeOn}
+use Rattle.lu62.specs.Untouched.{Bytes, Untouched, ImageUntouched, RefusedChangesNothing}
 use Rattle.lu62.proofs.LengthsFit.{at}
 
 on-image : {Cells : Type 0} (image : List ℕ) (cells : Cells) (call : End → Left Cells) → Bytes image
@@ -34,6 +37,10 @@ on-image {Cells} image cells call b f = by (imageRead image) refl
     by (Record e) h n = let t = f e n in (t .0 ∙ read-is-written image b e h, t .1)
     by (Refused q) h n = (refl, refl)
 
+on-image-alone : (image : List ℕ) (call : End → Handed) → Bytes image → ((e : End) → ImageUntouched (imageOf e) (call e))
+    → ImageUntouched image (onImageAlone image call)
+on-image-alone image call b f n = on-image {Cells = Unit {0}} image tt (λ e. left (call e) tt) b (λ e m. (f e m, refl)) n .0
+
 -- ---- each call, at a record: the law of all calls, read off its cells
 
 module _ (e : End) where
@@ -42,6 +49,12 @@ module _ (e : End) where
   made-refused send unit v m p n =
       let h = rw p at (refused-nothing (at e send unit []) v (rw p n) .0) in
       (ap (λ (s : Station). imageOf (s .end)) h, ap (λ (s : Station). s .unit) h)
+
+  -- a call that is lent nothing
+  done-refused : (v : Verb) (d : Done) → called (at e [] [] []) v ≡ hands (at e [] [] []) d → ImageUntouched (imageOf e) (doneOut d)
+  done-refused v d p n =
+      let h = rw p at (refused-nothing (at e [] [] []) v (rw p n) .0) in
+      ap (λ (s : Station). imageOf (s .end)) h
 
   send-refused : (bytes send unit : List ℕ) → Untouched (imageOf e) (send, unit) (sentOut (sendData e bytes send unit))
   unfolding called
@@ -77,6 +90,8 @@ refused-changes-nothing =
       confirm = close-refused Stay true;
       prepareToReceive = close-refused ChangeDirection;
       deallocate = close-refused EndBracket;
+      defer = λ what image b. on-image-alone image _ b (λ e. done-refused e (Verb.defer what) (defer what e) refl);
+      withdraw = λ image b. on-image-alone image _ b (λ e. done-refused e Verb.withdraw (withdraw e) refl);
       confirmed = λ image unit b. on-image image unit _ b (λ e. made-refused e [] unit Verb.confirmed (confirmed e unit) refl);
       sendPacingResponse = λ image unit b. on-image image unit _ b (λ e. made-refused e [] unit Verb.sendPacingResponse (sendPacingResponse e unit) refl);
       receiveUnit = λ taken image inbox unit b. on-image image (inbox, unit) _ b (λ e. take-refused e taken inbox unit);

@@ -1,4 +1,4 @@
--- Opening and the ten calls on an image: each is the end's own definition at the record that the image holds.
+-- Opening and the twelve calls on an image: each is the end's own definition at the record that the image holds.
 -- Assumes nothing.
 use Prim.Native.Nat.{ℕ}
 use mathlib.Core.Bool.{Bool, true, false, cond}
@@ -7,12 +7,14 @@ use lib.Dec.{eqb}
 use lib.ListN.{length}
 use Rattle.header.specs.declared.Follows.{Follows}
 use Rattle.header.specs.declared.Follows.the-variants.{Stay, ChangeDirection, EndBracket}
+use Rattle.control.specs.declared.Deferred.{Deferred}
 use Rattle.answers.specs.Answers.{BAD-BUFFER}
 use Rattle.end.specs.Outcome.{Made, Sent, Taken, Copied}
 use Rattle.session.specs.Opening.{opened}
 use Rattle.end.specs.Allocate.{allocate}
 use Rattle.end.specs.SendData.{sendData}
 use Rattle.end.specs.Close.{close}
+use Rattle.end.specs.Defer.{defer, withdraw}
 use Rattle.end.specs.Confirmed.{confirmed}
 use Rattle.end.specs.SendPacingResponse.{sendPacingResponse}
 use Rattle.end.specs.ReceiveUnit.{receiveUnit}
@@ -20,7 +22,7 @@ use Rattle.end.specs.Receive.{receive}
 use Rattle.session.specs.declared.Session.{Session}
 use Rattle.end.specs.declared.Done.{Done}
 use Rattle.image.specs.Image.{IMAGE}
-use Rattle.lu62.specs.Handing.{answerNumbers, readNumbers, Handed, handedOut, handedBack, Left, left, onImage}
+use Rattle.lu62.specs.Handing.{answerNumbers, readNumbers, Handed, handedOut, handedBack, Left, left, onImage, onImageAlone}
 
 -- ---- what each kind of call leaves, with its cells
 
@@ -74,6 +76,13 @@ prepareToReceiveOn confirms send image unit = closeOn ChangeDirection confirms s
 
 abbrev pub deallocateOn : Bool → List ℕ → List ℕ → List ℕ → Left (List ℕ)
 deallocateOn confirms send image unit = closeOn EndBracket confirms send image unit
+
+-- document 02: prepare; what is prepared is a turn or an end
+abbrev pub deferOn : Deferred → List ℕ → Handed
+deferOn what image = onImageAlone image (λ e. doneOut (defer what e))
+
+abbrev pub withdrawOn : List ℕ → Handed
+withdrawOn image = onImageAlone image (λ e. doneOut (withdraw e))
 
 abbrev pub confirmedOn : List ℕ → List ℕ → Left (List ℕ)
 confirmedOn image unit = onImage image unit (λ e. madeOut (confirmed e unit))

@@ -60,3 +60,7 @@ byReading image cells call (Refused q) = left (handedBack q image) cells
 
 abbrev pub onImage : {Cells : Type 0} → List ℕ → Cells → (End → Left Cells) → Left Cells
 onImage image cells call = byReading image cells call (imageRead image)
+
+-- the same of a call that is lent no buffer
+abbrev pub onImageAlone : List ℕ → (End → Handed) → Handed
+onImageAlone image call = onImage {Cells = Unit {0}} image tt (λ e. left (call e) tt) .out

@@ -29,7 +29,7 @@ fn close_on(
     }
 }
 
-// Sends the bytes held, if there are any.
+// Sends the bytes held, if there are any. A turn or an end that is prepared is carried out, without confirmation.
 #[no_mangle]
 pub extern "C" fn lu62_flush(
     image: &mut [u8],
@@ -43,7 +43,7 @@ pub extern "C" fn lu62_flush(
     close_on(image, Follows::Stay, false, send, unit, answer)
 }
 
-// Sends the bytes held and asks for a confirmation.
+// Sends the bytes held and asks for a confirmation. A turn or an end that is prepared is carried out with it.
 #[no_mangle]
 pub extern "C" fn lu62_confirm(
     image: &mut [u8],

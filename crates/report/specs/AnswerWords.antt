@@ -13,6 +13,8 @@ use Rattle.control.specs.declared.WhatReceived.{WhatReceived}
 use Rattle.control.specs.declared.WhatReceived.the-variants as mark
 use Rattle.control.specs.declared.State.{State}
 use Rattle.control.specs.declared.State.the-variants as state
+use Rattle.control.specs.declared.Deferred.{Deferred}
+use Rattle.control.specs.declared.Deferred.the-variants as deferred
 use Rattle.report.specs.Ascii.{ascii}
 
 abbrev pub endWord : Bool → List ℕ
@@ -23,12 +25,18 @@ closingWords Stay confirm = cond confirm (ascii "confirm") (ascii "flush")
 closingWords ChangeDirection confirm = cond confirm (ascii "turn confirm") (ascii "turn")
 closingWords EndBracket confirm = cond confirm (ascii "end confirm") (ascii "end")
 
+abbrev pub deferWords : Deferred → List ℕ
+deferWords deferred.Turn = ascii "prepare turn"
+deferWords deferred.End = ascii "prepare end"
+
 abbrev pub verbWords : Verb → List ℕ
 verbWords verb.Allocate = ascii "allocate"
 verbWords verb.Confirmed = ascii "confirmed"
 verbWords verb.SendPacingResponse = ascii "pace"
 verbWords verb.SendData = ascii "send"
 verbWords (verb.Close follows confirm) = closingWords follows confirm
+verbWords (verb.Defer what) = deferWords what
+verbWords verb.Withdraw = ascii "withdraw"
 verbWords verb.Receive = ascii "read"
 
 -- an offered unit is taken too
@@ -51,3 +59,5 @@ stateWord state.Send = ascii "Send"
 stateWord state.Receive = ascii "Receive"
 stateWord state.ConfirmOwed = ascii "Owes"
 stateWord state.ConfirmAwaited = ascii "Waits"
+stateWord state.DeferTurn = ascii "Defer-turn"
+stateWord state.DeferEnd = ascii "Defer-end"

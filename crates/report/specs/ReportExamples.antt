@@ -11,6 +11,7 @@ use Rattle.script.specs.declared.Request.the-variants.{Call, Take, Offer}
 use Rattle.control.specs.declared.WhatReceived.{WhatReceived}
 use Rattle.control.specs.declared.WhatReceived.the-variants as mark
 use Rattle.control.specs.declared.State.the-variants as state
+use Rattle.control.specs.declared.Deferred.the-variants.{Turn, End}
 use Rattle.report.specs.Ascii.{ascii}
 use Rattle.digits.specs.Printed.{decimalIn, decimalOf, hexOf, hexWordOf}
 use Rattle.report.specs.AnswerLine.{callText, senseText, ruleText, refusalText, bytesText, flagText, markText, readText, answerText}
@@ -79,6 +80,20 @@ ends = (refl, refl)
 more-follows : read (0x42 ∷ 0x43 ∷ []) true true mark.Nothing ≡ ascii "2 read 0 bytes 4243 complete more\n"
 unfolding decimalIn decimalOf hexOf hexWordOf callText senseText ruleText refusalText bytesText flagText markText readText answerText
 more-follows = refl
+
+-- a turn or an end prepared, and withdrawn
+prepares : (accepted false (Call (verb.Defer Turn)) [] ≡ ascii "1 prepare turn 0\n")
+    × (refused true (Call (verb.Defer End)) 9 0 0 ≡ ascii "2 prepare end 9\n")
+    × (refused false (Call verb.Withdraw) 7 0 0 ≡ ascii "1 withdraw 7\n")
+    × (fullText true (Call (verb.Defer Turn)) ≡ ascii "2 prepare turn full\n")
+unfolding decimalIn decimalOf hexOf hexWordOf callText senseText ruleText refusalText bytesText flagText markText readText answerText fullText
+prepares = (refl, refl, refl, refl)
+
+-- the last lines of ends that have prepared one
+defers : (endText false state.DeferTurn mark.Nothing 5 0 3 3 1 ≡ ascii "1 Defer-turn mark none send 5 inbox 0 credit 3 open 3 waiting 1\n")
+    × (endText true state.DeferEnd mark.Nothing 0 0 2 2 0 ≡ ascii "2 Defer-end mark none send 0 inbox 0 credit 2 open 2 waiting 0\n")
+unfolding decimalIn decimalOf stateText countText countsText endText
+defers = (refl, refl)
 
 -- a sense from 20 on, and a rule with 21 only
 breaches : (refused false Offer 20 0x40050000 0 ≡ ascii "1 take 20 40050000\n")

@@ -1,4 +1,5 @@
 // The words for an end, a call, a mark and a state.
+use control::Deferred;
 use control::State;
 use control::WhatReceived;
 use digits::printed::put;
@@ -9,7 +10,7 @@ ghost use mathlib.Core.Path.{_≡_};
 ghost use Prim.Native.Nat.{_≤_};
 ghost use lib.ListN.{length, take};
 ghost use Rattle.digits.specs.PutAt.{putAt};
-ghost use Rattle.report.specs.AnswerWords.{endWord, closingWords, verbWords, requestWords, markWord, stateWord};
+ghost use Rattle.report.specs.AnswerWords.{endWord, closingWords, deferWords, verbWords, requestWords, markWord, stateWord};
 
 // Letters, filled up with blanks, and how many of them count.
 pub(crate) struct Word(pub [u8; 12], pub usize);
@@ -49,6 +50,15 @@ fn closing_word(follows: Follows, confirm: bool) -> Word
     }
 }
 
+fn defer_word(what: Deferred) -> Word
+    ensures { λ r. ⌜ (take (r .1) (r .0) ≡ deferWords what) × (r .1 ≤ length (r .0)) ⌝ }
+{
+    match what {
+        Deferred::Turn => Word(*b"prepare turn", 12),
+        Deferred::End => Word(*b"prepare end ", 11),
+    }
+}
+
 fn verb_word(verb: Verb) -> Word
     ensures { λ r. ⌜ (take (r .1) (r .0) ≡ verbWords verb) × (r .1 ≤ length (r .0)) ⌝ }
 {
@@ -58,6 +68,8 @@ fn verb_word(verb: Verb) -> Word
         Verb::SendPacingResponse => Word(*b"pace        ", 4),
         Verb::SendData => Word(*b"send        ", 4),
         Verb::Close(follows, confirm) => closing_word(follows, confirm),
+        Verb::Defer(what) => defer_word(what),
+        Verb::Withdraw => Word(*b"withdraw    ", 8),
         Verb::Receive => Word(*b"read        ", 4),
     }
 }
@@ -94,5 +106,7 @@ pub(crate) fn state_word(state: State) -> Word
         State::Receive => Word(*b"Receive     ", 7),
         State::ConfirmOwed => Word(*b"Owes        ", 4),
         State::ConfirmAwaited => Word(*b"Waits       ", 5),
+        State::DeferTurn => Word(*b"Defer-turn  ", 10),
+        State::DeferEnd => Word(*b"Defer-end   ", 9),
     }
 }

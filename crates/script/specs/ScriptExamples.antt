@@ -13,7 +13,8 @@ use Rattle.script.specs.FirstLine.{sizesOf, firstLineOf}
 use Rattle.script.specs.WordsAsked.{noBytes, plain, givenOf, offerOf, readOf}
 use Rattle.script.specs.CallLine.{requestOf, callOf}
 use Rattle.script.specs.declared.FirstLine.the-variants as first
-use Rattle.script.specs.declared.Verb.the-variants.{Allocate, SendData, Receive}
+use Rattle.control.specs.declared.Deferred.the-variants.{Turn, End}
+use Rattle.script.specs.declared.Verb.the-variants.{Allocate, SendData, Defer, Withdraw, Receive}
 use Rattle.script.specs.Closing.{prepareToReceive, deallocate}
 use Rattle.script.specs.declared.Request.the-variants.{Call, Take, Offer}
 use Rattle.script.specs.declared.Parsed.the-variants as parsed
@@ -75,6 +76,23 @@ turns : callOf (0x32 ∷ 0x20 ∷ 0x74 ∷ 0x75 ∷ 0x72 ∷ 0x6E ∷ []) 2048 �
 unfolding callOf requestOf begins sameBytes givenOf offerOf readOf bytesRead arePairs bytesOf numberOf readOn
 turns = refl
 
+-- `1 prepare turn`
+prepares-turn : callOf (0x31 ∷ 0x20 ∷ 0x70 ∷ 0x72 ∷ 0x65 ∷ 0x70 ∷ 0x61 ∷ 0x72 ∷ 0x65 ∷ 0x20 ∷ 0x74 ∷ 0x75 ∷ 0x72 ∷ 0x6E ∷ []) 2048
+    ≡ noBytes (plain false (Call (Defer Turn)) 0)
+unfolding callOf requestOf begins sameBytes givenOf offerOf readOf bytesRead arePairs bytesOf numberOf readOn
+prepares-turn = refl
+
+-- `2 prepare end`
+prepares-end : callOf (0x32 ∷ 0x20 ∷ 0x70 ∷ 0x72 ∷ 0x65 ∷ 0x70 ∷ 0x61 ∷ 0x72 ∷ 0x65 ∷ 0x20 ∷ 0x65 ∷ 0x6E ∷ 0x64 ∷ []) 2048
+    ≡ noBytes (plain true (Call (Defer End)) 0)
+unfolding callOf requestOf begins sameBytes givenOf offerOf readOf bytesRead arePairs bytesOf numberOf readOn
+prepares-end = refl
+
+-- `1 withdraw`
+withdraws : callOf (0x31 ∷ 0x20 ∷ 0x77 ∷ 0x69 ∷ 0x74 ∷ 0x68 ∷ 0x64 ∷ 0x72 ∷ 0x61 ∷ 0x77 ∷ []) 2048 ≡ noBytes (plain false (Call Withdraw) 0)
+unfolding callOf requestOf begins sameBytes givenOf offerOf readOf bytesRead arePairs bytesOf numberOf readOn
+withdraws = refl
+
 -- `2 take`
 takes : callOf (0x32 ∷ 0x20 ∷ 0x74 ∷ 0x61 ∷ 0x6B ∷ 0x65 ∷ []) 2048 ≡ noBytes (plain true Take 0)
 unfolding callOf requestOf begins sameBytes givenOf offerOf readOf bytesRead arePairs bytesOf numberOf readOn
@@ -109,6 +127,24 @@ reads-too-many = refl
 third-end : callOf (0x33 ∷ 0x20 ∷ 0x74 ∷ 0x61 ∷ 0x6B ∷ 0x65 ∷ []) 2048 ≡ noBytes parsed.Bad
 unfolding callOf requestOf begins sameBytes givenOf offerOf readOf bytesRead arePairs bytesOf numberOf readOn
 third-end = refl
+
+-- `1 prepare`
+prepares-nothing : callOf (0x31 ∷ 0x20 ∷ 0x70 ∷ 0x72 ∷ 0x65 ∷ 0x70 ∷ 0x61 ∷ 0x72 ∷ 0x65 ∷ []) 2048 ≡ noBytes parsed.Bad
+unfolding callOf requestOf begins sameBytes givenOf offerOf readOf bytesRead arePairs bytesOf numberOf readOn
+prepares-nothing = refl
+
+-- `1 prepare turn confirm`
+prepares-with-confirm : callOf
+    (0x31 ∷ 0x20 ∷ 0x70 ∷ 0x72 ∷ 0x65 ∷ 0x70 ∷ 0x61 ∷ 0x72 ∷ 0x65 ∷ 0x20 ∷ 0x74 ∷ 0x75 ∷ 0x72 ∷ 0x6E ∷ 0x20
+    ∷ 0x63 ∷ 0x6F ∷ 0x6E ∷ 0x66 ∷ 0x69 ∷ 0x72 ∷ 0x6D ∷ []) 2048
+    ≡ noBytes parsed.Bad
+unfolding callOf requestOf begins sameBytes givenOf offerOf readOf bytesRead arePairs bytesOf numberOf readOn
+prepares-with-confirm = refl
+
+-- `1 withdraw turn`
+withdraws-turn : callOf (0x31 ∷ 0x20 ∷ 0x77 ∷ 0x69 ∷ 0x74 ∷ 0x68 ∷ 0x64 ∷ 0x72 ∷ 0x61 ∷ 0x77 ∷ 0x20 ∷ 0x74 ∷ 0x75 ∷ 0x72 ∷ 0x6E ∷ []) 2048 ≡ noBytes parsed.Bad
+unfolding callOf requestOf begins sameBytes givenOf offerOf readOf bytesRead arePairs bytesOf numberOf readOn
+withdraws-turn = refl
 
 -- `1 send ` with its blank and no byte
 send-blank : callOf (0x31 ∷ 0x20 ∷ 0x73 ∷ 0x65 ∷ 0x6E ∷ 0x64 ∷ 0x20 ∷ []) 2048 ≡ noBytes parsed.Bad

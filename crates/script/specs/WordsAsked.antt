@@ -13,7 +13,8 @@ use Rattle.digits.specs.declared.Number.{Number}
 use Rattle.digits.specs.declared.Number.the-variants as number
 use Rattle.digits.specs.declared.Hex.{Hex}
 use Rattle.digits.specs.declared.Hex.the-variants as hex
-use Rattle.script.specs.declared.Verb.the-variants.{Allocate, Confirmed, SendPacingResponse, SendData, Receive}
+use Rattle.control.specs.declared.Deferred.the-variants.{Turn, End}
+use Rattle.script.specs.declared.Verb.the-variants.{Allocate, Confirmed, SendPacingResponse, SendData, Defer, Withdraw, Receive}
 use Rattle.script.specs.Closing.{flush, confirm, prepareToReceive, deallocate}
 use Rattle.script.specs.declared.Request.{Request}
 use Rattle.script.specs.declared.Request.the-variants.{Call, Take, Offer}
@@ -57,6 +58,12 @@ wordRows =
     ∷ (0x65 ∷ 0x6E ∷ 0x64 ∷ [], Call (deallocate false))
     -- end confirm
     ∷ (0x65 ∷ 0x6E ∷ 0x64 ∷ 0x20 ∷ 0x63 ∷ 0x6F ∷ 0x6E ∷ 0x66 ∷ 0x69 ∷ 0x72 ∷ 0x6D ∷ [], Call (deallocate true))
+    -- prepare turn
+    ∷ (0x70 ∷ 0x72 ∷ 0x65 ∷ 0x70 ∷ 0x61 ∷ 0x72 ∷ 0x65 ∷ 0x20 ∷ 0x74 ∷ 0x75 ∷ 0x72 ∷ 0x6E ∷ [], Call (Defer Turn))
+    -- prepare end
+    ∷ (0x70 ∷ 0x72 ∷ 0x65 ∷ 0x70 ∷ 0x61 ∷ 0x72 ∷ 0x65 ∷ 0x20 ∷ 0x65 ∷ 0x6E ∷ 0x64 ∷ [], Call (Defer End))
+    -- withdraw
+    ∷ (0x77 ∷ 0x69 ∷ 0x74 ∷ 0x68 ∷ 0x64 ∷ 0x72 ∷ 0x61 ∷ 0x77 ∷ [], Call Withdraw)
     -- take
     ∷ (0x74 ∷ 0x61 ∷ 0x6B ∷ 0x65 ∷ [], Take)
     -- pace

@@ -5,6 +5,7 @@ pub mod text;
 mod text_parts;
 mod words_asked;
 
+use control::Deferred;
 use header::Follows;
 
 // A call that an end answers by itself. Bytes given, and the buffer of a read, stand beside it.
@@ -16,6 +17,9 @@ pub enum Verb {
     SendData,
     // What follows, and whether confirmation is asked. Document 01: flush, confirm, turn and end.
     Close(Follows, bool),
+    // Document 02: prepare a turn or an end, and withdraw it.
+    Defer(Deferred),
+    Withdraw,
     // Document 01: read.
     Receive,
 }

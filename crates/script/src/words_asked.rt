@@ -4,6 +4,7 @@ use crate::Parsed;
 use crate::Request;
 use crate::Verb;
 use cells::same;
+use control::Deferred;
 use digits::Hex;
 use digits::Number;
 use digits::decimal_read::number;
@@ -27,7 +28,7 @@ fn plain(second: bool, request: Request, count: usize) -> Parsed
     })
 }
 
-// The words that stand alone, in three parts: rows 0 to 3, 4 to 7 and 8 to 10.
+// The words that stand alone, in four parts: rows 0 to 3, 4 to 7, 8 to 10 and 11 to 13.
 pub(crate) fn words_alone(second: bool, words: &[u8]) -> Parsed
     ensures { λ r. ⌜ r ≡ rowOf second (now (words .entry)) wordRows ⌝ }
 {
@@ -77,11 +78,26 @@ fn turn_or_end(second: bool, words: &[u8]) -> Parsed
             0,
         );
     }
+    prepare_or_withdraw(second, words)
+}
+
+fn prepare_or_withdraw(second: bool, words: &[u8]) -> Parsed
+    ensures { λ r. ⌜ r ≡ rowOf second (now (words .entry)) (drop 8 wordRows) ⌝ }
+{
+    if same(words, b"prepare turn") {
+        return plain(second, Request::Call(Verb::Defer(Deferred::Turn)), 0);
+    }
+    if same(words, b"prepare end") {
+        return plain(second, Request::Call(Verb::Defer(Deferred::End)), 0);
+    }
+    if same(words, b"withdraw") {
+        return plain(second, Request::Call(Verb::Withdraw), 0);
+    }
     take_pace_send(second, words)
 }
 
 fn take_pace_send(second: bool, words: &[u8]) -> Parsed
-    ensures { λ r. ⌜ r ≡ rowOf second (now (words .entry)) (drop 8 wordRows) ⌝ }
+    ensures { λ r. ⌜ r ≡ rowOf second (now (words .entry)) (drop 11 wordRows) ⌝ }
 {
     if same(words, b"take") {
         return plain(second, Request::Take, 0);

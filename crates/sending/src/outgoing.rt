@@ -2,7 +2,7 @@
 // has come.
 use crate::Sending;
 use control::Control;
-use control::state_tests::is_send;
+use control::state_tests::holds_send;
 use header::ChainEnd;
 use logical_record::Position;
 use logical_record::Walked;
@@ -22,12 +22,13 @@ ghost use Rattle.logical_record.specs.Walk.{placeOr};
 ghost use Rattle.unit.specs.Ru.{marks};
 ghost use Rattle.sending.specs.Sending.{heldGood, sendingGood, freshSending, requestMade, creditAnswered};
 
-// Send-held is 0 to M, at least 1 while the sending chain is open, and 0 outside Send.
+// Send-held is 0 to M, at least 1 while the sending chain is open, and 0 outside Send and
+// Defer.
 fn held_good(c: Control, s: Sending) -> bool
     ensures { λ r. ⌜ r ≡ heldGood c s ⌝ }
 {
     let state = c.state;
-    (s.held <= s.max) & ((!c.outchain | (1 <= s.held)) & (is_send(state) | (s.held == 0)))
+    (s.held <= s.max) & ((!c.outchain | (1 <= s.held)) & (holds_send(state) | (s.held == 0)))
 }
 
 pub fn sending_good(c: Control, s: Sending) -> bool

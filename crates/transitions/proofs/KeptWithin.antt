@@ -8,14 +8,17 @@ use Rattle.bools.proofs.Finite.{at-bool, bools, pairs}
 use Rattle.header.proofs.FiniteHeader.{follows, ends}
 use Rattle.header.specs.declared.Follows.{Follows}
 use Rattle.header.specs.declared.ChainEnd.{ChainEnd}
-use Rattle.control.specs.StateTests.{isSend, isNothing}
-use Rattle.control.specs.Questions.{mayAllocate, maySend, mayConfirm, positiveResponseFits, negativeResponseFits, confirmationFits}
+use Rattle.control.specs.StateTests.{isDefer, holdsSend, isNothing}
+use Rattle.control.specs.Questions.{mayAllocate, maySend, mayWithdraw, mayConfirm, positiveResponseFits, negativeResponseFits, confirmationFits}
 use Rattle.control.specs.Within.{controlGood}
 use Rattle.control.specs.declared.Role.{Role}
 use Rattle.control.specs.declared.Control.{Control}
+use Rattle.control.specs.declared.Deferred.{Deferred}
+use Rattle.control.specs.declared.Deferred.the-variants as deferral
 use Rattle.control.proofs.FiniteControl.{roles, controls}
 use Rattle.control.proofs.Within.{heldFits, within}
-use Rattle.transitions.specs.Transitions.{fresh, allocated, spilled, closed, confirmationMade, markAnswered, dataReceived, bidReceived, positiveResponseReceived, negativeResponseReceived, confirmationReceived}
+use Rattle.transitions.specs.Transitions.{fresh, allocated, spilled, deferred, withdrawn, closed, confirmationMade, markAnswered, dataReceived}
+use Rattle.transitions.specs.Transitions.{bidReceived, positiveResponseReceived, negativeResponseReceived, confirmationReceived}
 
 abbrev implies : Bool → Bool → Bool
 implies a b = cond a b true
@@ -115,9 +118,30 @@ pub confirmation-keeps :
     (c : Control) (some none : Bool) → confirmationFits c ≡ true → within c some none ≡ true → within (confirmationReceived c) some none ≡ true
 confirmation-keeps = kept confirmationFits confirmationReceived confirmation-checked
 
--- data comes only outside Send
+-- what is prepared is in Defer
+pub deferred-defers : (d : Deferred) (c : Control) → isDefer (deferred d c .state) ≡ true
+unfolding deferred
+deferred-defers deferral.Turn c = refl
+deferred-defers deferral.End c = refl
+
+deferred-checked : (d : Deferred) → keeps maySend (deferred d) ≡ true
+unfolding keeps controlGood deferred
+deferred-checked deferral.Turn = refl
+deferred-checked deferral.End = refl
+
+pub deferred-keeps : (d : Deferred) (c : Control) (some none : Bool) → maySend c ≡ true → within c some none ≡ true → within (deferred d c) some none ≡ true
+deferred-keeps d = kept maySend (deferred d) (deferred-checked d)
+
+withdrawn-checked : keeps mayWithdraw withdrawn ≡ true
+unfolding keeps controlGood withdrawn
+withdrawn-checked = refl
+
+pub withdrawn-keeps : (c : Control) (some none : Bool) → mayWithdraw c ≡ true → within c some none ≡ true → within (withdrawn c) some none ≡ true
+withdrawn-keeps = kept mayWithdraw withdrawn withdrawn-checked
+
+-- data comes only outside Send and Defer
 abbrev pub notSending : Control → Bool
-notSending c = not (isSend (c .state))
+notSending c = not (holdsSend (c .state))
 
 data-checked : (e : ChainEnd) → keeps notSending (dataReceived e) ≡ true
 unfolding keeps controlGood dataReceived
@@ -146,12 +170,15 @@ pub spilled-leaves : (c : Control) → maySend c ≡ true → controlGood c ≡ 
 spilled-leaves = left-so maySend spilled true false spilled-checked
 
 -- after a last unit none is held
-closed-checked : (f : Follows) (b : Bool) → leaves maySend (closed f b) false true ≡ true
-unfolding leaves controlGood closed
-closed-checked f b = pairs follows bools .at (λ p. leaves maySend (closed (p .0) (p .1)) false true) refl (f, b)
+abbrev holding : Control → Bool
+holding c = holdsSend (c .state)
 
-pub closed-leaves : (f : Follows) (b : Bool) (c : Control) → maySend c ≡ true → controlGood c ≡ true → within (closed f b c) false true ≡ true
-closed-leaves f b = left-so maySend (closed f b) false true (closed-checked f b)
+closed-checked : (f : Follows) (b : Bool) → leaves holding (closed f b) false true ≡ true
+unfolding leaves controlGood closed
+closed-checked f b = pairs follows bools .at (λ p. leaves holding (closed (p .0) (p .1)) false true) refl (f, b)
+
+pub closed-leaves : (f : Follows) (b : Bool) (c : Control) → holdsSend (c .state) ≡ true → controlGood c ≡ true → within (closed f b c) false true ≡ true
+closed-leaves f b = left-so holding (closed f b) false true (closed-checked f b)
 
 -- as opened none is held
 pub fresh-within : (r : Role) → within (fresh r) false true ≡ true

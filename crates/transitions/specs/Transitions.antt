@@ -14,7 +14,9 @@ use Rattle.control.specs.FieldChanged.{setState, setFollows, setMark, setDue, s
 use Rattle.control.specs.StateTests.{isFirstSpeaker, isReset}
 use Rattle.control.specs.declared.Role.{Role}
 use Rattle.control.specs.declared.State.{State}
-use Rattle.control.specs.declared.State.the-variants.{Reset, Send, Receive, ConfirmOwed, ConfirmAwaited}
+use Rattle.control.specs.declared.State.the-variants.{Reset, Send, Receive, ConfirmOwed, ConfirmAwaited, DeferTurn, DeferEnd}
+use Rattle.control.specs.declared.Deferred.{Deferred}
+use Rattle.control.specs.declared.Deferred.the-variants as deferral
 use Rattle.control.specs.declared.WhatReceived.{WhatReceived}
 use Rattle.control.specs.declared.WhatReceived.the-variants as mark
 use Rattle.control.specs.declared.Control.{Control}
@@ -50,6 +52,33 @@ afterLast EndBracket = Reset
 unfoldable pub closed : Follows → Bool → Control → Control
 closed f confirm c =
     setOutchain false (setDue false (cond confirm (setState ConfirmAwaited (setFollows f c)) (setState (afterLast f) c)))
+
+-- prepare: the turn or end is noted, and no more
+abbrev pub deferring : Deferred → State
+deferring deferral.Turn = DeferTurn
+deferring deferral.End = DeferEnd
+
+unfoldable pub deferred : Deferred → Control → Control
+deferred d c = setState (deferring d) c
+
+-- withdraw: the note is dropped and Send is back
+unfoldable pub withdrawn : Control → Control
+withdrawn c = setState Send c
+
+-- what the last unit of a closing call says to follow. Flush and confirm, which say nothing of it, carry out what is prepared
+abbrev pub prepared : State → Follows
+prepared Reset = Stay
+prepared Send = Stay
+prepared Receive = Stay
+prepared ConfirmOwed = Stay
+prepared ConfirmAwaited = Stay
+prepared DeferTurn = ChangeDirection
+prepared DeferEnd = EndBracket
+
+abbrev pub carriedOut : Follows → Control → Follows
+carriedOut Stay c = prepared (c .state)
+carriedOut ChangeDirection c = ChangeDirection
+carriedOut EndBracket c = EndBracket
 
 -- confirmed: stay gives Receive, turn gives Send, end gives Reset
 abbrev pub afterOwed : Follows → State

@@ -1,5 +1,6 @@
 // Every transition of the finite part.
 use control::Control;
+use control::Deferred;
 use control::Role;
 use control::State;
 use control::WhatReceived;
@@ -13,6 +14,7 @@ ghost use mathlib.Core.Path.{_≡_};
 ghost use mathlib.Core.Bool.{cond};
 ghost use Rattle.transitions.specs.Transitions.{fresh, allocated, beginOf, spilled, afterLast, closed, afterOwed, confirmationMade};
 ghost use Rattle.transitions.specs.Transitions.{afterMark, markAnswered, markOfLast, markOf, dataReceived, bidReceived, bidAnswer};
+ghost use Rattle.transitions.specs.Transitions.{deferring, deferred, withdrawn, prepared, carriedOut};
 ghost use Rattle.transitions.specs.Transitions.{positiveResponseReceived, negativeResponseReceived, confirmationReceived};
 
 fn choose(ok: bool, a: Control, b: Control) -> Control
@@ -127,6 +129,55 @@ pub fn closed(c: Control, follows: Follows, confirm: bool) -> Control
     let state = after_last(follows);
     let next = choose(confirm, waiting, c.with_state(state));
     next.with_due(false).with_outchain(false)
+}
+
+fn deferring(what: Deferred) -> State
+    ensures { λ r. ⌜ r ≡ deferring what ⌝ }
+{
+    match what {
+        Deferred::Turn => State::DeferTurn,
+        Deferred::End => State::DeferEnd,
+    }
+}
+
+// A turn or an end is prepared: it is noted, and no more.
+pub fn deferred(c: Control, what: Deferred) -> Control
+    ensures { λ r. ⌜ r ≡ deferred what c ⌝ }
+{
+    c.with_state(deferring(what))
+}
+
+// What was prepared is withdrawn.
+pub fn withdrawn(c: Control) -> Control
+    ensures { λ r. ⌜ r ≡ withdrawn c ⌝ }
+{
+    c.with_state(State::Send)
+}
+
+fn prepared(s: State) -> Follows
+    ensures { λ r. ⌜ r ≡ prepared s ⌝ }
+{
+    match s {
+        State::Reset => Follows::Stay,
+        State::Send => Follows::Stay,
+        State::Receive => Follows::Stay,
+        State::ConfirmOwed => Follows::Stay,
+        State::ConfirmAwaited => Follows::Stay,
+        State::DeferTurn => Follows::ChangeDirection,
+        State::DeferEnd => Follows::EndBracket,
+    }
+}
+
+// What the last unit of a closing call says to follow: flush and confirm, which say nothing of it, carry out what is prepared.
+pub fn carried_out(c: Control, follows: Follows) -> Follows
+    ensures { λ r. ⌜ r ≡ carriedOut follows c ⌝ }
+{
+    let state = c.state;
+    match follows {
+        Follows::Stay => prepared(state),
+        Follows::ChangeDirection => Follows::ChangeDirection,
+        Follows::EndBracket => Follows::EndBracket,
+    }
 }
 
 // The confirmation that was owed has gone out.

@@ -6,7 +6,8 @@ use mathlib.Core.Path.{_≡_, refl}
 use mathlib.Core.Bool.{false}
 use mathlib.Core.List.{List, [], _∷_}
 use Rattle.control.specs.declared.State.{State}
-use Rattle.control.specs.declared.State.the-variants.{Reset, Send, Receive, ConfirmOwed, ConfirmAwaited}
+use Rattle.control.specs.declared.State.the-variants.{Reset, Send, Receive, ConfirmOwed, ConfirmAwaited, DeferTurn, DeferEnd}
+use Rattle.control.specs.declared.Deferred.the-variants as deferral
 use Rattle.answers.specs.declared.Answer.{Answer}
 use Rattle.calls.specs.Calls as J
 use Rattle.joined.specs.Ends.{normal, takes, onNormal}
@@ -54,6 +55,13 @@ owes =
 -- a first speaker in Waits, for a confirmation of number 1
 abbrev pub waits : Station
 waits = after sending (Verb.sendData shortestRecord ∷ J.confirm ∷ [])
+
+-- a first speaker in Defer: a turn is prepared, and an end
+abbrev pub defersTurn : Station
+defersTurn = after sending (Verb.defer deferral.Turn ∷ [])
+
+abbrev pub defersEnd : Station
+defersEnd = after sending (Verb.defer deferral.End ∷ [])
 
 -- a bidder that has taken a unit with CD and has not read it: the mark is turn
 abbrev pub marked : Station
@@ -116,10 +124,14 @@ pub record Breaches : Type 0 where
       × (stateOf receiving ≡ Receive)
       × (stateOf owes ≡ ConfirmOwed)
       × (stateOf waits ≡ ConfirmAwaited)
+      × (stateOf defersTurn ≡ DeferTurn)
+      × (stateOf defersEnd ≡ DeferEnd)
   pub data-in-reset : Refused (firstSpeaker 3 64) withoutBB 26 0x20040000
   pub data-in-send : Refused sending withoutBB 26 0x20040000
   pub data-in-owes : Refused owes secondUnit 26 0x20040000
   pub data-in-waits : Refused waits withoutBB 26 0x20040000
+  pub data-in-defer-turn : Refused defersTurn withoutBB 26 0x20040000
+  pub data-in-defer-end : Refused defersEnd withoutBB 26 0x20040000
   -- is every LL good, and at a mark nothing unfinished? (behind a part that says that another follows: Parts)
   pub length-1 : Refused receiving (0x00 ∷ 0x02 ∷ 0x03 ∷ 0x90 ∷ 0x00 ∷ 0x00 ∷ 0x01 ∷ []) 29 0
   pub unfinished-at-mark : Refused receiving (0x00 ∷ 0x02 ∷ 0x03 ∷ 0x90 ∷ 0x20 ∷ 0x00 ∷ 0x05 ∷ 0x41 ∷ []) 29 0
@@ -182,11 +194,13 @@ breached =
       bb-at-speaker = refl;
       bb-in-reset = refl;
       no-bb-in-reset = refl;
-      states = (refl, refl, refl, refl, refl);
+      states = (refl, refl, refl, refl, refl, refl, refl);
       data-in-reset = refl;
       data-in-send = refl;
       data-in-owes = refl;
       data-in-waits = refl;
+      data-in-defer-turn = refl;
+      data-in-defer-end = refl;
       length-1 = refl;
       unfinished-at-mark = refl;
       unfinished-without-mark = refl;

@@ -13,6 +13,7 @@ use Rattle.worked_examples.specs.Stations.{zeros, session, firstSpeaker,
 use Rattle.worked_examples.specs.Breaches.{Breaches, MarkFirst, breached, marked-first}
 use Rattle.worked_examples.specs.RulesNamed.{RulesNamed, rules-named}
 use Rattle.worked_examples.specs.Parts.{Parts, parts}
+use Rattle.worked_examples.specs.Prepared.{Prepared, all-prepared}
 use Rattle.calls.specs.Calls.{Station, Verb}
 
 -- ---- "Last sequence number sent and last taken, from 0; the number after 65,535 is 0."
@@ -152,6 +153,7 @@ pub record FurtherRows : Type 0 where
   pub mark-first : MarkFirst
   pub rules : RulesNamed
   pub parts : Parts
+  pub prepared : Prepared
 
 numbered : Numbers
 unfolding computed
@@ -237,4 +239,5 @@ further =
       mark-first = marked-first;
       rules = rules-named;
       parts = parts;
+      prepared = all-prepared;
     }

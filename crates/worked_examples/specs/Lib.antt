@@ -5,4 +5,5 @@ pub mod Breaches
 pub mod RulesNamed
 pub mod Conversations
 pub mod Parts
+pub mod Prepared
 pub mod Further

@@ -5,6 +5,7 @@ use mathlib.Core.Bool.{false≢true}
 use denote.Ref.{now}
 use Rattle.calls.specs.Calls.{called, makes, sends}
 use Rattle.bench.specs.CallMade.{stationOf}
+use Rattle.bench.proofs.CallLeaves.{deferred-left, withdrawn-left}
 use borrow.Author.Needs.{needs}
 use Rattle.bench.proofs.made_call.make.Statement.{statement}
 use Rattle.bench.proofs.made_call.make.Tie as tie
@@ -44,14 +45,31 @@ returns-5 c =
     rw (c .before .before .before .before .before .before .verb .given .1)
     (λ n inbox buffer. ap (makes (stationOf (a .end) (now (a .send)) (now (a .unit)) inbox)) (c .before .before .close .ensures))
 
+returns-6 : tie.Need-returns-6
+unfolding called
+returns-6 c =
+    let a = c .before .before .before .before .before .before .before .args in
+    rw (c .before .before .verb2 .given .1)
+    (λ n inbox buffer. deferred-left (stationOf (a .end) (now (a .send)) (now (a .unit)) inbox) _ (c .defer .result) buffer (c .defer .ensures))
+
+returns-7 : tie.Need-returns-7
+unfolding called
+returns-7 c =
+    let a = c .before .before .before .before .before .before .args in
+    rw (c .before .enum-told5 .given .1)
+    (λ n inbox buffer. withdrawn-left (stationOf (a .end) (now (a .send)) (now (a .unit)) inbox) (c .withdraw .result) buffer (c .withdraw .ensures))
+
 pub make-spec : {M : Type 1} → statement M
 make-spec =
     tie.close
     (tie.spec
     (search needs) (search needs) (search needs) (search needs) (search needs) (search needs) (search needs)
-    (search needs) (search needs) (search needs) (search needs) (search needs) (search needs) returns
+    (search needs) (search needs) (search needs) (search needs) (search needs) (search needs) (search needs)
+    (search needs) (search needs) (search needs) returns
     (search needs) returns-2
     (search needs) returns-3
     (search needs) (search needs) returns-4
     (search needs) (search needs) returns-5
-    (λ c. rw (c .before .enum-told5 .given .1) (λ n inbox buffer. absurd (false≢true (sym n)))))
+    returns-6
+    returns-7
+    (λ c. rw (c .before .enum-told6 .given .1) (λ n inbox buffer. absurd (false≢true (sym n)))))

@@ -9,7 +9,7 @@ use Rattle.end.specs.Requests.{dataHeader}
 use Rattle.end.specs.SendData.{heldBytes}
 use Rattle.end.specs.Outcome.{Out, cellsOut, doneOf}
 use Rattle.end.specs.Results.{madeBy}
-use Rattle.end.specs.Close.{closeDecision, close}
+use Rattle.end.specs.Close.{closing, closeDecision, close}
 use Rattle.end.proofs.DecisionCells.{stays, goes}
 use Rattle.end.proofs.UnitsMade.{close-makes, close-goes}
 use borrow.Author.Needs.{needs}
@@ -25,30 +25,30 @@ returns c = let a = c .before .before .before .before .before .args in
     let e = c .before .before .close-decision .ensures send refl in
     let said = ap (λ (y : Done). y .answer .unit) e in
     let m = close-makes (a .self) (a .follows) (a .confirm) send (length unit) in
-    let o = stays d (d .end .sending .number) (dataHeader (a .self) (Last (a .follows) (a .confirm))) (heldBytes (a .self) send) (length unit) m (sym said ∙ c .if1 .taken) in
+    let o = stays d (d .end .sending .number) (dataHeader (a .self) (Last (closing (a .self) (a .follows)) (a .confirm))) (heldBytes (a .self) send) (length unit) m (sym said ∙ c .if1 .taken) in
     rw e (sym (ap (λ (x : Out). madeBy (doneOf d) (cellsOut x unit)) o))
 
 send-held-requires : tie.Need-send-held-requires
-send-held-requires c κs = let a = c .before .before .before .before .before .before .before .args in
+send-held-requires c κs = let a = c .before .before .before .before .before .before .before .before .args in
     let send = now (a .send) in
     let unit = now (a .unit) in
     let d = closeDecision (a .self) (a .follows) (a .confirm) send (length unit) in
-    let e = c .before .before .before .before .close-decision .ensures send refl in
+    let e = c .before .before .before .before .before .close-decision .ensures send refl in
     let said = ap (λ (y : Done). y .answer .unit) e in
-    let r = close-goes (a .self) (a .follows) (a .confirm) send (length unit) (λ z. c .before .before .if1 .left (said ∙ z)) in
+    let r = close-goes (a .self) (a .follows) (a .confirm) send (length unit) (λ z. c .before .before .before .if1 .left (said ∙ z)) in
     (r .in-send, r .in-unit)
 
 returns-2 : tie.Need-returns-2
 unfolding close
-returns-2 c = let a = c .before .before .before .before .before .before .before .before .before .before .args in
+returns-2 c = let a = c .before .before .before .before .before .before .before .before .before .before .before .args in
     let send = now (a .send) in
     let unit = now (a .unit) in
     let d = closeDecision (a .self) (a .follows) (a .confirm) send (length unit) in
-    let e = c .before .before .before .before .before .before .before .close-decision .ensures send refl in
+    let e = c .before .before .before .before .before .before .before .before .close-decision .ensures send refl in
     let said = ap (λ (y : Done). y .answer .unit) e in
     let m = close-makes (a .self) (a .follows) (a .confirm) send (length unit) in
-    let o = goes d (d .end .sending .number) (dataHeader (a .self) (Last (a .follows) (a .confirm))) (heldBytes (a .self) send) (length unit) m (λ z. c .before .before .before .before .before .if1 .left (said ∙ z)) in
-    rw (c .before .before .send-held .ensures, c .before .before .before .before .data-header .ensures, e) (sym (ap (λ (x : Out). madeBy (doneOf d) (cellsOut x unit)) (o .0)))
+    let o = goes d (d .end .sending .number) (dataHeader (a .self) (Last (closing (a .self) (a .follows)) (a .confirm))) (heldBytes (a .self) send) (length unit) m (λ z. c .before .before .before .before .before .before .if1 .left (said ∙ z)) in
+    rw (c .before .before .send-held .ensures, c .before .before .before .before .data-header .ensures, c .before .before .before .before .before .carried-out .ensures, e) (sym (ap (λ (x : Out). madeBy (doneOf d) (cellsOut x unit)) (o .0)))
 
 pub close-spec : {M : Type 1} → statement M
-close-spec = tie.close (tie.spec (search needs) returns (search needs) send-held-requires (search needs) returns-2)
+close-spec = tie.close (tie.spec (search needs) returns (search needs) (search needs) send-held-requires (search needs) returns-2)

@@ -18,17 +18,19 @@ unfolding closeDecision
 returns-2 c = λ cells h. rw (
   c .accepted .ensures,
   h,
-  eq-eqb _ _ (sym (c .before .before .before .before .close-refusal .ensures) ∙ c .before .before .before .if1 .left),
+  eq-eqb _ _ (sym (c .before .before .before .before .before .close-refusal .ensures) ∙ c .before .before .before .before .if1 .left),
+  ← c .before .before .before .carried-out .ensures,
   sym (c .before .before .nothing-goes .ensures) ∙ c .before .if2 .taken,
 )
 
 returns-3 : tie.Need-returns-3
 unfolding closeDecision
 returns-3 c = λ cells h.
-    let a = c .before .before .before .before .before .args in
-    let r = close-room (a .self) (a .follows) (a .confirm) (a .send) (a .unit) (sym (c .before .before .before .before .close-refusal .ensures) ∙ c .before .before .before .if1 .left) in
-    rw (h, eq-eqb _ _ (sym (c .before .before .before .before .close-refusal .ensures) ∙ c .before .before .before .if1 .left), sym (c .before .before .nothing-goes .ensures) ∙ c .before .if2 .left)
+    let a = c .before .before .before .before .before .before .args in
+    let q = sym (c .before .before .before .before .before .close-refusal .ensures) ∙ c .before .before .before .before .if1 .left in
+    let r = close-room (a .self) (a .follows) (a .confirm) (a .send) (a .unit) q in
+    rw (h, eq-eqb _ _ q, ← c .before .before .before .carried-out .ensures, sym (c .before .before .nothing-goes .ensures) ∙ c .before .if2 .left)
     (c .last-decision .ensures cells (omega (arith, r .in-send, h)))
 
 pub close-decision-spec : {M : Type 1} → statement M
-close-decision-spec = tie.close (tie.spec (search needs) (search needs) returns (search needs) (search needs) returns-2 (search needs) returns-3)
+close-decision-spec = tie.close (tie.spec (search needs) (search needs) returns (search needs) (search needs) (search needs) returns-2 (search needs) returns-3)

@@ -12,4 +12,6 @@ state-of-spec =
     (λ c. search (eq-eqb, ne-eqb))
     (λ c. search (eq-eqb, ne-eqb))
     (λ c. search (eq-eqb, ne-eqb))
+    (λ c. search (eq-eqb, ne-eqb))
+    (λ c. search (eq-eqb, ne-eqb))
     (λ c. search ne-eqb))
