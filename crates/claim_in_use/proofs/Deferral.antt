@@ -7,12 +7,12 @@ use mathlib.Core.List.{_++_}
 use native.Mathlib.Omega.{arith}
 use Rattle.control.specs.declared.Deferred.the-variants as deferral
 use Rattle.joined.specs.Claim.{Claim, TheRecords}
-use Rattle.calls.specs.Calls.{Verb}
+use Rattle.calls.specs.Calls.{Verb, flush}
 use Rattle.calls.specs.DeferLaws.{Deferring}
 use Rattle.worked_examples.specs.Computed.{computed}
-use Rattle.worked_examples.specs.Stations.{aBid}
+use Rattle.worked_examples.specs.Stations.{zeros, aBid}
 use Rattle.claim_in_use.specs.Conversation.{speaker, bidder, lent, early, meanwhile, reply3}
-use Rattle.claim_in_use.specs.Deferral.{before, ready, sending, DeferralHappened, DeferralSaid, OneDeferral}
+use Rattle.claim_in_use.specs.Deferral.{before, prepared, ready, sending, DeferralHappened, DeferralSaid, OneDeferral}
 use Rattle.claim_in_use.proofs.Conversation.{asked}
 
 happened : DeferralHappened
@@ -48,6 +48,10 @@ module _ (claim : Claim) (records : TheRecords) (laws : Deferring) where
         end-alike = carried .end refl;
         cells-alike = carried .unit-buffer;
         bid-taken = laws .takes before deferral.Turn aBid refl;
+        read-alike = laws .reads before deferral.Turn (zeros 4) refl;
+        pace-alike = laws .paces before deferral.Turn refl;
+        flush-allowed = laws .allowed (prepared .one .end) flush refl refl;
+        take-allowed = laws .no-take (prepared .one .end) aBid;
         no-more-data = laws .only (ready .one .end) (Verb.sendData reply3) refl refl refl;
       }
 

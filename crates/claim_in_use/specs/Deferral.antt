@@ -5,6 +5,7 @@ use Prim.Native.Nat.{ℕ}
 use mathlib.Core.Path.{_≡_}
 use mathlib.Core.Bool.{true, false}
 use mathlib.Core.List.{List, [], _∷_}
+use lib.Dec.{eqb}
 use Rattle.logical_record.specs.Positions.{isWhole}
 use Rattle.logical_record.specs.declared.Position.the-variants.{Between}
 use Rattle.control.specs.StateTests.{isSend, holdsSend}
@@ -16,7 +17,7 @@ use Rattle.joined.specs.Ends.{normal, sameLane, acts, takes}
 use Rattle.joined.specs.Claim.{Pair}
 use Rattle.calls.specs.Calls.{Station, Verb, flush, prepareToReceive, refusalIn, called, taken}
 use Rattle.calls.specs.DeferLaws.{isOneOf, inDefer}
-use Rattle.worked_examples.specs.Stations.{aBid}
+use Rattle.worked_examples.specs.Stations.{zeros, aBid}
 use Rattle.claim_in_use.specs.Conversation.{ends, begun, early, meanwhile, reply3}
 
 -- the first speaker's end as the turn was about to be prepared
@@ -79,6 +80,12 @@ pub record DeferralSaid : Type 0 where
   pub cells-alike : called (ready .one .end) flush .end .unit ≡ called sending (prepareToReceive false) .end .unit
   -- the bid is taken as in Send, and the turn stays prepared
   pub bid-taken : taken (prepared .one .end) aBid ≡ inDefer deferral.Turn (taken before aBid)
+  -- so do a read, which finds nothing, and a pacing answer, which is not owed
+  pub read-alike : called (prepared .one .end) (Verb.receive (zeros 4)) ≡ inDefer deferral.Turn (called before (Verb.receive (zeros 4)))
+  pub pace-alike : called (prepared .one .end) Verb.sendPacingResponse ≡ inDefer deferral.Turn (called before Verb.sendPacingResponse)
+  -- neither the flush that finds no credit nor the take of the bid is refused with 7
+  pub flush-allowed : eqb (refusalIn (called (prepared .one .end) flush .answer)) 7 ≡ false
+  pub take-allowed : eqb (refusalIn (taken (prepared .one .end) aBid .answer)) 7 ≡ false
   -- more data is refused with 7
   pub no-more-data : refusalIn (called (ready .one .end) (Verb.sendData reply3) .answer) ≡ 7
 
