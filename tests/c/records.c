@@ -301,6 +301,17 @@ static void play_laboratory(struct session *session, const struct record_case *t
     stop_as(session, the->stop);
 }
 
+/* Starts a program at one end of a line of its own, and hands back the other end. */
+static int started(struct child *child, child_program *program, const struct options *options)
+{
+    int sockets[2];
+    if (socketpair(AF_UNIX, SOCK_STREAM, 0, sockets) < 0)
+        cannot("socketpair");
+    child_start(child, program, sockets[0], &sockets[1], 1, options);
+    (void)close(sockets[0]);
+    return sockets[1];
+}
+
 /* What the blender sends meanwhile is left on the line. A laboratory that is not to stay silent closes it. */
 static void run_case(const struct record_case *the)
 {
@@ -308,19 +319,15 @@ static void run_case(const struct record_case *the)
     static struct child child;
     bool closes = the->stop == STOP_END || the->stop == STOP_CLOSE || the->stop == STOP_FORGED_END;
     struct options options = {.limit_ms = closes ? LONG_LIMIT_MS : LIMIT_MS, .pause_ms = DEFAULT_PAUSE_MS};
-    int sockets[2];
-    if (socketpair(AF_UNIX, SOCK_STREAM, 0, sockets) < 0)
-        cannot("socketpair");
-    child_start(&child, blender, sockets[0], &sockets[1], 1, &options);
-    (void)close(sockets[0]);
-    if (!session_open_laboratory(&session, sockets[1], &options))
+    int line = started(&child, blender, &options);
+    if (!session_open_laboratory(&session, line, &options))
         exit(EXIT_FAILURE);
     play_laboratory(&session, the);
     if (closes)
-        (void)close(sockets[1]);
+        (void)close(line);
     child_wait(&child, PATIENCE_MS);
     if (!closes)
-        (void)close(sockets[1]);
+        (void)close(line);
     expect(child.status == EXIT_FAILURE, the->name, "the exit status is not 1", &child);
     expect(strcmp(child.out, the->out) == 0, the->name, "other figures than those sent", &child);
     expect(strcmp(child.err, the->err) == 0, the->name, "another message", &child);
@@ -370,22 +377,18 @@ static void the_turn_waits(bool paced)
     static struct child child;
     const char *name = paced ? "a late pacing response" : "no pacing response";
     struct options options = {.limit_ms = paced ? LONG_LIMIT_MS : LIMIT_MS, .pause_ms = DEFAULT_PAUSE_MS};
-    int sockets[2];
-    if (socketpair(AF_UNIX, SOCK_STREAM, 0, sockets) < 0)
-        cannot("socketpair");
-    child_start(&child, blender, sockets[0], &sockets[1], 1, &options);
-    (void)close(sockets[0]);
-    if (!session_open_laboratory(&session, sockets[1], &options))
+    int line = started(&child, blender, &options);
+    if (!session_open_laboratory(&session, line, &options))
         exit(EXIT_FAILURE);
     bool waited = hears(&session, BLENDER_WINDOW, 0, 0), went = !paced;
     if (paced) {
         pace(&session);
         went = hears(&session, 1, 1, 1) && lu62_end_state(&session.end) == LU62_SEND;
-        (void)close(sockets[1]);
+        (void)close(line);
     }
     child_wait(&child, PATIENCE_MS);
     if (!paced)
-        (void)close(sockets[1]);
+        (void)close(line);
     expect(waited, name, "the turn did not wait for it", &child);
     expect(went, name, "the turn did not go with the query, or not once", &child);
     expect(child.status == EXIT_FAILURE && child.out[0] == '\0', name, "the exit status is not 1, or something was printed", &child);
@@ -399,15 +402,11 @@ static void laboratory_waits(const char *name, const char *bytes, size_t length,
 {
     static struct child child;
     struct options options = {.limit_ms = LIMIT_MS, .pause_ms = DEFAULT_PAUSE_MS};
-    int sockets[2];
-    if (socketpair(AF_UNIX, SOCK_STREAM, 0, sockets) < 0)
-        cannot("socketpair");
-    child_start(&child, laboratory, sockets[0], &sockets[1], 1, &options);
-    (void)close(sockets[0]);
-    if (length > 0 && send(sockets[1], bytes, length, MSG_NOSIGNAL) != (ssize_t)length)
+    int line = started(&child, laboratory, &options);
+    if (length > 0 && send(line, bytes, length, MSG_NOSIGNAL) != (ssize_t)length)
         cannot("send");
     child_wait(&child, PATIENCE_MS);
-    (void)close(sockets[1]);
+    (void)close(line);
     expect(child.status == EXIT_FAILURE && child.out[0] == '\0', name, "the exit status is not 1, or something was printed", &child);
     expect(strcmp(child.err, says) == 0, name, "another message", &child);
 }
@@ -446,17 +445,13 @@ static void laboratory_answers(const struct query_case *the)
     static struct session session;
     static struct child child;
     struct options options = {.limit_ms = LONG_LIMIT_MS, .pause_ms = DEFAULT_PAUSE_MS};
-    int sockets[2];
-    if (socketpair(AF_UNIX, SOCK_STREAM, 0, sockets) < 0)
-        cannot("socketpair");
-    child_start(&child, laboratory, sockets[0], &sockets[1], 1, &options);
-    (void)close(sockets[0]);
-    if (!session_open_blender(&session, sockets[1], &options))
+    int line = started(&child, laboratory, &options);
+    if (!session_open_blender(&session, line, &options))
         exit(EXIT_FAILURE);
     if (come_to_ask(&session) && give(&session, &the->query))
         stop_as(&session, STOP_CLOSE);
     child_wait(&child, PATIENCE_MS);
-    (void)close(sockets[1]);
+    (void)close(line);
     expect(child.status == EXIT_FAILURE && child.out[0] == '\0', the->name, "the exit status is not 1, or something was printed", &child);
     expect(strcmp(child.err, the->says) == 0, the->name, "another message", &child);
 }
