@@ -1,10 +1,9 @@
 /* The blender: asks for the tables of its campaigns and prints the figures that it blends by. It is the bidder. A figure is printed
  * only from records that have been read to their end, as they have it. It is found by the column that the table names: by the part of
- * the row and the place in that part's record, never by what has come before it on the line. */
+ * the row and the place in that part's record, never by what has come before it on the line. A batch card, which revises a figure, is
+ * confirmed only if its figure can be; else the confirmation is refused, and the laboratory sends the card again. */
 #include "session.h"
 
-#include <errno.h>
-#include <stdarg.h>
 #include <stdio.h>
 #include <stdlib.h>
 #include <string.h>
@@ -17,8 +16,18 @@ enum {
     COLUMNS = sizeof column_names / sizeof column_names[0],
     LONGEST_VALUE = 10,
     MOST_REVISED = 8,
-    LONGEST_REVISED = 63
+    LONGEST_REVISED = 63,
+    /* How many cards may be refused in one conversation. */
+    MOST_REFUSED = 2
 };
+
+/* What a figure can be, by the column in which it stands. */
+static const struct figure {
+    const char *column;
+    double least, most;
+} figures[] = {{"viscosity", 1, 1000}, {"sulphur", 0, 5}};
+
+enum { FIGURES = sizeof figures / sizeof figures[0] };
 
 /* Where a column stands: in which part of a row, counted from 1, and where in the text of that part. */
 struct column {
@@ -53,21 +62,12 @@ struct blender {
     char revised[MOST_REVISED][LONGEST_REVISED + 1];
     size_t revised_count;
     bool revision_here;  /* this conversation of the laboratory's has brought its record */
+    bool card_wrong;     /* that record is a card that cannot be confirmed */
+    bool explaining;     /* its confirmation has been refused: the error header is to go, and then the turn */
+    size_t refused;      /* how many cards have been refused in this conversation */
     bool no_more_revised;
     bool done;
 };
-
-/* Prints, and sees that it has been written. */
-__attribute__((format(printf, 2, 3))) static bool print(struct blender *blender, const char *format, ...)
-{
-    va_list values;
-    va_start(values, format);
-    bool good = vprintf(format, values) >= 0;
-    va_end(values);
-    if (!good || fflush(stdout) != 0)
-        session_fail(&blender->session, "standard output cannot be written: %s", strerror(errno));
-    return !blender->session.failed;
-}
 
 /* A record that stands alone must not say that another part follows it. */
 static bool stands_alone(struct blender *blender)
@@ -146,7 +146,8 @@ static void take_columns(struct blender *blender)
             return;
         }
     if (goes_on_rightly(blender))
-        (void)print(blender, "campaign %s\n%-10s %10s %10s\n", campaigns[blender->campaign], "batch", "viscosity", "sulphur");
+        (void)session_print(&blender->session, "campaign %s\n%-10s %10s %10s\n", campaigns[blender->campaign], "batch", "viscosity",
+                            "sulphur");
 }
 
 /* One value out of the part that has come: a single word and the blanks that fill its column. */
@@ -210,7 +211,7 @@ static void take_part(struct blender *blender)
         if (table->columns[i].part == part && !take_value(blender, i))
             return;
     if (row_whole)
-        (void)print(blender, "%-10s %10s %10s\n", table->values[0], table->values[1], table->values[2]);
+        (void)session_print(&blender->session, "%-10s %10s %10s\n", table->values[0], table->values[1], table->values[2]);
 }
 
 /* A record of the answer to a query: the announcement, the part that names the columns, the parts of the rows. */
@@ -237,6 +238,34 @@ static void take_answer(struct blender *blender, uint8_t kind)
         session_fail(&blender->session, "it sends a record that is not expected here");
 }
 
+/* A figure in decimal digits, with a point or without. */
+static bool figure_number(struct text word, double *number)
+{
+    char digits[LONGEST_VALUE + 1];
+    char *end;
+    if (word.length == 0 || word.length > LONGEST_VALUE)
+        return false;
+    memcpy(digits, word.bytes, word.length);
+    digits[word.length] = '\0';
+    if (strspn(digits, "0123456789.") != word.length)
+        return false;
+    *number = strtod(digits, &end);
+    return *end == '\0' && end != digits;
+}
+
+/* Whether a card is a batch, a column and a figure that this column can have. */
+static bool card_can_be(struct text card)
+{
+    struct text batch, column, word, none;
+    double number;
+    if (!text_word(&card, &batch) || !text_word(&card, &column) || !text_word(&card, &word) || text_word(&card, &none))
+        return false;
+    for (size_t i = 0; i < FIGURES; i++)
+        if (text_is(column, figures[i].column))
+            return figure_number(word, &number) && number >= figures[i].least && number <= figures[i].most;
+    return false;
+}
+
 static void take_revised(struct blender *blender)
 {
     struct text text = record_text(&blender->session.record);
@@ -248,9 +277,12 @@ static void take_revised(struct blender *blender)
         session_fail(&blender->session, "it sends more than %d revised figures", MOST_REVISED);
         return;
     }
+    /* A card that is wrong is kept only to be named: the place is that of the next. */
     memcpy(blender->revised[blender->revised_count], text.bytes, text.length);
     blender->revised[blender->revised_count][text.length] = '\0';
-    blender->revised_count++;
+    blender->card_wrong = !card_can_be(text);
+    if (!blender->card_wrong)
+        blender->revised_count++;
 }
 
 static void take_last_revised(struct blender *blender)
@@ -309,13 +341,40 @@ static void end_revision(struct blender *blender)
     if (!blender->revision_here)
         session_fail(&blender->session, "it ends a conversation in which it has sent nothing");
     blender->revision_here = false;
+    blender->refused = 0;
+}
+
+/* The mark behind a card that is wrong: the confirmation that it asks for is refused. The conversation then goes on, whatever the mark
+ * says, and another card may come in it. */
+static void refuse_card(struct blender *blender, uint32_t mark)
+{
+    struct session *session = &blender->session;
+    const char *card = blender->revised[blender->revised_count];
+    if (mark == LU62_MARK_END) {
+        session_fail(session, "it sends the card %s, which cannot be, and does not ask for its confirmation", card);
+        return;
+    }
+    if (blender->refused == MOST_REFUSED) {
+        session_fail(session, "it sends the card %s, which cannot be, after %d others in one conversation", card, MOST_REFUSED);
+        return;
+    }
+    if (!session_print(session, "card not confirmed: %s cannot be\n", card) || session_deny(session) != LU62_ACCEPTED)
+        return;
+    blender->refused++;
+    blender->card_wrong = false;
+    blender->revision_here = false;
+    blender->explaining = true;
 }
 
 static void take_mark(struct blender *blender)
 {
     uint32_t mark = blender->session.end.answer.mark;
-    if (mark == LU62_MARK_TURN || mark == LU62_MARK_CONFIRM_TURN) {
+    if (mark == LU62_MARK_TURN || mark == LU62_MARK_CONFIRM_TURN || mark == LU62_MARK_ERROR) {
         session_fail(&blender->session, "it sends the mark %s, which is not expected here", lu62_mark_name(mark));
+        return;
+    }
+    if (blender->card_wrong) {
+        refuse_card(blender, mark);
         return;
     }
     /* The conversation that ends is the blender's own if its query has been given, else one with a revised figure. */
@@ -335,6 +394,20 @@ static bool give_turn(struct blender *blender)
         return false;
     blender->query.length = 0;
     blender->table.progress = ASKED;
+    return true;
+}
+
+/* After a confirmation has been refused: the error header goes, and then the turn, so that the laboratory can send the card again. Both
+ * go by flush, each when there is credit. */
+static bool explain(struct blender *blender)
+{
+    struct session *session = &blender->session;
+    bool turn_prepared = lu62_end_state(&session->end) == LU62_DEFER_TURN;
+    if (!turn_prepared && !lu62_end_error_due(&session->end))
+        return session_prepare_turn(session) == LU62_ACCEPTED;
+    if (session_flush(session) != LU62_ACCEPTED)
+        return false;
+    blender->explaining = !turn_prepared;
     return true;
 }
 
@@ -371,7 +444,7 @@ static bool step(void *program)
     }
     if (blender->session.failed)
         return moved;
-    moved |= ask(blender);
+    moved |= blender->explaining ? explain(blender) : ask(blender);
     blender->done =
         blender->campaign == CAMPAIGNS && blender->no_more_revised && lu62_end_state(&blender->session.end) == LU62_RESET;
     return moved;
@@ -379,9 +452,9 @@ static bool step(void *program)
 
 static bool print_revised(struct blender *blender)
 {
-    bool good = print(blender, "revised since\n");
+    bool good = session_print(&blender->session, "revised since\n");
     for (size_t i = 0; good && i < blender->revised_count; i++)
-        good = print(blender, "%s\n", blender->revised[i]);
+        good = session_print(&blender->session, "%s\n", blender->revised[i]);
     return good;
 }
 

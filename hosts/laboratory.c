@@ -1,4 +1,5 @@
-/* The laboratory: answers queries with tables of batches, and sends revised figures when it has them. It is the first speaker. */
+/* The laboratory: answers queries with tables of batches, and sends revised figures, each on a batch card, when it has them. It is the
+ * first speaker. A card that the blender does not confirm is sent again, once, corrected where it was miswritten. */
 #include "session.h"
 
 #include <stdio.h>
@@ -12,7 +13,9 @@ enum {
     VALUES_AT = 8,
     /* The table in which a fault is shown, and its part: the second of the third row. */
     MISBEHAVING_TABLE = 1,
-    MISBEHAVING_PART = 6
+    MISBEHAVING_PART = 6,
+    /* How often a card is sent at most. */
+    MOST_SENDINGS = 2
 };
 
 /* A column, and in which part of a row it stands, counted from 1. The columns of a part follow one another. */
@@ -69,14 +72,24 @@ static const struct table tables[] = {
      sizeof diesel / sizeof diesel[0]},
 };
 
-static const char *const revised[] = {"FU-3803 sulphur 0.491", "MA-0502 viscosity 181.9", "DI-1001 sulphur 0.00090"};
+/* A card with a revised figure, and how it is written first, where that is wrong. */
+static const struct card {
+    const char *text;
+    const char *miswritten;
+} cards[] = {
+    {"FU-3803 sulphur 0.491", NULL},
+    {"MA-0502 viscosity 181.9", "MA-0502 viscosity 1819"}, /* the point is missing */
+    {"DI-1001 sulphur 0.00090", NULL},
+};
 
-enum { REVISED = sizeof revised / sizeof revised[0] };
+enum { REVISED = sizeof cards / sizeof cards[0] };
 
 enum stage {
     IDLE,
     REVISION,       /* a revised figure is being given */
     REVISION_ENDED, /* the end has been asked for, with confirmation */
+    REFUSED,        /* the confirmation has been refused, and the error header is to come */
+    EXPLAINED,      /* the error header has come, and the turn is to come, to send the card again */
     ANNOUNCING,     /* the table's announcement is being given */
     ANNOUNCED,      /* its confirmation is awaited */
     PARTS,          /* the table's parts are being given */
@@ -93,15 +106,23 @@ struct laboratory {
     const struct table *table;
     size_t part; /* the table's part being given: 0 names the columns, then come the parts of the rows */
     size_t revisions_due; /* how many may have been sent by now, the last record included */
-    size_t revisions_sent;
+    size_t revisions_confirmed;
+    size_t sendings; /* how often the next has been sent */
     bool done;
 };
+
+/* The text of the card that is next, as it is written this time: rightly where it has been sent before. */
+static const char *card_text(const struct laboratory *lab)
+{
+    const struct card *card = &cards[lab->revisions_confirmed];
+    return lab->sendings == 0 && card->miswritten != NULL ? card->miswritten : card->text;
+}
 
 static bool set_revision(struct laboratory *lab)
 {
     char count[16];
-    if (lab->revisions_sent < REVISED)
-        return session_set(&lab->session, &lab->record, RECORD_REVISED, text_of(revised[lab->revisions_sent]), false);
+    if (lab->revisions_confirmed < REVISED)
+        return session_set(&lab->session, &lab->record, RECORD_REVISED, text_of(card_text(lab)), false);
     (void)snprintf(count, sizeof count, "%d", (int)REVISED);
     return session_set(&lab->session, &lab->record, RECORD_LAST_REVISED, text_of(count), false);
 }
@@ -250,6 +271,11 @@ static bool send_nonsense(struct laboratory *lab, const char *bytes, size_t leng
 static void take_query(struct laboratory *lab)
 {
     struct text text = record_text(&lab->session.record);
+    if (lab->stage == REFUSED || lab->stage == EXPLAINED) {
+        session_fail(&lab->session, "it does not confirm, and sends a record where it should %s",
+                     lab->stage == REFUSED ? "say why" : "give the turn");
+        return;
+    }
     if (record_kind(&lab->session.record) != RECORD_QUERY) {
         session_fail(&lab->session, "its record is no query");
         return;
@@ -270,14 +296,58 @@ static void take_query(struct laboratory *lab)
     session_fail(&lab->session, "it asks for a campaign that is not here");
 }
 
-/* The blender gives the turn after its query. */
+/* The text of the record that is being given or was given last, for a message. */
+static int given_text(const struct laboratory *lab, const char **text)
+{
+    *text = (const char *)lab->record.bytes + RECORD_TEXT_AT;
+    return (int)(lab->record.length - RECORD_TEXT_AT - RECORD_CHECK_DIGITS);
+}
+
+/* The mark behind a confirmation that has been refused must be that of the error header. It says that the partner's program has found
+ * something wrong, and no more: what is wrong the laboratory sees when it looks at the card. */
+static void take_cause(struct laboratory *lab, uint32_t mark)
+{
+    const char *text;
+    int length = given_text(lab, &text);
+    if (mark != LU62_MARK_ERROR) {
+        session_fail(&lab->session, "it sends the mark %s where it should say why it does not confirm", lu62_mark_name(mark));
+        return;
+    }
+    if (!session_print(&lab->session, "laboratory: not confirmed by the blender: %.*s; its error header says sense 08 89 00 00\n", length,
+                       text))
+        return;
+    if (lab->sendings == MOST_SENDINGS)
+        session_fail(&lab->session, "it does not confirm %.*s, which was sent %d times", length, text, MOST_SENDINGS);
+    lab->stage = EXPLAINED;
+}
+
+/* The turn has come back: the card goes once more. */
+static void send_again(struct laboratory *lab)
+{
+    const char *text;
+    if (!set_revision(lab))
+        return;
+    int length = given_text(lab, &text);
+    if (session_print(&lab->session, "laboratory: sent in its place: %.*s\n", length, text))
+        lab->stage = REVISION;
+}
+
+/* The blender gives the turn after its query, or after it has said why it does not confirm a card. */
 static void take_mark(struct laboratory *lab)
 {
     uint32_t mark = lab->session.end.answer.mark;
+    if (lab->stage == REFUSED) {
+        take_cause(lab, mark);
+        return;
+    }
     if (mark == LU62_MARK_CONFIRM_TURN)
         (void)session_confirmed(&lab->session);
     else if (mark != LU62_MARK_TURN) {
         session_fail(&lab->session, "it sends the mark %s where it should give the turn", lu62_mark_name(mark));
+        return;
+    }
+    if (lab->stage == EXPLAINED) {
+        send_again(lab);
         return;
     }
     if (lab->table == NULL) {
@@ -290,7 +360,7 @@ static void take_mark(struct laboratory *lab)
 
 static bool begin_revision(struct laboratory *lab)
 {
-    if (lab->revisions_sent >= lab->revisions_due || session_allocate(&lab->session) != LU62_ACCEPTED)
+    if (lab->revisions_confirmed >= lab->revisions_due || session_allocate(&lab->session) != LU62_ACCEPTED)
         return false;
     lab->stage = REVISION;
     return set_revision(lab);
@@ -337,15 +407,31 @@ static bool leave(struct laboratory *lab)
     return true;
 }
 
+/* A confirmation has been refused. What was to follow it does not. A card may be sent again; a table and its announcement are as the
+ * laboratory has them. */
+static bool take_refusal(struct laboratory *lab)
+{
+    lab->session.unconfirmed = false;
+    if (lab->stage == ANNOUNCED || lab->stage == TABLE_ENDED)
+        session_fail(&lab->session, "it does not confirm %s", lab->stage == ANNOUNCED ? "that its table was announced" : "its table");
+    lab->stage = REFUSED;
+    return true;
+}
+
 /* Leaves a conversation that is over. The state tells that the confirmation has come; it may already be that of the next
  * conversation, since confirmation and bid can be taken together. */
 static bool settle(struct laboratory *lab)
 {
     bool ended = lab->stage == REVISION_ENDED || lab->stage == TABLE_ENDED;
+    if (lab->session.unconfirmed)
+        return take_refusal(lab);
     if (!ended || lu62_end_state(&lab->session.end) == LU62_CONFIRM_AWAITED)
         return false;
     if (lab->stage == TABLE_ENDED)
         lab->revisions_due++;
+    else
+        lab->revisions_confirmed++;
+    lab->sendings = 0;
     lab->table = NULL;
     lab->stage = IDLE;
     return true;
@@ -374,7 +460,7 @@ static bool speak(struct laboratory *lab)
     case REVISION:
         if (!session_give(session, &lab->record) || session_end(session, true) != LU62_ACCEPTED)
             return false;
-        lab->revisions_sent++;
+        lab->sendings++;
         lab->stage = REVISION_ENDED;
         return true;
     case ANNOUNCING:
@@ -395,6 +481,8 @@ static bool speak(struct laboratory *lab)
     case TABLE:
         return end_table(lab);
     case REVISION_ENDED:
+    case REFUSED:
+    case EXPLAINED:
     case TABLE_ENDED:
         return false;
     }
@@ -440,7 +528,7 @@ int laboratory(int socket, const struct options *options)
      * under way, crosses its first unit. */
     (void)begin_revision(&lab);
     bool good = session_run(&lab.session, step, &lab, &lab.done);
-    if (good && lab.fault == FAULT_NONE && lab.revisions_sent <= REVISED) {
+    if (good && lab.fault == FAULT_NONE && lab.revisions_confirmed <= REVISED) {
         session_fail(&lab.session, "it has gone before it had everything");
         good = false;
     }

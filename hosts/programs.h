@@ -7,8 +7,11 @@
  *      offset in that part's text, and width of each
  *   R  laboratory, the other parts of a table: one part of a row; the text is the row's number and the part's, both counted from 1,
  *      and the values of that part, each in its column
- *   N  laboratory: a figure that has been revised
+ *   N  laboratory: a batch card, which revises a figure; the text is the batch, the column and the figure
  *   Z  laboratory: there will be no more revised figures; the text is how many there were
+ *
+ * The laboratory asks for the confirmation of each N and Z. The blender does not confirm a card whose figure cannot be: it refuses, sends
+ * the error header and gives the turn, and the laboratory sends the card again, corrected.
  *
  * A table is one H and, row by row, all parts of its rows. Each part but the last has the top bit of LL on; the last has it off. Every
  * other record stands alone and has it off. So of each record it is known what the bit must be, and no check needs to cover it.

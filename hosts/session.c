@@ -2,6 +2,7 @@
 
 #include "clock.h"
 
+#include <errno.h>
 #include <inttypes.h>
 #include <stdarg.h>
 #include <stdio.h>
@@ -26,6 +27,17 @@ void session_fail(struct session *session, const char *format, ...)
     /* Where the text cannot be made, its format says most of it. No text is longer than the room for it; if one were, it would be
      * cut. */
     tell(session, length < 0 ? format : what);
+}
+
+bool session_print(struct session *session, const char *format, ...)
+{
+    va_list values;
+    va_start(values, format);
+    bool good = vprintf(format, values) >= 0;
+    va_end(values);
+    if (!good || fflush(stdout) != 0)
+        session_fail(session, "standard output cannot be written: %s", strerror(errno));
+    return !session->failed;
 }
 
 void session_refused(struct session *session, const char *what, const struct lu62_answer *answer)
@@ -76,8 +88,8 @@ bool session_open_blender(struct session *session, int socket, const struct opti
 }
 
 /* Notes that the conversation got on: bytes were given or read, or the turn or the end was given or read. Bids, their refusals
- * and pacing responses are not that, nor is a confirmation asked for again and again: they could go round for ever. Nor is a turn that
- * is only prepared: nothing of it has gone. */
+ * and pacing responses are not that, nor is a confirmation asked for or refused again and again: they could go round for ever. Nor is
+ * a turn that is only prepared: nothing of it has gone. */
 static void got_on(struct session *session)
 {
     session->moved_at = clock_ms();
@@ -134,7 +146,7 @@ static uint32_t sent(struct session *session, const char *purpose, uint32_t call
 
 uint32_t session_flush(struct session *session)
 {
-    return sent(session, "send what was given", lu62_end_flush);
+    return sent(session, lu62_end_error_due(&session->end) ? "send the error header" : "send what was given", lu62_end_flush);
 }
 
 uint32_t session_confirm(struct session *session)
@@ -155,6 +167,11 @@ uint32_t session_end(struct session *session, bool confirm)
 uint32_t session_confirmed(struct session *session)
 {
     return carried(session, "confirm", lu62_end_confirmed(&session->end));
+}
+
+uint32_t session_deny(struct session *session)
+{
+    return carried(session, "refuse a confirmation", lu62_end_send_error(&session->end));
 }
 
 /* Kind and text, which stand between LL and the check. */
@@ -242,7 +259,7 @@ enum reading session_read(struct session *session)
         session_refused(session, "a read was refused", &session->end.answer);
         return READ_NOTHING;
     }
-    if (session->end.answer.mark != LU62_MARK_CONFIRM)
+    if (session->end.answer.mark != LU62_MARK_CONFIRM && session->end.answer.mark != LU62_MARK_ERROR)
         got_on(session);
     return session->end.answer.mark != LU62_MARK_NONE ? READ_MARK : joined(session, piece, session->end.answer.copied);
 }
@@ -263,13 +280,20 @@ static bool is_confirmation(const uint8_t *unit, size_t length)
     return length == LU62_UNIT(0) && unit[2] == 0x83 && unit[3] == 0x20;
 }
 
-/* What the unit just taken says of bids: it may hold a bid that this end refuses, or the refusal of this end's own. */
-static void note_bids(struct session *session, bool bid_before)
+/* Whether a unit that has been taken refuses to confirm: no other has this byte. */
+static bool is_refusal_to_confirm(const uint8_t *unit)
+{
+    return unit[2] == 0x87;
+}
+
+/* What the unit just taken says of bids: it may hold a bid that this end refuses, or the refusal of this end's own, which leaves the
+ * state as it was: also Send, where this end has refused a confirmation before the refusal of its bid came. */
+static void note_bids(struct session *session, bool bid_before, uint32_t state_before)
 {
     /* The only units that a take makes are answers to a bid; a bid refused has the longer one. */
     if (session->end.answer.unit > LU62_UNIT(1))
         session->bids_refused++;
-    if (bid_before && !lu62_end_bid_pending(&session->end) && lu62_end_state(&session->end) != LU62_SEND) {
+    if (bid_before && !lu62_end_bid_pending(&session->end) && lu62_end_state(&session->end) == state_before) {
         session->bids_in_vain++;
         session->bid_from = clock_ms() + session->pause_ms;
     }
@@ -288,6 +312,7 @@ static bool take_unit(struct session *session)
         return true;
     }
     bool bid_before = lu62_end_bid_pending(&session->end);
+    uint32_t state_before = lu62_end_state(&session->end);
     uint32_t refusal = lu62_end_receive_unit(&session->end, unit, length);
     /* The unit waits on the line until the mark before it has been read. */
     if (refusal == LU62_UNREAD_MARK)
@@ -298,7 +323,8 @@ static bool take_unit(struct session *session)
         return false;
     }
     session->units_taken++;
-    note_bids(session, bid_before);
+    note_bids(session, bid_before, state_before);
+    session->unconfirmed |= is_refusal_to_confirm(unit);
     line_drop(&session->line);
     put_unit(session);
     return true;

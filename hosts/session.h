@@ -51,6 +51,7 @@ struct session {
     int64_t bid_from;          /* when the next bid may be made */
     unsigned long bids_in_vain; /* bids of this end refused since the conversation last got on */
     bool lose_confirmation;    /* a fault to be shown: the next confirmation is lost on the line */
+    bool unconfirmed;          /* the partner has refused to confirm; the program that asked puts it off again */
     /* Counts for --counts. */
     unsigned long units_made, units_taken, bids_refused, waits_for_credit, pacing_responses;
     struct lu62_end end;
@@ -71,6 +72,9 @@ uint32_t session_flush(struct session *session);
 uint32_t session_confirm(struct session *session);
 uint32_t session_end(struct session *session, bool confirm);
 uint32_t session_confirmed(struct session *session);
+
+/* Refuses the confirmation that is owed, document 02's way to say that a batch card is wrong. Flush must then send the error header. */
+uint32_t session_deny(struct session *session);
 
 /* Prepares the turn: nothing goes yet. Flush or confirm then gives it, without or with confirmation. Refused as the calls above. */
 uint32_t session_prepare_turn(struct session *session);
@@ -96,6 +100,9 @@ typedef bool session_step(void *program);
 /* Runs a program until `*done`, until a fault, until the partner closes the line, or until nothing has got on for the time limit.
  * True if there was no fault. */
 bool session_run(struct session *session, session_step *step, void *program, const bool *done);
+
+/* Prints to standard output, and sees that it has been written; if not, the conversation is ended with a message. */
+__attribute__((format(printf, 2, 3))) bool session_print(struct session *session, const char *format, ...);
 
 /* Ends the conversation for a fault and says what it was. Only the first fault of a session is told. */
 __attribute__((format(printf, 2, 3))) void session_fail(struct session *session, const char *format, ...);

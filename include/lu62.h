@@ -43,12 +43,13 @@ extern "C" {
 /* The version of this interface, and of archive and crate that belong to it; and an image's first byte, which is raised with each
  * change of what an image holds. An image kept by a library of another format is refused, and not misread: with BAD_BUFFER if
  * its length is another too, else with BAD_RECORD. Version 0.4.0 has two states more and the format of 0.3.0: it takes up the images
- * of 0.3.0, which refuses an image in one of the new states with BAD_RECORD. */
-#define LU62_VERSION "0.4.0"
-#define LU62_FORMAT 3
+ * of 0.3.0, which refuses an image in one of the new states with BAD_RECORD. Version 0.5.0 has format 4, whose images are a
+ * byte longer: it refuses an image of an older library with BAD_BUFFER, by its length, and so the other way round. */
+#define LU62_VERSION "0.5.0"
+#define LU62_FORMAT 4
 
 /* Sizes, in bytes. W is a window, 1 to 63; M is a maximum RU, 8 to 1,024. */
-#define LU62_IMAGE 42
+#define LU62_IMAGE 43
 #define LU62_UNIT(m) ((m) + 5)
 #define LU62_INBOX(w, m) ((w) * (m))
 #define LU62_INBOX_MOST 65535
@@ -77,7 +78,7 @@ extern "C" {
 #define LU62_BAD_BUFFER 4         /* image, send, unit or inbox has a wrong length */
 #define LU62_BAD_RECORD 5         /* the image holds no record that calls can leave */
 #define LU62_BAD_LENGTH 6         /* no bytes or more than M given; an empty buffer to read into */
-#define LU62_WRONG_STATE 7        /* the state, or a bid under way, does not allow the call */
+#define LU62_WRONG_STATE 7        /* the state, a bid under way or an error due does not allow the call */
 #define LU62_BAD_LL 8             /* a logical record's length, LL without its top bit, is under 2 */
 #define LU62_UNFINISHED_RECORD 9  /* the last record given is not whole, or says that another part follows */
 #define LU62_NO_CREDIT 10         /* a request must go and the partner has not made room for it */
@@ -90,38 +91,40 @@ extern "C" {
 #define LU62_BAD_HEADER 21        /* the header breaks rules of H1 to H6 below; `rule` is the lowest of them */
 #define LU62_BAD_RU 22            /* the RU does not fit the header, or is too long */
 #define LU62_BAD_NUMBER 23        /* not the next sequence number */
-#define LU62_BAD_CHAIN 24         /* first in chain where a chain is open, or the reverse */
+#define LU62_BAD_CHAIN 24         /* first in chain, or an error header, where a chain is open; or the reverse */
 #define LU62_BAD_BRACKET 25       /* begin bracket where none may begin, or missing where one must; a bid to a bidder */
-#define LU62_BAD_STATE 26         /* data where this end does not receive */
+#define LU62_BAD_STATE 26         /* data, or an error header, where this end does not receive */
 #define LU62_BAD_PACING 27        /* more requests than the window allows, a wrong pacing bit, a pacing response unasked */
-#define LU62_BAD_RESPONSE 28      /* a response to nothing that this end has asked */
-#define LU62_BAD_RECORDS 29       /* a bad LL; or, at a mark, a record that is not whole or says that another part follows */
+#define LU62_BAD_RESPONSE 28      /* a response, a confirmation's refusal too, to nothing that this end has asked */
+#define LU62_BAD_RECORDS 29       /* a bad LL; or, at a mark, also error, a record that is not whole or says that another part follows */
 
 /* From here on a refusal number is a breach of protocol by the partner. */
 #define LU62_FIRST_BREACH LU62_SHORT_UNIT
 
 /* The rules of a header, the three bytes behind the number. Bytes are in hexadecimal; data has a byte 0 of 00 to 03.
- *   H1  byte 0 is 00, 01 (last in chain), 02 (first), 03 (first and last), 4B, 83, CB or CF
- *   H2  not data: the header is 4B 80 80, 4B 81 80, 83 01 00, 83 20 00, CB 80 00 or CF 90 00
+ *   H1  byte 0 is 00, 01 (last in chain), 02 (first), 03 (first and last), 0B, 4B, 83, 87, CB or CF
+ *   H2  not data: the header is 0B 90 00, 0B 91 00, 4B 80 80, 4B 81 80, 83 01 00, 83 20 00, 87 30 00, CB 80 00 or CF 90 00
  *   H3  data: byte 1 is 90 or 91, or 20 or 21, which request a confirmation
  *   H4  data: only the last in a chain requests a confirmation
  *   H5  data: byte 2 is 00, 01, 20, 80, 81 or A0
  *   H6  data: weight 80 of byte 2 only on the first in a chain, weights 20 and 01 only on the last */
 
-/* Marks: what a unit says after its bytes. lu62_receive answers the mark when all bytes before it have been read. */
+/* Marks: what a unit says after its bytes. lu62_receive answers the mark when all bytes before it have been read. Where lu62_confirmed
+ * is due, lu62_send_error refuses to confirm. */
 #define LU62_MARK_NONE 0
 #define LU62_MARK_TURN 1          /* this end sends now */
 #define LU62_MARK_END 2           /* the conversation is over */
 #define LU62_MARK_CONFIRM 3       /* lu62_confirmed is due; then this end receives on */
 #define LU62_MARK_CONFIRM_TURN 4  /* lu62_confirmed is due; then this end sends */
 #define LU62_MARK_CONFIRM_END 5   /* lu62_confirmed is due; then the conversation is over */
+#define LU62_MARK_ERROR 6         /* the partner has refused the confirmation that this end asked for; this end receives on */
 
 /* States, as lu62_state gives them. */
 #define LU62_RESET 0              /* no conversation */
-#define LU62_SEND 1               /* this end sends */
+#define LU62_SEND 1               /* this end sends; first the error header, if it is due */
 #define LU62_RECEIVE 2            /* this end receives */
-#define LU62_CONFIRM_OWED 3       /* this end must call lu62_confirmed */
-#define LU62_CONFIRM_AWAITED 4    /* this end waits for the partner's confirmation */
+#define LU62_CONFIRM_OWED 3       /* this end must call lu62_confirmed, or lu62_send_error where it cannot confirm */
+#define LU62_CONFIRM_AWAITED 4    /* this end waits for the partner's confirmation, or its refusal */
 #define LU62_DEFER_TURN 5         /* Defer: a turn is prepared, to be carried out or withdrawn */
 #define LU62_DEFER_END 6          /* Defer: an end is prepared, to be carried out or withdrawn */
 
@@ -162,13 +165,16 @@ uint32_t lu62_send_data(uint8_t *image, size_t image_length, const uint8_t *byte
 /* Sends the bytes kept in `send`, if any, without waiting for more. The record need not be whole, and another part may follow it.
  * In Defer it carries out the turn or end that is prepared, as lu62_prepare_to_receive or lu62_deallocate with `confirm` 0 would: a
  * unit always goes.
+ * While an error is due it makes the error header, a request as data is, and no error is due then; see lu62_send_error.
  * Lent: send (only read), unit. Refusals: BAD_BUFFER, BAD_RECORD, WRONG_STATE, UNFINISHED_RECORD (only in Defer, with an image that
- * calls cannot leave), NO_CREDIT (only if bytes are kept, or in Defer). */
+ * calls cannot leave), NO_CREDIT (only if bytes are kept, in Defer, or with an error due). */
 uint32_t lu62_flush(uint8_t *image, size_t image_length, const uint8_t *send, size_t send_length,
                     uint8_t *unit, size_t unit_length, struct lu62_answer *answer);
 
 /* Sends the bytes kept and asks the partner to confirm that it has read everything. This end is then in LU62_CONFIRM_AWAITED, and
- * in LU62_SEND again when the confirmation has been taken.
+ * in LU62_SEND again when the confirmation has been taken. The partner may refuse to confirm, here and wherever a confirmation is
+ * asked for: when the refusal has been taken this end is in LU62_RECEIVE, whatever was to follow, the partner sends, and what it
+ * sends first is the error header, of which lu62_receive answers LU62_MARK_ERROR.
  * In Defer it carries out the turn or end that is prepared, as lu62_prepare_to_receive or lu62_deallocate with `confirm` 1 would.
  * Lent: send (only read), unit. Refusals: BAD_BUFFER, BAD_RECORD, WRONG_STATE, UNFINISHED_RECORD, NO_CREDIT. */
 uint32_t lu62_confirm(uint8_t *image, size_t image_length, const uint8_t *send, size_t send_length,
@@ -202,6 +208,15 @@ uint32_t lu62_withdraw(uint8_t *image, size_t image_length, struct lu62_answer *
  * Lent: unit. Refusals: BAD_BUFFER, BAD_RECORD, WRONG_STATE. */
 uint32_t lu62_confirmed(uint8_t *image, size_t image_length, uint8_t *unit, size_t unit_length, struct lu62_answer *answer);
 
+/* Refuses the confirmation that the mark last read asks for: makes a negative response to the unit that asked for it. This end is
+ * then in LU62_SEND, whatever the mark said to follow, the partner in LU62_RECEIVE when it has taken the unit, and an error is due:
+ * the next request must be the error header, which says the cause to the partner, and lu62_flush makes it. So lu62_flush must
+ * follow; refused with NO_CREDIT it leaves the error due: take a pacing response and make the call again. Until it is accepted,
+ * lu62_send_data, lu62_confirm, lu62_prepare_to_receive, lu62_deallocate, lu62_defer_turn and lu62_defer_end are WRONG_STATE. Units
+ * are taken, bytes read and pacing responses made as before. lu62_error_due says whether an error is due.
+ * Lent: unit. Refusals: BAD_BUFFER, BAD_RECORD, WRONG_STATE. */
+uint32_t lu62_send_error(uint8_t *image, size_t image_length, uint8_t *unit, size_t unit_length, struct lu62_answer *answer);
+
 /* Makes a pacing response: the partner may send one window more. Without it the partner runs out of credit, so a host calls this
  * whenever it has read; NOTHING_TO_PACE then only says that it is not yet due.
  * Lent: unit. Refusals: BAD_BUFFER, BAD_RECORD, NOTHING_TO_PACE. */
@@ -209,7 +224,7 @@ uint32_t lu62_send_pacing_response(uint8_t *image, size_t image_length, uint8_t 
                                    struct lu62_answer *answer);
 
 /* Takes one unit that the partner made: the oldest that has not been taken. `taken` may hold any bytes. The data in it joins the
- * inbox; the answer to a bid is made as a unit.
+ * inbox; the answer to a bid is made as a unit. Of an error header nothing joins the inbox: it leaves LU62_MARK_ERROR.
  * Lent: the unit taken (only read), inbox, unit. Refusals: BAD_BUFFER, BAD_RECORD, UNREAD_MARK (keep the unit, read, take it
  * again), SHORT_UNIT, BAD_HEADER, BAD_RU, BAD_PACING, BAD_NUMBER, BAD_CHAIN, BAD_BRACKET, BAD_STATE, BAD_RECORDS, BAD_RESPONSE. */
 uint32_t lu62_receive_unit(uint8_t *image, size_t image_length, const uint8_t *taken, size_t taken_length,
@@ -235,6 +250,12 @@ static inline uint32_t lu62_state(const uint8_t *image)
 static inline uint32_t lu62_bid_pending(const uint8_t *image)
 {
     return image[6];
+}
+
+/* 1 while an error is due, from lu62_send_error to the lu62_flush that makes the error header, else 0. */
+static inline uint32_t lu62_error_due(const uint8_t *image)
+{
+    return image[42];
 }
 
 /* How many bytes the send buffer holds: given, and not yet in a unit. */
@@ -274,7 +295,7 @@ static inline const char *lu62_refusal_text(uint32_t refusal)
     case LU62_BAD_NUMBER: return "the sequence number is not the next";
     case LU62_BAD_CHAIN: return "the unit does not fit the chain";
     case LU62_BAD_BRACKET: return "the unit does not fit the bracket";
-    case LU62_BAD_STATE: return "data came where this end does not receive";
+    case LU62_BAD_STATE: return "data or an error header came where this end does not receive";
     case LU62_BAD_PACING: return "the unit does not fit the pacing window";
     case LU62_BAD_RESPONSE: return "a response to nothing asked";
     case LU62_BAD_RECORDS: return "a bad record length, or a mark behind a record not whole or with another part to follow";
@@ -305,6 +326,7 @@ static inline const char *lu62_mark_name(uint32_t mark)
     case LU62_MARK_CONFIRM: return "confirm";
     case LU62_MARK_CONFIRM_TURN: return "confirm-turn";
     case LU62_MARK_CONFIRM_END: return "confirm-end";
+    case LU62_MARK_ERROR: return "error";
     default: return "no mark has this number";
     }
 }

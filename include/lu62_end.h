@@ -151,6 +151,12 @@ static inline uint32_t lu62_end_confirmed(struct lu62_end *end)
     return lu62_confirmed(end->image, sizeof end->image, end->unit, end->unit_length, &end->answer);
 }
 
+static inline uint32_t lu62_end_send_error(struct lu62_end *end)
+{
+    LU62_ASSERT(lu62_end_sound(end));
+    return lu62_send_error(end->image, sizeof end->image, end->unit, end->unit_length, &end->answer);
+}
+
 static inline uint32_t lu62_end_send_pacing_response(struct lu62_end *end)
 {
     LU62_ASSERT(lu62_end_sound(end));
@@ -179,6 +185,11 @@ static inline uint32_t lu62_end_state(const struct lu62_end *end)
 static inline uint32_t lu62_end_bid_pending(const struct lu62_end *end)
 {
     return lu62_bid_pending(end->image);
+}
+
+static inline uint32_t lu62_end_error_due(const struct lu62_end *end)
+{
+    return lu62_error_due(end->image);
 }
 
 static inline uint32_t lu62_end_send_held(const struct lu62_end *end)

@@ -47,10 +47,10 @@ mod refusal;
 pub use refusal::{Reason, Refusal};
 
 /// The length of an end's record as bytes.
-pub const IMAGE: usize = 42;
+pub const IMAGE: usize = 43;
 
 /// The first of those bytes, raised with each change of what they hold.
-pub const FORMAT: u8 = 3;
+pub const FORMAT: u8 = 4;
 
 /// The top bit of LL, a logical record's first two bytes: another part follows. The other 15 bits are the record's length, LL counted,
 /// 2 to 32,767.
@@ -98,13 +98,13 @@ pub struct Session {
 pub enum State {
     /// No conversation.
     Reset,
-    /// This end sends.
+    /// This end sends; first the error header, if it is due.
     Send,
     /// This end receives.
     Receive,
-    /// This end must make a confirmation.
+    /// This end must make a confirmation, or refuse to.
     ConfirmOwed,
-    /// This end waits for a confirmation.
+    /// This end waits for a confirmation, or its refusal.
     ConfirmAwaited,
     /// Defer: a turn is prepared, to be carried out by flush or confirm, or withdrawn.
     DeferTurn,
@@ -150,6 +150,9 @@ pub enum Mark {
     ConfirmTurn,
     /// A confirmation is due; then the conversation is over.
     ConfirmEnd,
+    /// The partner has refused the confirmation that this end asked for: this is its error header, sense data 08 89 00 00. This end
+    /// receives on.
+    Error,
 }
 
 impl Mark {
@@ -161,6 +164,7 @@ impl Mark {
             3 => Some(Mark::Confirm),
             4 => Some(Mark::ConfirmTurn),
             5 => Some(Mark::ConfirmEnd),
+            6 => Some(Mark::Error),
             _ => None,
         }
     }
@@ -248,6 +252,11 @@ impl End {
         self.image[6] == 1
     }
 
+    /// Whether an error is due: this end has refused a confirmation, and the error header has not gone.
+    pub fn error_due(&self) -> bool {
+        self.image[42] == 1
+    }
+
     /// How many bytes the send buffer holds: given, and not yet in a unit.
     pub fn send_held(&self) -> usize {
         usize::from(u16::from_le_bytes([self.image[14], self.image[15]]))
@@ -272,11 +281,15 @@ impl End {
     }
 
     /// Sends the bytes kept, if any. In Defer carries out the turn or end that is prepared, without confirmation: a unit always goes.
+    /// Where an error is due sends the error header; see [`End::send_error`].
     pub fn flush(&mut self, send: &[u8], unit: &mut [u8]) -> Result<Answer, Refusal> {
         outcome(raw::flush(&mut self.image, send, unit))
     }
 
     /// Sends the bytes kept and asks for a confirmation. In Defer carries out the turn or end that is prepared, with confirmation.
+    ///
+    /// The partner may refuse to confirm, here and wherever a confirmation is asked for. Then this end is in [`State::Receive`], whatever
+    /// was to follow, and what the partner sends first is read as [`Mark::Error`].
     pub fn confirm(&mut self, send: &[u8], unit: &mut [u8]) -> Result<Answer, Refusal> {
         outcome(raw::confirm(&mut self.image, send, unit))
     }
@@ -314,6 +327,16 @@ impl End {
     /// Makes the confirmation that is owed.
     pub fn confirmed(&mut self, unit: &mut [u8]) -> Result<Answer, Refusal> {
         outcome(raw::confirmed(&mut self.image, unit))
+    }
+
+    /// Refuses the confirmation that is owed (document 02): makes a negative response. This end is then in [`State::Send`], whatever
+    /// was to follow, and the partner in [`State::Receive`] when it has taken the unit.
+    ///
+    /// The next request must be the error header, which [`End::flush`] makes. Until it has gone ([`End::error_due`]) every other call
+    /// that needs Send is refused with [`Reason::WrongState`]. Refused with [`Reason::NoCredit`], flush leaves the error due: take a
+    /// pacing response and make the call again. The partner reads the error header as [`Mark::Error`].
+    pub fn send_error(&mut self, unit: &mut [u8]) -> Result<Answer, Refusal> {
+        outcome(raw::send_error(&mut self.image, unit))
     }
 
     /// Makes a pacing response, if one is owed and the inbox has room for a window.

@@ -109,6 +109,8 @@ extern "C" {
 
     pub fn lu62_confirmed(image: *mut u8, image_length: usize, unit: *mut u8, unit_length: usize, answer: *mut Answer) -> u32;
 
+    pub fn lu62_send_error(image: *mut u8, image_length: usize, unit: *mut u8, unit_length: usize, answer: *mut Answer) -> u32;
+
     pub fn lu62_send_pacing_response(
         image: *mut u8,
         image_length: usize,
@@ -269,6 +271,10 @@ pub fn withdraw(image: &mut [u8]) -> Answer {
 
 pub fn confirmed(image: &mut [u8], unit: &mut [u8]) -> Answer {
     by_unit(lu62_confirmed, image, unit)
+}
+
+pub fn send_error(image: &mut [u8], unit: &mut [u8]) -> Answer {
+    by_unit(lu62_send_error, image, unit)
 }
 
 pub fn send_pacing_response(image: &mut [u8], unit: &mut [u8]) -> Answer {

@@ -46,7 +46,7 @@ reasons! {
     BadRecord = 5, "the end's record is not one that calls can leave";
     /// No bytes or more than M given; an empty buffer to read into.
     BadLength = 6, "no bytes, or too many";
-    /// The state, or a bid under way, does not allow the call.
+    /// The state, a bid under way or an error due does not allow the call.
     WrongState = 7, "the state does not allow the call";
     /// A logical record's length, LL without its top bit, is under 2.
     BadLl = 8, "a logical record's length is under 2";
@@ -68,17 +68,17 @@ reasons! {
     BadRu = 22, "the RU does not fit";
     /// Not the next sequence number.
     BadNumber = 23, "the sequence number is not the next";
-    /// First in chain where a chain is open, or the reverse.
+    /// First in chain, or an error header, where a chain is open; or the reverse.
     BadChain = 24, "the unit does not fit the chain";
     /// Begin bracket where none may begin, or missing where one must; a bid to a bidder.
     BadBracket = 25, "the unit does not fit the bracket";
-    /// Data where this end does not receive.
-    BadState = 26, "data came where this end does not receive";
+    /// Data, or an error header, where this end does not receive.
+    BadState = 26, "data or an error header came where this end does not receive";
     /// More requests than the window allows, a wrong pacing bit, a pacing response unasked.
     BadPacing = 27, "the unit does not fit the pacing window";
-    /// A response to nothing that this end has asked.
+    /// A response, a confirmation's refusal too, to nothing that this end has asked.
     BadResponse = 28, "a response to nothing asked";
-    /// A bad LL; or, at a mark, a record that is not whole or is a part that says another follows.
+    /// A bad LL; or, at a mark, also error, a record that is not whole or is a part that says another follows.
     BadRecords = 29, "a bad record length, or a mark behind a record not whole or with another part to follow";
 }
 

@@ -6,11 +6,25 @@ use lu62::IMAGE;
 
 const MAX: usize = 8;
 
-// How many headers are good, and how many name each of H1 to H6, counted from the rules by hand: H1 248 of 256 values of byte 0; H2 four
-// values of byte 0 less six headers; H3 four values of byte 0 and 252 of byte 1; H4 two values of byte 0 and two of byte 1; H5 the 12
+// How many headers are good, and how many name each of H1 to H6, counted from the rules by hand: H1 246 of 256 values of byte 0; H2 six
+// values of byte 0 less nine headers; H3 four values of byte 0 and 252 of byte 1; H4 two values of byte 0 and two of byte 1; H5 the 12
 // pairs of bytes 0 and 1 that are left, and 250 values of byte 2; H6 these pairs with the other six values, less 42 headers of data.
-const GOOD: usize = 48;
-const NAMED: [usize; 6] = [248 * 65_536, 4 * 65_536 - 6, 4 * 252 * 256, 2 * 2 * 256, 12 * 250, 12 * 6 - 42];
+const GOOD: usize = 42 + FIXED.len();
+const NAMED: [usize; 6] = [246 * 65_536, 6 * 65_536 - FIXED.len(), 4 * 252 * 256, 2 * 2 * 256, 12 * 250, 12 * 6 - 42];
+
+// The headers of documents 01 and 02 that are not data: error header, bid, confirmation, pacing response, no confirmation, grant and bid
+// refusal.
+const FIXED: [[u8; 3]; 9] = [
+    [0x0B, 0x90, 0x00],
+    [0x0B, 0x91, 0x00],
+    [0x4B, 0x80, 0x80],
+    [0x4B, 0x81, 0x80],
+    [0x83, 0x20, 0x00],
+    [0x83, 0x01, 0x00],
+    [0x87, 0x30, 0x00],
+    [0xCB, 0x80, 0x00],
+    [0xCF, 0x90, 0x00],
+];
 
 fn opened() -> [u8; IMAGE] {
     let mut image = [0; IMAGE];
@@ -46,7 +60,10 @@ fn the_lowest_rule_broken_is_named() {
         assert_eq!(named(&fresh, [a, b, c]), lowest.map(|index| index as u32 + 1), "header {a:02X} {b:02X} {c:02X}");
         match lowest {
             Some(index) => counts[index] += 1,
-            None => good += 1,
+            None => {
+                good += 1;
+                assert!(a <= 3 || FIXED.contains(&[a, b, c]), "header {a:02X} {b:02X} {c:02X} is good");
+            }
         }
         most = most.max(broken.iter().filter(|&&broken| broken).count());
     }

@@ -1,5 +1,5 @@
 //! The safe calls as a program uses them: one record from one end to the other, a turn, a confirmation and the end; a table in several
-//! parts; a turn or an end prepared, and carried out or withdrawn.
+//! parts; a turn or an end prepared, and carried out or withdrawn; a confirmation refused, and the error header behind it.
 use lu62::{inbox_length, unit_length, Answer, Deferred, End, Mark, Reason, Refusal, Role, Session, State, FORMAT, MORE_FOLLOWS};
 
 const WINDOW: u8 = 3;
@@ -286,6 +286,178 @@ fn a_prepared_turn_waits_for_credit() {
         let byte1 = if confirm { 0x21 } else { 0x91 };
         assert_eq!(laboratory.unit[..made.unit], [0x00, 0x04, 0x03, byte1, 0x20]);
         assert_eq!(laboratory.end.state(), Some(if confirm { State::ConfirmAwaited } else { State::Receive }));
+    }
+}
+
+// The unit that the last call of this host made, taken by the other.
+fn carry(from: &Host, made: Answer, to: &mut Host) {
+    let answer = to.end.receive_unit(&from.unit[..made.unit], &mut to.inbox, &mut to.unit).expect("units in order");
+    assert_eq!(answer.unit, 0);
+}
+
+// The three ways to ask for a confirmation, each with the mark that it leaves.
+type Asks = fn(&mut Host) -> Result<Answer, Refusal>;
+const ASKS: [(Asks, Mark); 3] = [
+    (|host| host.end.confirm(&host.send, &mut host.unit), Mark::Confirm),
+    (|host| host.end.prepare_to_receive(true, &host.send, &mut host.unit), Mark::ConfirmTurn),
+    (|host| host.end.deallocate(true, &host.send, &mut host.unit), Mark::ConfirmEnd),
+];
+
+// A laboratory that waits for the confirmation of a record, and a blender that has read it and owes the confirmation.
+fn asked(asks: Asks, mark: Mark) -> [Host; 2] {
+    let mut laboratory = sender(b"\x00\x06S9.1");
+    let mut blender = host(Role::Bidder);
+    let made = asks(&mut laboratory).expect("a whole record");
+    assert_eq!(laboratory.end.state(), Some(State::ConfirmAwaited));
+    carry(&laboratory, made, &mut blender);
+    assert_eq!(read(&mut blender), (b"\x00\x06S9.1".to_vec(), None));
+    assert_eq!(read(&mut blender), (Vec::new(), Some(mark)));
+    assert_eq!(blender.end.state(), Some(State::ConfirmOwed));
+    [laboratory, blender]
+}
+
+const NO_CONFIRMATION: [u8; 4] = [0x08, 0x46, 0x00, 0x00];
+const ERROR_HEADER: [u8; 7] = [0x07, 0x07, 0x08, 0x89, 0x00, 0x00, 0x00];
+
+#[test]
+fn a_confirmation_refused() {
+    for (asks, mark) in ASKS {
+        let [mut laboratory, mut blender] = asked(asks, mark);
+        let made = blender.end.send_error(&mut blender.unit).expect("a confirmation is owed");
+        assert_eq!(blender.unit[..made.unit], [&[0x00, 0x01, 0x87, 0x30, 0x00], &NO_CONFIRMATION[..]].concat());
+        assert_eq!((blender.end.state(), blender.end.error_due()), (Some(State::Send), true));
+        carry(&blender, made, &mut laboratory);
+        assert_eq!(laboratory.end.state(), Some(State::Receive), "whatever was to follow");
+        assert_eq!(laboratory.end.receive(&mut laboratory.inbox, &mut [0; 4]).unwrap_err().reason, Reason::NothingToRead);
+
+        let made = blender.end.flush(&blender.send, &mut blender.unit).expect("credit is there");
+        assert_eq!(blender.unit[..made.unit], [&[0x00, 0x01, 0x0B, 0x91, 0x00], &ERROR_HEADER[..]].concat());
+        assert_eq!((blender.end.state(), blender.end.error_due()), (Some(State::Send), false));
+        carry(&blender, made, &mut laboratory);
+        let made = blender.end.prepare_to_receive(false, &blender.send, &mut blender.unit).expect("the error header has gone");
+        // The error header waits as a mark, and no byte of it is read.
+        let turn = blender.unit[..made.unit].to_vec();
+        let refusal = laboratory.end.receive_unit(&turn, &mut laboratory.inbox, &mut laboratory.unit).unwrap_err();
+        assert_eq!((refusal.reason, laboratory.end.inbox_held()), (Reason::UnreadMark, 0));
+        assert_eq!(read(&mut laboratory), (Vec::new(), Some(Mark::Error)));
+        assert_eq!(laboratory.end.state(), Some(State::Receive));
+        carry(&blender, made, &mut laboratory);
+        assert_eq!(read(&mut laboratory), (Vec::new(), Some(Mark::Turn)));
+
+        // The laboratory sends the card again, corrected, and the blender confirms it.
+        assert!(laboratory.end.send_data(b"\x00\x05S91", &mut laboratory.send, &mut laboratory.unit).is_ok());
+        let made = laboratory.end.deallocate(true, &laboratory.send, &mut laboratory.unit).expect("a whole record");
+        carry(&laboratory, made, &mut blender);
+        assert_eq!(read(&mut blender), (b"\x00\x05S91".to_vec(), None));
+        assert_eq!(read(&mut blender), (Vec::new(), Some(Mark::ConfirmEnd)));
+        let made = blender.end.confirmed(&mut blender.unit).expect("a confirmation is owed");
+        carry(&blender, made, &mut laboratory);
+        assert_eq!([laboratory.end.state(), blender.end.state()], [Some(State::Reset); 2]);
+    }
+}
+
+#[test]
+fn nothing_else_is_sent_before_the_error_header() {
+    let [_, blender] = asked(ASKS[0].0, ASKS[0].1);
+    let Host { mut end, mut send, mut unit, mut inbox } = blender;
+    assert!(end.send_error(&mut unit).is_ok());
+    let before = end.clone();
+    let result = end.send_data(b"\x00\x02", &mut send, &mut unit);
+    refused(&end, &before, result, Reason::WrongState);
+    let result = end.send_data(b"", &mut send, &mut unit);
+    refused(&end, &before, result, Reason::BadLength);
+    let result = end.confirm(&send, &mut unit);
+    refused(&end, &before, result, Reason::WrongState);
+    for confirm in [false, true] {
+        let result = end.prepare_to_receive(confirm, &send, &mut unit);
+        refused(&end, &before, result, Reason::WrongState);
+        let result = end.deallocate(confirm, &send, &mut unit);
+        refused(&end, &before, result, Reason::WrongState);
+    }
+    for (what, _) in DEFERRED {
+        let result = end.defer(what);
+        refused(&end, &before, result, Reason::WrongState);
+    }
+    let result = end.allocate(&mut unit);
+    refused(&end, &before, result, Reason::WrongState);
+    for result in [end.confirmed(&mut unit), end.send_error(&mut unit)] {
+        refused(&end, &before, result, Reason::WrongState);
+    }
+    let result = end.receive(&mut inbox, &mut [0; 4]);
+    refused(&end, &before, result, Reason::NothingToRead);
+    // A second flush after the error header has nothing to send.
+    assert_eq!(end.flush(&send, &mut unit).expect("credit is there").unit, unit_length(ERROR_HEADER.len()));
+    assert_eq!(end.flush(&send, &mut unit).expect("nothing is kept").unit, 0);
+}
+
+#[test]
+fn the_error_header_waits_for_credit() {
+    // The laboratory's window of three units is used up with the turn; then it is the one to be asked.
+    let mut laboratory = sender(b"");
+    for _ in 1..WINDOW {
+        assert!(laboratory.end.send_data(b"\x00\x02", &mut laboratory.send, &mut laboratory.unit).is_ok());
+        assert_eq!(laboratory.end.flush(&laboratory.send, &mut laboratory.unit).expect("credit is there").unit, 7);
+    }
+    assert!(laboratory.end.prepare_to_receive(false, &laboratory.send, &mut laboratory.unit).is_ok());
+    let asks = [0x00, 0x01, 0x03, 0x21, 0x00];
+    assert!(laboratory.end.receive_unit(&asks, &mut laboratory.inbox, &mut laboratory.unit).is_ok());
+    assert_eq!(read(&mut laboratory), (Vec::new(), Some(Mark::Confirm)));
+    // Refusing a confirmation costs no credit; the error header does.
+    let made = laboratory.end.send_error(&mut laboratory.unit).expect("a confirmation is owed");
+    assert_eq!(laboratory.unit[..made.unit], [&[0x00, 0x01, 0x87, 0x30, 0x00], &NO_CONFIRMATION[..]].concat());
+    let before = laboratory.end.clone();
+    let result = laboratory.end.flush(&laboratory.send, &mut laboratory.unit);
+    refused(&laboratory.end, &before, result, Reason::NoCredit);
+    let pacing = [0x00, 0x00, 0x83, 0x01, 0x00];
+    assert!(laboratory.end.receive_unit(&pacing, &mut laboratory.inbox, &mut laboratory.unit).is_ok());
+    assert!(laboratory.end.error_due());
+    let made = laboratory.end.flush(&laboratory.send, &mut laboratory.unit).expect("credit is there");
+    assert_eq!(laboratory.unit[..made.unit], [&[0x00, 0x04, 0x0B, 0x91, 0x00], &ERROR_HEADER[..]].concat());
+}
+
+#[test]
+fn a_confirmation_is_refused_only_where_one_is_owed() {
+    let [mut laboratory, mut blender] = asked(ASKS[2].0, ASKS[2].1);
+    let before = blender.end.clone();
+    let result = blender.end.send_error(&mut blender.unit[1..]);
+    refused(&blender.end, &before, result, Reason::BadBuffer);
+    let hosts = [host(Role::FirstSpeaker), sender(b""), sender_by_turn()];
+    for mut host in hosts {
+        let before = host.end.clone();
+        let result = host.end.send_error(&mut host.unit);
+        refused(&host.end, &before, result, Reason::WrongState);
+    }
+    // A refusal of another number, and one that has come already.
+    let another = [&[0x00, 0x02, 0x87, 0x30, 0x00], &NO_CONFIRMATION[..]].concat();
+    let awaits = laboratory.end.clone();
+    let refusal = laboratory.end.receive_unit(&another, &mut laboratory.inbox, &mut laboratory.unit).unwrap_err();
+    assert_eq!((refusal.reason, refusal.sense), (Reason::BadResponse, 0x200E_0000));
+    assert_eq!(laboratory.end, awaits);
+    let made = blender.end.send_error(&mut blender.unit).expect("a confirmation is owed");
+    carry(&blender, made, &mut laboratory);
+    let unit = &blender.unit[..made.unit];
+    let refusal = laboratory.end.receive_unit(unit, &mut laboratory.inbox, &mut laboratory.unit).unwrap_err();
+    assert_eq!(refusal.reason, Reason::BadResponse);
+}
+
+#[test]
+fn a_forged_error_due_is_refused_outside_send_and_with_bytes_kept() {
+    let forged = |end: &End, error: u8| {
+        let mut image = *end.image();
+        image[42] = error;
+        End::from_image(image)
+    };
+    // In Reset; in Send with BB due; in Send with a byte kept. By the turn, with nothing kept, it is a record that calls can leave.
+    let mut keeps = sender_by_turn();
+    assert!(keeps.end.send_data(b"\x00", &mut keeps.send, &mut keeps.unit).is_ok());
+    for host in [host(Role::Bidder), sender(b""), keeps] {
+        let Host { end, send, mut unit, .. } = host;
+        assert_eq!(forged(&end, 1).flush(&send, &mut unit).unwrap_err().reason, Reason::BadRecord);
+    }
+    let Host { end, send, mut unit, .. } = sender_by_turn();
+    assert_eq!(forged(&end, 1).flush(&send, &mut unit).expect("credit is there").unit, unit_length(ERROR_HEADER.len()));
+    for error in 2..=255 {
+        assert_eq!(forged(&end, error).flush(&send, &mut unit).unwrap_err().reason, Reason::BadRecord);
     }
 }
 

@@ -6,7 +6,8 @@
 //! against a page that cannot be touched, right before its first byte or right behind its last, and must come to the same.
 //!
 //! And on such images: flush or confirm after a prepared turn or end gives answer, image and every cell that turn or end gives on the
-//! image before, and withdrawing gives that image back.
+//! image before, and withdrawing gives that image back. After a confirmation refused flush gives the error header, and nothing else that
+//! needs Send is accepted before it; with the error header gone, the image is that of Send, with what was to follow as it was.
 mod common;
 
 use common::pages::Area;
@@ -20,6 +21,8 @@ const SEED: u64 = 0x6C75_3632_0002;
 const CALLS: usize = 1_500_000;
 // On which a turn or an end is prepared.
 const IMAGES: usize = 500_000;
+// On which a confirmation is refused.
+const OWING_IMAGES: usize = 100_000;
 // Cells before, between and after the buffers.
 const GUARD: usize = 40;
 const ANSWER_GUARD: u32 = 0xA5A5_5A5A;
@@ -42,9 +45,10 @@ enum Call {
     DeferTurn,
     DeferEnd,
     Withdraw,
+    SendError,
 }
 
-const ALL: [Call; 14] = [
+const ALL: [Call; 15] = [
     Call::Open,
     Call::Allocate,
     Call::SendData,
@@ -59,6 +63,7 @@ const ALL: [Call; 14] = [
     Call::DeferTurn,
     Call::DeferEnd,
     Call::Withdraw,
+    Call::SendError,
 ];
 
 // The refusals that the questions of documents 01 and 02 leave possible for each call.
@@ -69,7 +74,7 @@ fn allowed(call: Call) -> &'static [u32] {
         Call::SendData => &[4, 5, 6, 7, 8, 10],
         Call::Flush | Call::Confirm | Call::Turn | Call::Deallocate => &[4, 5, 7, 9, 10],
         Call::DeferTurn | Call::DeferEnd => &[4, 5, 7, 9],
-        Call::Confirmed | Call::Withdraw => &[4, 5, 7],
+        Call::Confirmed | Call::SendError | Call::Withdraw => &[4, 5, 7],
         Call::Pace => &[4, 5, 11],
         Call::Take => &[4, 5, 13, 20, 21, 22, 23, 24, 25, 26, 27, 28, 29],
         Call::Read => &[4, 5, 6, 8, 12],
@@ -163,13 +168,8 @@ struct Lent {
 // # Safety
 // Every pointer is good for as many bytes as stand beside it, and nothing that two of them reach is the same.
 unsafe fn made(call: Call, lent: &Lent, opening: &Opening, confirm: u8) -> u32 {
-    let (image, il) = lent.image;
-    let (send, sl) = lent.send;
-    let (unit, ul) = lent.unit;
-    let (inbox, xl) = lent.inbox;
-    let (gift, gl) = lent.gift;
-    let (buffer, bl) = lent.buffer;
-    let answer = lent.answer;
+    let Lent { image: (image, il), send: (send, sl), unit: (unit, ul), inbox: (inbox, xl), .. } = *lent;
+    let Lent { gift: (gift, gl), buffer: (buffer, bl), answer, .. } = *lent;
     // SAFETY: as this function asks of its caller.
     unsafe {
         match call {
@@ -199,6 +199,7 @@ unsafe fn made(call: Call, lent: &Lent, opening: &Opening, confirm: u8) -> u32 {
             Call::DeferTurn => raw::lu62_defer_turn(image, il, answer),
             Call::DeferEnd => raw::lu62_defer_end(image, il, answer),
             Call::Withdraw => raw::lu62_withdraw(image, il, answer),
+            Call::SendError => raw::lu62_send_error(image, il, unit, ul, answer),
         }
     }
 }
@@ -288,7 +289,7 @@ fn place(image: &[u8], at: usize) -> Option<Place> {
 const STATES: [State; 7] =
     [State::Reset, State::Send, State::Receive, State::Owes, State::Waits, State::DeferTurn, State::DeferEnd];
 const FOLLOWS: [Follow; 3] = [Follow::Stay, Follow::Turn, Follow::End];
-const MARKS: [Mark; 6] = [Mark::None, Mark::Turn, Mark::End, Mark::Confirm, Mark::ConfirmTurn, Mark::ConfirmEnd];
+const MARKS: [Mark; 7] = [Mark::None, Mark::Turn, Mark::End, Mark::Confirm, Mark::ConfirmTurn, Mark::ConfirmEnd, Mark::Error];
 
 // The record in an image, or none if a code, flag or place is one that no record has.
 fn decoded(image: &[u8]) -> Option<plain::End> {
@@ -301,6 +302,7 @@ fn decoded(image: &[u8]) -> Option<plain::End> {
         follow: *FOLLOWS.get(usize::from(image[at::FOLLOW]))?,
         mark: *MARKS.get(usize::from(image[at::MARK]))?,
         due: flag(image[at::DUE])?,
+        error: flag(image[at::ERROR])?,
         bid: flag(image[at::BID])?,
         out_chain: flag(image[at::OUT_CHAIN])?,
         in_chain: flag(image[at::IN_CHAIN])?,
@@ -363,6 +365,7 @@ fn encode(end: &plain::End, image: &mut [u8]) {
     put_place(image, at::READ, end.read);
     put_word(image, at::BID_NUMBER, usize::from(end.bid_number));
     put_word(image, at::OWED_NUMBER, usize::from(end.owed_number));
+    image[at::ERROR] = u8::from(end.error);
 }
 
 fn only(refusal: u32) -> plain::Answer {
@@ -393,15 +396,23 @@ fn opened_plain(opening: &Opening, image: &mut [u8]) -> plain::Answer {
 
 // The same call by the plain end, on another block.
 fn by_plain(call: Call, block: &mut Block, opening: &Opening, confirm: u8) -> plain::Answer {
-    if block.image.len() != IMAGE {
+    let image = block.image.clone();
+    if image.len() != IMAGE {
         return only(4);
     }
     if call == Call::Open {
-        return opened_plain(opening, &mut block.cells[block.image.clone()]);
+        return opened_plain(opening, &mut block.cells[image]);
     }
-    let Some(mut end) = decoded(&block.cells[block.image.clone()]) else {
+    let Some(mut end) = decoded(&block.cells[image.clone()]) else {
         return only(5);
     };
+    let answer = called_plain(call, &mut end, block, confirm);
+    encode(&end, &mut block.cells[image]);
+    answer
+}
+
+// A call but opening, on the plain end of this block.
+fn called_plain(call: Call, end: &mut plain::End, block: &mut Block, confirm: u8) -> plain::Answer {
     // The ranges follow one another in this order, so the block can be split at them.
     let (_, rest) = block.cells.split_at_mut(block.send.start);
     let (send, rest) = rest.split_at_mut(block.unit.start - block.send.start);
@@ -413,7 +424,7 @@ fn by_plain(call: Call, block: &mut Block, opening: &Opening, confirm: u8) -> pl
     let inbox = &mut inbox[..block.inbox.len()];
     let gift = &gift[..block.gift.len()];
     let buffer = &mut buffer[..block.buffer.len()];
-    let answer = match call {
+    match call {
         Call::Open => only(0),
         Call::Allocate => end.allocate(unit),
         Call::SendData => end.send_data(gift, send, unit),
@@ -428,9 +439,8 @@ fn by_plain(call: Call, block: &mut Block, opening: &Opening, confirm: u8) -> pl
         Call::DeferTurn => end.defer_turn(),
         Call::DeferEnd => end.defer_end(),
         Call::Withdraw => end.withdraw(),
-    };
-    encode(&end, &mut block.cells[block.image.clone()]);
-    answer
+        Call::SendError => end.send_error(unit),
+    }
 }
 
 fn random_place(random: &mut Random) -> Place {
@@ -483,15 +493,21 @@ fn random_end(random: &mut Random) -> plain::End {
     random_end_in(random, state)
 }
 
+// How many bytes an end keeps that may keep them.
+fn random_kept(random: &mut Random, max: usize) -> usize {
+    match random.below(4) {
+        0 => 0,
+        1 => max,
+        _ => random.range(0, max),
+    }
+}
+
 fn random_end_in(random: &mut Random, state: State) -> plain::End {
     let bidder = random.chance(1, 2);
     let sends = matches!(state, State::Send | State::DeferTurn | State::DeferEnd);
+    let error = state == State::Send && random.chance(1, 4);
     let out_max = random_max(random);
-    let out_held = match (sends, random.below(4)) {
-        (false, _) | (true, 0) => 0,
-        (true, 1) => out_max,
-        (true, _) => random.range(0, out_max),
-    };
+    let out_held = if sends && !error { random_kept(random, out_max) } else { 0 };
     let out_chain = sends && out_held > 0 && random.chance(1, 2);
     let into = random_window(random);
     let in_max = random_max(random);
@@ -502,7 +518,8 @@ fn random_end_in(random: &mut Random, state: State) -> plain::End {
         state,
         follow: random.pick(&FOLLOWS),
         mark: if state == State::Receive && random.chance(1, 4) { random.pick(&MARKS[1..]) } else { Mark::None },
-        due: !bidder && sends && !out_chain && random.chance(1, 2),
+        due: !bidder && sends && !error && !out_chain && random.chance(1, 2),
+        error,
         bid: bidder && random.chance(1, 2),
         out_chain,
         in_chain: random.chance(1, 2),
@@ -516,7 +533,7 @@ fn random_end_in(random: &mut Random, state: State) -> plain::End {
         inbox: inbox as u16,
         in_held: in_held as u16,
         in_number: if random.chance(1, 8) { 65535 } else { random.next() as u16 },
-        taken: random_place(random),
+        taken: if random.chance(1, 8) { WHOLE } else { random_place(random) },
         read: random_place(random),
         bid_number: random.next() as u16,
         owed_number: random.next() as u16,
@@ -571,20 +588,30 @@ fn put_records(random: &mut Random, bytes: &mut [u8], from: Place, end_whole: bo
     }
 }
 
-const HEADS: [[u8; 3]; 6] =
-    [[0x4B, 0x80, 0x80], [0x4B, 0x81, 0x80], [0xCB, 0x80, 0x00], [0xCF, 0x90, 0x00], [0x83, 0x20, 0x00], [0x83, 0x01, 0x00]];
+const HEADS: [[u8; 3]; 9] = [
+    [0x4B, 0x80, 0x80],
+    [0x4B, 0x81, 0x80],
+    [0x0B, 0x90, 0x00],
+    [0x0B, 0x91, 0x00],
+    [0xCB, 0x80, 0x00],
+    [0xCF, 0x90, 0x00],
+    [0x83, 0x20, 0x00],
+    [0x87, 0x30, 0x00],
+    [0x83, 0x01, 0x00],
+];
+const ERROR_HEADER: [u8; 7] = [0x07, 0x07, 0x08, 0x89, 0x00, 0x00, 0x00];
 
 // Number, header and RU of a unit.
 type Parts = (u16, [u8; 3], Vec<u8>);
 
-// A bid or a response that the end might take.
+// A bid, an error header or a response that the end might take.
 fn fixed_unit(random: &mut Random, end: &plain::End) -> Parts {
     let header = random.pick(&HEADS);
+    let pacing = u8::from(end.into.place == 0);
     match header[0] {
-        0x4B => {
-            let pacing = u8::from(end.into.place == 0);
-            (end.in_number.wrapping_add(1), [0x4B, 0x80 | pacing, 0x80], vec![0x04, 0x00, 0x06, 0x00, 0x00])
-        }
+        0x4B => (end.in_number.wrapping_add(1), [0x4B, 0x80 | pacing, 0x80], vec![0x04, 0x00, 0x06, 0x00, 0x00]),
+        0x0B => (end.in_number.wrapping_add(1), [0x0B, 0x90 | pacing, 0x00], ERROR_HEADER.to_vec()),
+        0x87 => (end.out_number, header, vec![0x08, 0x46, 0x00, 0x00]),
         0xCB => (end.bid_number, header, vec![0x04]),
         0xCF => (end.bid_number, header, vec![0x08, 0x13, 0x00, 0x00, 0x04]),
         _ if header[1] == 1 => (0, header, Vec::new()),
@@ -741,7 +768,7 @@ fn put_image(random: &mut Random, mut end: plain::End, image: &mut [u8]) {
             *cell = match random.below(3) {
                 0 => random.byte(),
                 1 => cell.wrapping_add(1),
-                _ => random.below(7) as u8,
+                _ => random.below(8) as u8,
             };
         }
     }
@@ -854,7 +881,7 @@ fn kept_cells(call: Call, before: &Block, after: &Block, answer: &raw::Answer) -
             let copied = answer.copied as usize;
             assert!(copied <= before.buffer.len() && copied <= held);
             assert_eq!(copied == 0, answer.mark != 0, "a read gives bytes or a mark");
-            assert!(answer.complete <= 1 && (copied > 0 || answer.complete == 0) && answer.mark <= 5);
+            assert!(answer.complete <= 1 && (copied > 0 || answer.complete == 0) && answer.mark <= 6);
             assert!(answer.more <= answer.complete, "more parts are told of only with the end of one");
             let left = before.inbox.start..before.inbox.start + held - copied;
             vec![left, before.buffer.start..before.buffer.start + copied]
@@ -969,8 +996,9 @@ fn forged_calls() {
     let mut block = Block::new();
     let mut bench = Bench::new();
     let mut seen = [[0usize; 30]; ALL.len()];
-    // Reads inside a record, at its end, and at the end of a part that another follows.
-    let mut reads = [0usize; 3];
+    // Reads inside a record, at its end, and at the end of a part that another follows; error marks read; error headers and refusals of a
+    // confirmation taken.
+    let (mut reads, mut marks, mut taken) = ([0usize; 3], 0, [0usize; 2]);
     for i in 0..CALLS {
         // Takes have the most questions.
         let call = if random.chance(1, 4) { Call::Take } else { random.pick(&ALL) };
@@ -981,10 +1009,17 @@ fn forged_calls() {
         let answer = bench.tried(i, call, &mut block, &opening, confirm);
         seen[call as usize][answer.refusal as usize] += 1;
         reads[(answer.complete + answer.more) as usize] += usize::from(answer.copied > 0);
+        marks += usize::from(answer.mark == Mark::Error as u32);
+        if (call, answer.refusal) == (Call::Take, 0) {
+            let byte0 = block.cells[block.gift.start + 2];
+            taken = [taken[0] + usize::from(byte0 == 0x0B), taken[1] + usize::from(byte0 == 0x87)];
+        }
     }
     println!("forged: seed {SEED:#x}, {CALLS} calls, each against pages that cannot be touched too");
     println!("forged: reads inside a record, at its end, and at the end of a part that another follows: {reads:?}");
+    println!("forged: error headers and refusals of a confirmation taken: {taken:?}; error marks read: {marks}");
     assert!(reads.iter().all(|&n| n >= 1000), "hardly any read of one kind");
+    assert!(taken.iter().all(|&n| n >= 100) && marks >= 100, "hardly any error header, refusal or mark");
     for (call, counts) in ALL.iter().zip(&seen) {
         let told: Vec<String> = (0..30).filter(|&n| counts[n] > 0).map(|n| format!("{n}: {}", counts[n])).collect();
         println!("forged: {call:?}: {}", told.join(", "));
@@ -1052,6 +1087,66 @@ fn prepared_and_carried_out() {
     assert!([4, 5, 7, 9].iter().all(|&n: &usize| unprepared[n] >= 1000), "hardly any refusal of one kind: {unprepared:?}");
 }
 
+// The calls that need Send, but for flush.
+const NEED_SEND: [Call; 6] = [Call::SendData, Call::Confirm, Call::Turn, Call::Deallocate, Call::DeferTurn, Call::DeferEnd];
+
+// What flush leaves of an image in which a confirmation was owed and has been refused, and whether the error header has the pacing bit.
+fn explained(before: &[u8]) -> (Vec<u8>, bool) {
+    let mut image = before.to_vec();
+    image[at::STATE] = State::Send as u8;
+    put_word(&mut image, at::OUT_NUMBER, word(before, at::OUT_NUMBER) + 1);
+    let [size, place, pending] = [0, 1, 2].map(|i| before[at::OUT_WINDOW + i]);
+    image[at::OUT_WINDOW + 1] = (place + 1) % size;
+    image[at::OUT_WINDOW + 2] = if place == 0 { 1 } else { pending };
+    (image, place == 0)
+}
+
+#[test]
+fn refused_and_explained() {
+    let mut random = Random(SEED + 2);
+    let mut bench = Bench::new();
+    let [mut block, mut later, mut other] = [(); 3].map(|()| Block::new());
+    // Calls made; refusals of refusing; of the calls that need Send; of flush.
+    let (mut calls, mut undenied, mut seen, mut flushed) = (0, [0usize; 30], [0usize; 30], [0usize; 30]);
+    for i in 0..OWING_IMAGES {
+        let state = if random.chance(15, 16) { State::Owes } else { random.pick(&STATES) };
+        let end = random_end_in(&mut random, state);
+        fill_block(&mut random, Call::SendError, end, &mut block);
+        copy_block(&block, &mut later);
+        let denied = bench.tried(i, Call::SendError, &mut later, &AN_OPENING, 0);
+        undenied[denied.refusal as usize] += 1;
+        calls += 1;
+        if denied.refusal != 0 {
+            continue;
+        }
+        for call in NEED_SEND {
+            copy_block(&later, &mut other);
+            seen[bench.tried(i, call, &mut other, &AN_OPENING, random.byte()).refusal as usize] += 1;
+        }
+        let answer = bench.tried(i, Call::Flush, &mut later, &AN_OPENING, 0);
+        flushed[answer.refusal as usize] += 1;
+        calls += NEED_SEND.len() + 1;
+        if answer.refusal == 0 {
+            let (image, pacing) = explained(&block.cells[block.image.clone()]);
+            assert!(later.cells[later.image.clone()] == image[..], "image {i}: the error header leaves another image");
+            let unit = &later.cells[later.unit.start + 2..later.unit.start + answer.unit as usize];
+            assert_eq!(unit, [&[0x0B, 0x90 | u8::from(pacing), 0x00], &ERROR_HEADER[..]].concat(), "image {i}");
+        }
+    }
+    println!("refused: {calls} calls on {OWING_IMAGES} images to refuse a confirmation, and to send the error header or another");
+    only_these("a confirmation refused", &undenied, &[0, 4, 5, 7]);
+    only_these("a call that needs Send before the error header", &seen, &[4, 6, 7]);
+    only_these("flush for the error header", &flushed, &[0, 4, 10]);
+}
+
+// Of these counts by refusal number only some may be above 0, and those well above.
+fn only_these(what: &str, counts: &[usize; 30], numbers: &[usize]) {
+    let told: Vec<String> = numbers.iter().map(|&n| format!("{n}: {}", counts[n])).collect();
+    println!("refused: {what}: {}", told.join(", "));
+    assert_eq!(numbers.iter().map(|&n| counts[n]).sum::<usize>(), counts.iter().sum(), "{what}: another refusal");
+    assert!(numbers.iter().all(|&n| counts[n] >= 100), "{what}: hardly any refusal of one kind");
+}
+
 // ---- calls at the bounds of the rules, one by one
 
 const MAX: u16 = 16;
@@ -1065,7 +1160,7 @@ fn accepting(call: Call) -> (plain::End, Vec<u8>) {
         bidder: false,
         state: match call {
             Call::Allocate => State::Reset,
-            Call::Confirmed => State::Owes,
+            Call::Confirmed | Call::SendError => State::Owes,
             Call::Take | Call::Read | Call::Pace => State::Receive,
             Call::Withdraw => State::DeferTurn,
             _ => State::Send,
@@ -1073,6 +1168,7 @@ fn accepting(call: Call) -> (plain::End, Vec<u8>) {
         follow: Follow::Stay,
         mark: Mark::None,
         due: false,
+        error: false,
         bid: false,
         out_chain: false,
         in_chain: false,
@@ -1171,6 +1267,123 @@ fn states_at_their_bounds() {
             block.cells[block.image.start + at::STATE] = state;
             let answer = bench.tried(5, call, &mut block, &AN_OPENING, 0);
             assert_eq!(answer.refusal == 5, usize::from(state) >= STATES.len(), "{call:?} in state {state}: {}", answer.refusal);
+        }
+    }
+}
+
+#[test]
+fn marks_at_their_bounds() {
+    let mut bench = Bench::new();
+    for call in later_calls() {
+        for mark in 0..=255 {
+            let (end, gift) = accepting(call);
+            let mut block = laid(&end, &gift, &GOOD_INBOX, [0; 4]);
+            block.cells[block.image.start + at::MARK] = mark;
+            let answer = bench.tried(6, call, &mut block, &AN_OPENING, 0);
+            // A mark stands only in Receive, and blocks a take.
+            let expected = match usize::from(mark) {
+                0 => 0,
+                1..=6 if end.state != State::Receive => 5,
+                1..=6 if call == Call::Take => 13,
+                1..=6 => 0,
+                _ => 5,
+            };
+            assert_eq!(answer.refusal, expected, "{call:?} under mark {mark}");
+        }
+    }
+}
+
+#[test]
+fn error_due_at_its_bounds() {
+    let mut bench = Bench::new();
+    for call in later_calls() {
+        for error in 0..=255 {
+            // In the state in which the call is accepted; then in Send, with nothing kept, with a byte kept, and with BB due.
+            for (send, held, due) in [(false, 0, false), (true, 0, false), (true, 1, false), (true, 0, true)] {
+                let (mut end, gift) = accepting(call);
+                let state = if send { State::Send } else { end.state };
+                (end.state, end.out_held, end.due) = (state, held, due);
+                let mut block = laid(&end, &gift, &GOOD_INBOX, [0; 4]);
+                let without = bench.tried(7, call, &mut block.clone(), &AN_OPENING, 0).refusal;
+                block.cells[block.image.start + at::ERROR] = error;
+                let answer = bench.tried(7, call, &mut block, &AN_OPENING, 0);
+                let expected = match error {
+                    0 => without,
+                    1 if state != State::Send || held > 0 || due => 5,
+                    1 if NEED_SEND.contains(&call) => 7,
+                    1 => without,
+                    _ => 5,
+                };
+                assert_eq!(answer.refusal, expected, "{call:?} in {state:?}, error due {error}, {held} kept, BB due {due}");
+            }
+        }
+    }
+}
+
+// The RU of a unit, right, and with one byte more, one less, none, and each byte changed.
+fn near_rus(right: &[u8]) -> Vec<Vec<u8>> {
+    let mut rus = vec![right.to_vec(), [right, &[0x00]].concat(), right[1..].to_vec(), Vec::new()];
+    for i in 0..right.len() {
+        let mut changed = right.to_vec();
+        changed[i] ^= 1;
+        rus.push(changed);
+    }
+    rus
+}
+
+// An error header in every state: the first question in document 01's order that it fails.
+#[test]
+fn error_headers_taken() {
+    let mut bench = Bench::new();
+    let places = [WHOLE, Place::Between(true), Place::AfterFirst(0), Place::Left(1, false)];
+    for (state, bidder) in STATES.into_iter().flat_map(|state| [(state, false), (state, true)]) {
+        for (chain, taken) in places.into_iter().flat_map(|place| [(false, place), (true, place)]) {
+            for (pacing, number) in [(true, 2), (false, 2), (true, 3), (true, 1)] {
+                for ru in near_rus(&ERROR_HEADER) {
+                    let (mut end, _) = accepting(Call::Take);
+                    (end.state, end.bidder, end.in_chain, end.taken) = (state, bidder, chain, taken);
+                    let gift = [&[0x00, number, 0x0B, 0x90 | u8::from(pacing), 0x00], &ru[..]].concat();
+                    let mut block = laid(&end, &gift, &[], [0; 4]);
+                    let answer = bench.tried(8, Call::Take, &mut block, &AN_OPENING, 0);
+                    let questions = [
+                        (22, ru == ERROR_HEADER),
+                        (27, pacing),
+                        (23, number == 2),
+                        (24, !chain),
+                        (25, !bidder || state != State::Reset),
+                        (26, state == State::Receive),
+                        (29, taken == WHOLE),
+                    ];
+                    let expected = questions.iter().find(|(_, good)| !good).map_or(0, |(number, _)| *number);
+                    assert_eq!(answer.refusal, expected, "{gift:02X?} in {state:?}, bidder {bidder}, chain {chain}, {taken:?}");
+                }
+            }
+        }
+    }
+}
+
+// The refusal of a confirmation in every state: it is taken where one is awaited, and gives Receive whatever was to follow.
+#[test]
+fn refusals_of_a_confirmation_taken() {
+    let mut bench = Bench::new();
+    for (state, follow) in STATES.into_iter().flat_map(|state| FOLLOWS.map(|follow| (state, follow))) {
+        for number in 0..3 {
+            for ru in near_rus(&[0x08, 0x46, 0x00, 0x00]) {
+                let (mut end, _) = accepting(Call::Take);
+                (end.state, end.follow) = (state, follow);
+                let gift = [&[0x00, number, 0x87, 0x30, 0x00], &ru[..]].concat();
+                let mut block = laid(&end, &gift, &[], [0; 4]);
+                let answer = bench.tried(9, Call::Take, &mut block, &AN_OPENING, 0);
+                let fits = state == State::Waits && number == 1;
+                let expected = match (ru == [0x08, 0x46, 0x00, 0x00], fits) {
+                    (false, _) => 22,
+                    (true, false) => 28,
+                    (true, true) => 0,
+                };
+                assert_eq!(answer.refusal, expected, "{gift:02X?} in {state:?}");
+                end.state = if expected == 0 { State::Receive } else { state };
+                assert_eq!(decoded(&block.cells[block.image.clone()]), Some(end), "{gift:02X?} in {state:?}, {follow:?}");
+            }
         }
     }
 }

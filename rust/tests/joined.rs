@@ -10,6 +10,11 @@
 //! back; take, read and pace leave the state; all others are refused, with 7 or, for a wrong length, 6. At every read that completes
 //! a table (parts joined by what the reads say, until one that no other follows): it is the first table given that has not been read.
 //!
+//! A confirmation refused: the end that refuses it is in Send, and until its error header has gone flush makes that and nothing else,
+//! or is refused with 10; every other call that needs Send is refused with 7. The end that takes the refusal is in Receive with no mark
+//! until it takes its next request, which is the error header; that comes nowhere else, leaves its mark and no byte, and the mark read
+//! leaves Receive.
+//!
 //! At times: the bytes in the inbox, on the line and in the send buffer are compared with those accepted, one by one. That is after
 //! every call while fewer than 256 bytes are under way; with more, once in as many calls as there are 256s of them; and at the end
 //! of every run.
@@ -19,7 +24,7 @@
 mod common;
 
 use common::{at, credit, word, Random};
-use lu62::{Answer, Deferred, End, ReadAnswer, Reason, Refusal, Role, Session};
+use lu62::{Answer, Deferred, End, Mark, ReadAnswer, Reason, Refusal, Role, Session, IMAGE};
 use plain::{walk, Place, WHOLE};
 use std::collections::VecDeque;
 
@@ -41,9 +46,13 @@ enum Call {
     Read(Vec<u8>),
     Defer(Deferred),
     Withdraw,
+    SendError,
 }
 
 const SEND: u8 = 1;
+const RECEIVE: u8 = 2;
+const OWES: u8 = 3;
+const WAITS: u8 = 4;
 const DEFER_TURN: u8 = 5;
 const DEFER_END: u8 = 6;
 
@@ -88,6 +97,8 @@ struct Side {
     given: Place,
     read: Place,
     tables: Tables,
+    // The refusal of a confirmation has been taken here, and the error header behind it has not.
+    unexplained: bool,
     requests: usize,
     pacing_taken: usize,
     records_read: usize,
@@ -139,17 +150,30 @@ fn ended(part: &[u8]) -> bool {
     part.len() >= 2 && part.len() == (usize::from(part[0]) * 256 + usize::from(part[1])) % 0x8000
 }
 
+// What was seen of confirmations refused.
+#[derive(Default)]
+struct Errors {
+    // Refused, by what was to follow: stay, turn, end.
+    denials: [usize; 3],
+    denials_taken: usize,
+    headers_made: usize,
+    headers_taken: usize,
+    // Where an error is due: flushes refused with 10, calls refused with 7 or 6, pacing responses and bid refusals taken.
+    meanwhile: [usize; 4],
+}
+
 #[derive(Default)]
 struct Seen {
     calls: usize,
-    accepted: [usize; 13],
+    accepted: [usize; 14],
     refused: [usize; 30],
     // In Defer-turn and Defer-end: carried out by flush, by confirm; withdrawn; refused with 10, with 7 or 6; pacing responses taken;
     // bids refused.
     deferred: [[usize; 7]; 2],
+    errors: Errors,
     grants: usize,
     bid_refusals: usize,
-    marks: [usize; 6],
+    marks: [usize; 7],
     records: usize,
     parts: usize,
     tables: usize,
@@ -209,6 +233,7 @@ impl Seen {
             Call::Defer(Deferred::Turn) => 10,
             Call::Defer(Deferred::End) => 11,
             Call::Withdraw => 12,
+            Call::SendError => 13,
         };
         match outcome {
             Outcome::Called(Err(refusal)) | Outcome::Read(Err(refusal), _) => {
@@ -243,6 +268,15 @@ impl Seen {
         let what =
             "carried out by flush, by confirm, withdrawn, refused with 10, with 7 or 6, pacing responses taken, bids refused";
         println!("joined: in Defer-turn and in Defer-end: {what}: {:?}", self.deferred);
+        let Errors { denials, denials_taken, headers_made, headers_taken, meanwhile } = &self.errors;
+        println!(
+            "joined: confirmations refused {}, by what was to follow (stay, turn, end) {denials:?}; refusals taken {denials_taken}; \
+             error headers made {headers_made}, taken {headers_taken}, their marks read {}",
+            denials.iter().sum::<usize>(),
+            self.marks[Mark::Error as usize + 1]
+        );
+        let what = "flush refused with 10, calls refused with 7 or 6, pacing responses taken, bid refusals taken";
+        println!("joined: where an error is due: {what}: {meanwhile:?}");
     }
 
     // Runs that never reach a rule would show nothing about it.
@@ -257,6 +291,9 @@ impl Seen {
         assert!(self.unfinished.iter().all(|&n| n >= 1000));
         assert!(self.edges.iter().all(|&n| n >= 20));
         assert!(self.deferred.iter().all(|counts| counts[..5].iter().all(|&n| n >= 500) && counts[5..].iter().all(|&n| n >= 50)));
+        assert!(self.errors.denials.iter().all(|&n| n >= 500) && self.errors.denials_taken >= 1000);
+        assert!(self.errors.headers_made >= 1000 && self.errors.headers_taken >= 1000);
+        assert!(self.errors.meanwhile.iter().all(|&n| n >= 50));
     }
 }
 
@@ -276,8 +313,8 @@ impl Side {
                 let fits = (1..=word(image, at::OUT_MAX)).contains(&bytes.len());
                 assert_eq!(
                     refusal.reason == Reason::BadLl,
-                    fits && image[at::STATE] == SEND && after.is_none(),
-                    "8 is for a bad LL given in Send: {refusal}"
+                    fits && image[at::STATE] == SEND && image[at::ERROR] == 0 && after.is_none(),
+                    "8 is for a bad LL given in Send with no error due: {refusal}"
                 );
                 if refusal.reason == Reason::BadLl {
                     seen.count_edges(self.given, bytes);
@@ -325,6 +362,79 @@ impl Side {
         }
     }
 
+    // A call made here where an error is due.
+    fn note_error_due(&self, call: &Call, outcome: &Outcome, seen: &mut Seen) {
+        let image = self.end.image();
+        let counts = &mut seen.errors.meanwhile;
+        let left = (image[at::STATE], image[at::ERROR]);
+        match (call, outcome) {
+            (Call::Flush, Outcome::Called(Ok(answer))) => {
+                assert!(is_error_header(&self.unit[..answer.unit]) && answer.unit == 12, "flush makes the error header");
+                assert_eq!(left, (SEND, 0), "after the error header");
+                seen.errors.headers_made += 1;
+            }
+            (Call::Take | Call::Read(_) | Call::Pace, _) => {
+                assert_eq!(left, (SEND, 1), "{call:?} leaves the error due");
+                if let (Call::Take, Outcome::Called(Ok(answer))) = (call, outcome) {
+                    assert_eq!(answer.unit, 0, "no bid comes where an error is due");
+                    counts[2] += usize::from(self.taken[2..5] == PACING_RESPONSE);
+                    counts[3] += usize::from(self.taken[2] == 0xCF);
+                }
+            }
+            (_, Outcome::Called(Err(refusal))) => {
+                let expected = match call {
+                    Call::Confirm => Reason::WrongState,
+                    _ => self.reason_in_defer(call),
+                };
+                assert_eq!((refusal.reason, left), (expected, (SEND, 1)), "{call:?} where an error is due");
+                counts[usize::from(refusal.reason != Reason::NoCredit)] += 1;
+            }
+            _ => panic!("{call:?} is accepted where an error is due"),
+        }
+    }
+
+    // A confirmation refused here, if one is owed: the unit that was made, and what the record then says.
+    fn note_denied(&self, before: &[u8; IMAGE], result: &Result<Answer, Refusal>, seen: &mut Seen) {
+        let image = self.end.image();
+        let Ok(answer) = result else {
+            let wrong_state = result.is_err_and(|refusal| refusal.reason == Reason::WrongState);
+            assert!(wrong_state && before[at::STATE] != OWES, "a confirmation that is owed is not refused: {result:?}");
+            return;
+        };
+        let number = (word(before, at::OWED_NUMBER) as u16).to_be_bytes();
+        assert_eq!(self.unit[..answer.unit], [&number[..], &NO_CONFIRMATION, &[0x08, 0x46, 0x00, 0x00]].concat());
+        let mut expected = *before;
+        (expected[at::STATE], expected[at::ERROR]) = (SEND, 1);
+        assert_eq!((before[at::STATE], image), (OWES, &expected), "only state and error due change");
+        seen.errors.denials[usize::from(before[at::FOLLOW])] += 1;
+    }
+
+    // A unit taken here: a bid, which is answered; the refusal of a confirmation, and the next request behind it, which is the error
+    // header.
+    fn note_taken(&mut self, before: &[u8; IMAGE], answer: &Answer, seen: &mut Seen) {
+        match (answer.unit, self.unit[2], before[at::STATE]) {
+            (0, _, _) => {}
+            (_, 0xCB, 0) => seen.grants += 1,
+            (_, 0xCF, 1..) => seen.bid_refusals += 1,
+            (_, other, state) => panic!("a take in state {state} made a unit of kind {other:02X}"),
+        }
+        let image = self.end.image();
+        let left = (image[at::STATE], image[at::MARK], word(image, at::IN_HELD));
+        let held = word(before, at::IN_HELD);
+        if self.taken[2] & 0x80 == 0 {
+            let error = is_error_header(&self.taken);
+            assert_eq!(error, self.unexplained, "the request behind a refused confirmation, and no other, is the error header");
+            assert!(!error || left == (RECEIVE, 6, held), "an error header leaves its mark and no byte");
+            seen.errors.headers_taken += usize::from(error);
+            self.unexplained = false;
+        }
+        if self.taken[2..5] == NO_CONFIRMATION {
+            assert_eq!((before[at::STATE], left), (WAITS, (RECEIVE, 0, held)), "the refusal of a confirmation gives Receive");
+            seen.errors.denials_taken += 1;
+            self.unexplained = true;
+        }
+    }
+
     // A turn or an end carried out: the unit that was made, and the state after it.
     fn check_carried_out(&self, turn: bool, confirm: bool, answer: &Answer) {
         assert!(answer.unit >= 5, "flush and confirm in Defer make a unit");
@@ -332,8 +442,8 @@ impl Side {
         let expected = [0x01, if confirm { 0x20 } else { 0x90 }, if turn { 0x20 } else { 0x01 }];
         assert_eq!(header, expected, "last in its chain, and what it says, but for first, pacing bit and BB");
         let state = match (confirm, turn) {
-            (true, _) => 4,
-            (false, true) => 2,
+            (true, _) => WAITS,
+            (false, true) => RECEIVE,
             (false, false) => 0,
         };
         assert_eq!(self.end.image()[at::STATE], state, "the state after it");
@@ -353,8 +463,14 @@ struct Pair {
     sides: [Side; 2],
 }
 
-// The header of a pacing response.
+// The headers of a pacing response and of a refused confirmation.
 const PACING_RESPONSE: [u8; 3] = [0x83, 0x01, 0x00];
+const NO_CONFIRMATION: [u8; 3] = [0x87, 0x30, 0x00];
+
+// The error header, with or without the pacing bit.
+fn is_error_header(unit: &[u8]) -> bool {
+    (unit[2], unit[3] & 0xFE, unit[4]) == (0x0B, 0x90, 0x00) && unit[5..] == [0x07, 0x07, 0x08, 0x89, 0x00, 0x00, 0x00]
+}
 
 fn data_ru(unit: &[u8]) -> &[u8] {
     if unit[2] <= 3 {
@@ -398,6 +514,7 @@ impl Pair {
                 given: WHOLE,
                 read: WHOLE,
                 tables: Tables::default(),
+                unexplained: false,
                 requests: 0,
                 pacing_taken: 0,
                 records_read: 0,
@@ -429,31 +546,42 @@ impl Pair {
             }
             Call::Defer(what) => side.end.defer(*what).map(|()| Answer { unit: 0 }),
             Call::Withdraw => side.end.withdraw().map(|()| Answer { unit: 0 }),
+            Call::SendError => side.end.send_error(&mut side.unit),
         };
         if let Ok(answer) = result {
-            if *call == Call::Take {
-                side.taken = side.line.pop_front().unwrap_or_default();
-                side.on_line -= data_ru(&side.taken).len();
-                side.pacing_taken += usize::from(side.taken[2..5] == PACING_RESPONSE);
-            }
-            if answer.unit > 0 {
-                let unit = side.unit[..answer.unit].to_vec();
-                if unit[2] & 0x80 == 0 {
-                    side.requests += 1;
-                }
-                let other = &mut self.sides[1 - who];
-                other.on_line += data_ru(&unit).len();
-                other.line.push_back(unit);
-            }
+            self.carry(who, *call == Call::Take, answer);
         }
         Outcome::Called(result)
     }
 
-    // What the outcome adds to the histories, with the checks that belong to this one call. `state` is that before the call.
-    fn note(&mut self, who: usize, call: &Call, state: u8, outcome: &Outcome, seen: &mut Seen) {
+    // After an accepted call: a unit taken leaves the line, and a unit made joins the other.
+    fn carry(&mut self, who: usize, taken: bool, answer: Answer) {
+        let side = &mut self.sides[who];
+        if taken {
+            side.taken = side.line.pop_front().unwrap_or_default();
+            side.on_line -= data_ru(&side.taken).len();
+            side.pacing_taken += usize::from(side.taken[2..5] == PACING_RESPONSE);
+        }
+        if answer.unit > 0 {
+            let unit = side.unit[..answer.unit].to_vec();
+            if unit[2] & 0x80 == 0 {
+                side.requests += 1;
+            }
+            let other = &mut self.sides[1 - who];
+            other.on_line += data_ru(&unit).len();
+            other.line.push_back(unit);
+        }
+    }
+
+    // What the outcome adds to the histories, with the checks that belong to this one call. `before` is the image before the call.
+    fn note(&mut self, who: usize, call: &Call, before: &[u8; IMAGE], outcome: &Outcome, seen: &mut Seen) {
+        let state = before[at::STATE];
         seen.count(call, outcome);
         if is_defer(state) {
             self.sides[who].note_deferred(call, state, outcome, seen);
+        }
+        if before[at::ERROR] == 1 {
+            self.sides[who].note_error_due(call, outcome, seen);
         }
         match (call, outcome) {
             (Call::SendData(bytes), Outcome::Called(result)) => self.sides[who].note_given(bytes, result, seen),
@@ -474,12 +602,9 @@ impl Pair {
                     Err(refusal) => assert!([Reason::NothingToRead, Reason::BadLength].contains(&refusal.reason)),
                 }
             }
-            (Call::Take, Outcome::Called(Ok(answer))) if answer.unit > 0 => match (self.sides[who].unit[2], state) {
-                (0xCB, 0) => seen.grants += 1,
-                (0xCF, 1..) => seen.bid_refusals += 1,
-                (other, _) => panic!("a take in state {state} made a unit of kind {other:02X}"),
-            },
+            (Call::Take, Outcome::Called(Ok(answer))) => self.sides[who].note_taken(before, answer, seen),
             (Call::Withdraw, Outcome::Called(Ok(_))) => assert!(is_defer(state), "nothing was prepared"),
+            (Call::SendError, Outcome::Called(result)) => self.sides[who].note_denied(before, result, seen),
             _ => {}
         }
     }
@@ -509,6 +634,8 @@ impl Pair {
             seen.most_parts = seen.most_parts.max(table.len());
             assert_eq!(Some(table), giver.tables.given.pop_front(), "a table read is not the next table given");
         }
+        let state = reader.end.image()[at::STATE];
+        assert!(answer.mark != Some(Mark::Error) || state == RECEIVE, "the mark error leaves Receive");
         seen.marks[answer.mark.map_or(0, |mark| mark as usize + 1)] += 1;
     }
 
@@ -518,6 +645,8 @@ impl Pair {
         assert!(!images.iter().all(|image| holds_send(image[at::STATE])), "both ends are in Send or Defer");
         for who in 0..2 {
             let (giver, taker) = (&self.sides[who], &self.sides[1 - who]);
+            let waits_for_cause = images[who][at::STATE] == RECEIVE && images[who][at::MARK] == 0;
+            assert!(!giver.unexplained || waits_for_cause, "Receive and no mark, until the error header is taken");
             let window = usize::from(sizes.window[who]);
             assert_eq!(
                 giver.requests + credit(images[who], at::OUT_WINDOW),
@@ -551,6 +680,8 @@ struct Habits {
     close: usize,
     // How often, of 16, a record is a part that another follows.
     parts: usize,
+    // How often, of 16, a confirmation that is owed is refused.
+    deny: usize,
     longest_record: usize,
     longest_read: usize,
     largest_gift: usize,
@@ -571,6 +702,7 @@ fn habits(random: &mut Random, sizes: &Sizes) -> Habits {
         read: random.range(2, 14),
         close: random.range(1, 12),
         parts: random.pick(&[0, 0, 2, 5, 12]),
+        deny: random.pick(&[0, 4, 13]),
         longest_record,
         longest_read: if random.chance(1, 2) { random.range(1, 20) } else { random.range(1, 3000) },
         largest_gift: if random.chance(1, 3) { 9 } else { 1024 },
@@ -641,7 +773,7 @@ fn read(random: &mut Random, habits: &Habits) -> Call {
 }
 
 fn odd_call(random: &mut Random, side: &Side, max: usize, habits: &Habits) -> Call {
-    match random.below(15) {
+    match random.below(16) {
         0 => Call::Allocate,
         1 => Call::Flush,
         2 => Call::Confirm,
@@ -663,6 +795,7 @@ fn odd_call(random: &mut Random, side: &Side, max: usize, habits: &Habits) -> Ca
         11 => send_data(random, side, max, habits),
         12 => Call::Defer(random.pick(&[Deferred::Turn, Deferred::End])),
         13 => Call::Withdraw,
+        14 => Call::SendError,
         _ => read(random, habits),
     }
 }
@@ -695,6 +828,8 @@ fn choose(random: &mut Random, side: &Side, max: usize, habits: &Habits) -> Call
     }
     match image[at::STATE] {
         0 => Call::Allocate,
+        SEND if image[at::ERROR] == 1 && random.chance(1, 2) => odd_call(random, side, max, habits),
+        SEND if image[at::ERROR] == 1 => Call::Flush,
         // After a part that another follows, confirm, turn and end are tried too, but not often: they are refused.
         SEND if closes(side.given, random, habits) => match random.below(6) {
             0 => Call::Confirm,
@@ -707,7 +842,8 @@ fn choose(random: &mut Random, side: &Side, max: usize, habits: &Habits) -> Call
         SEND => send_data(random, side, max, habits),
         DEFER_TURN | DEFER_END if random.chance(1, 8) => odd_call(random, side, max, habits),
         DEFER_TURN | DEFER_END => random.pick(&DEFER_CALLS).clone(),
-        3 => Call::Confirmed,
+        OWES if random.chance(habits.deny, 16) => Call::SendError,
+        OWES => Call::Confirmed,
         _ => Call::Take,
     }
 }
@@ -835,9 +971,9 @@ fn run(random: &mut Random, sizes: &Sizes, habits: &Habits, calls: usize, compar
         if call == Call::Take && made.pair.sides[who].line.is_empty() {
             continue;
         }
-        let state = made.pair.sides[who].end.image()[at::STATE];
+        let before = *made.pair.sides[who].end.image();
         let outcome = made.pair.call(who, &call);
-        made.pair.note(who, &call, state, &outcome, seen);
+        made.pair.note(who, &call, &before, &outcome, seen);
         check_after(&made.pair, sizes, &mut until_whole, seen);
         if compare {
             lists[who].push(call);
@@ -867,6 +1003,7 @@ fn joined_ends() {
             read: 9,
             close: 3,
             parts: 4,
+            deny: 8,
             longest_record: 40,
             longest_read: 64,
             largest_gift: 1024,

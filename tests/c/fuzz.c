@@ -5,7 +5,7 @@
  * checksum; that a changed byte of data is found too, the ninth kind of fault, is the records' own. So it is with the tenth, the top
  * bit of an LL turned over, by which a table would end early or go on.)
  *
- *   fuzz EXPECTED SEED RUNS     EXPECTED is the file with the whole table; RUNS for each kind of fault
+ *   fuzz EXPECTED SEED RUNS     EXPECTED is the file with the whole table, and what the laboratory says; RUNS for each kind of fault
  *
  * Prints what the runs came to, or the run that went wrong. */
 #include "child.h"
@@ -245,16 +245,42 @@ static bool one_message(const char *said, const char *front)
     return strncmp(said, front, strlen(front)) == 0 && end != NULL && end[1] == '\0';
 }
 
-/* What is wrong with a run, or NULL. */
-static const char *wrong(const struct child *lab, const struct child *blend, const char *expected)
+/* What each program prints where there is no fault. */
+struct expected {
+    char blender[CHILD_TEXT], laboratory[CHILD_TEXT];
+};
+
+/* Parts what both print to one file: the laboratory's lines have its name in front. */
+static void read_expected(const char *path, struct expected *expected)
 {
-    size_t length = strlen(blend->out);
-    if (blend->status == EXIT_SUCCESS && (strcmp(blend->out, expected) != 0 || blend->err[0] != '\0'))
+    static const char name[] = "laboratory: ";
+    char whole[CHILD_TEXT];
+    read_file(path, whole, sizeof whole);
+    expected->blender[0] = expected->laboratory[0] = '\0';
+    for (const char *line = whole, *end; (end = strchr(line, '\n')) != NULL; line = end + 1)
+        (void)strncat(strncmp(line, name, strlen(name)) == 0 ? expected->laboratory : expected->blender, line, (size_t)(end + 1 - line));
+}
+
+/* Whether what was printed is a front part, in whole lines, of what is expected. */
+static bool is_front(const char *printed, const char *expected)
+{
+    size_t length = strlen(printed);
+    return strncmp(printed, expected, length) == 0 && (length == 0 || printed[length - 1] == '\n');
+}
+
+/* What is wrong with a run, or NULL. */
+static const char *wrong(const struct child *lab, const struct child *blend, const struct expected *expected)
+{
+    if (blend->status == EXIT_SUCCESS && (strcmp(blend->out, expected->blender) != 0 || blend->err[0] != '\0'))
         return "status 0 without the whole table";
+    if (blend->status == EXIT_SUCCESS && strcmp(lab->out, expected->laboratory) != 0)
+        return "status 0 without all that the laboratory has to say of its cards";
     if (blend->status != EXIT_SUCCESS && blend->status != EXIT_FAILURE)
         return "the blender did not end by itself";
-    if (strncmp(blend->out, expected, length) != 0 || (length > 0 && blend->out[length - 1] != '\n'))
+    if (!is_front(blend->out, expected->blender))
         return "a wrong figure";
+    if (!is_front(lab->out, expected->laboratory))
+        return "the laboratory says something wrong of a card";
     if (blend->status == EXIT_FAILURE && !one_message(blend->err, "blender: conversation with the laboratory ended: "))
         return "the blender stopped without its message";
     if (lab->status != EXIT_SUCCESS && !one_message(lab->err, "laboratory: conversation with the blender ended: "))
@@ -280,7 +306,7 @@ static void count_run(struct tally *tally, const struct child *blend)
 }
 
 /* Runs once and exits if something is wrong with it. */
-static void try_fault(const struct line_fault *fault, const char *expected, struct tally *tally, struct passage *passage)
+static void try_fault(const struct line_fault *fault, const struct expected *expected, struct tally *tally, struct passage *passage)
 {
     static struct child lab, blend;
     int64_t start = clock_ms();
@@ -304,22 +330,22 @@ static void try_fault(const struct line_fault *fault, const char *expected, stru
 
 int main(int count, char **arguments)
 {
-    char expected[CHILD_TEXT];
+    static struct expected expected;
     struct tally tallies[KINDS + 1] = {{0, 0, 0, 0}};
     struct passage whole, passage;
     if (count != 4) {
         fprintf(stderr, "usage: fuzz EXPECTED SEED RUNS\n");
         return 2;
     }
-    read_file(arguments[1], expected, sizeof expected);
+    read_expected(arguments[1], &expected);
     uint64_t random = strtoull(arguments[2], NULL, 10);
     unsigned long runs = strtoul(arguments[3], NULL, 10);
-    try_fault(&(struct line_fault){.kind = NO_FAULT}, expected, &tallies[NO_FAULT], &whole);
+    try_fault(&(struct line_fault){.kind = NO_FAULT}, &expected, &tallies[NO_FAULT], &whole);
     for (unsigned long i = 0; i < runs; i++)
         for (enum kind kind = 0; kind < KINDS; kind++) {
             struct line_fault fault = {kind, next_random(&random) % 3 == 0, 0, next_random(&random)};
             fault.unit = next_random(&random) % whole.units[fault.direction];
-            try_fault(&fault, expected, &tallies[kind], &passage);
+            try_fault(&fault, &expected, &tallies[kind], &passage);
         }
     for (enum kind kind = 0; kind < KINDS; kind++)
         printf("fuzz: %s: %lu runs printed the whole table, %lu stopped at a refusal, %lu at the time limit, %lu otherwise\n",

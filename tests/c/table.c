@@ -1,6 +1,6 @@
 /* Examples byte for byte through the C interface: every row of document 01's table, each under the row's own words (`row`), and some
- * of our own beside them (`ours`), those of tables in several parts and of a turn or an end prepared among them. Prints how many there
- * were of each, or what differed. */
+ * of our own beside them (`ours`), those of tables in several parts, of a turn or an end prepared and of a confirmation refused among
+ * them. Prints how many there were of each, or what differed. */
 #include "lu62_end.h"
 
 #include <stdbool.h>
@@ -9,7 +9,7 @@
 #include <string.h>
 
 /* Bytes of the image that a test sets to reach an example's starting point, or looks at. */
-enum { STATE_AT = 2, OUT_NUMBER_AT = 16, GIVEN_AT = 18, OWED_NUMBER_AT = 40 };
+enum { STATE_AT = 2, FOLLOW_AT = 3, OUT_NUMBER_AT = 16, GIVEN_AT = 18, OWED_NUMBER_AT = 40, ERROR_AT = 42 };
 
 enum { LARGEST = 64, WIDEST = 3 };
 
@@ -739,6 +739,223 @@ static void wrong_lengths_of_an_image(void)
     }
 }
 
+/* An end that owes the confirmation of unit 7, with this to follow it: 0 stay, 1 turn, 2 end. */
+static void open_owing(struct host *host, uint8_t follows)
+{
+    open_host(host, LU62_BIDDER, 3, 64);
+    host->end.image[STATE_AT] = LU62_CONFIRM_OWED;
+    host->end.image[FOLLOW_AT] = follows;
+    host->end.image[OWED_NUMBER_AT] = 7;
+}
+
+/* Document 02: the negative response, and flush makes the error header; between them only the state and the flag have changed. */
+static void a_confirmation_refused(void)
+{
+    struct host host;
+    uint8_t image[LU62_IMAGE];
+    ours("a confirmation refused, number owed 7, whatever was to follow, then flush twice");
+    for (uint8_t follows = 0; follows < 3; follows++) {
+        open_owing(&host, follows);
+        memcpy(image, host.end.image, sizeof image);
+        expect_number("error due before", lu62_end_error_due(&host.end), 0);
+        (void)lu62_end_send_error(&host.end);
+        UNIT(&host, 0x00, 0x07, 0x87, 0x30, 0x00, 0x08, 0x46, 0x00, 0x00);
+        image[STATE_AT] = LU62_SEND;
+        image[ERROR_AT] = 1;
+        expect_bytes("image", host.end.image, sizeof host.end.image, image, sizeof image);
+        expect_number("error due", lu62_end_error_due(&host.end), 1);
+        (void)lu62_end_flush(&host.end);
+        UNIT(&host, 0x00, 0x01, 0x0B, 0x91, 0x00, 0x07, 0x07, 0x08, 0x89, 0x00, 0x00, 0x00);
+        expect_state(&host, LU62_SEND);
+        expect_number("error due after", lu62_end_error_due(&host.end), 0);
+        (void)lu62_end_flush(&host.end);
+        expect_no_unit(&host);
+        SEND(&host, 0x00, 0x02);
+        (void)lu62_end_flush(&host.end);
+        UNIT(&host, 0x00, 0x02, 0x03, 0x90, 0x00, 0x00, 0x02);
+    }
+}
+
+static void refused_before_the_error_header(void)
+{
+    struct host host, before;
+    uint8_t buffer[4];
+    ours("every call that is not allowed before the error header has gone");
+    open_owing(&host, 0);
+    (void)lu62_end_send_error(&host.end);
+    memcpy(&before, &host, sizeof before);
+    SEND(&host, 0x00, 0x02);
+    expect_untouched(&host, &before, LU62_WRONG_STATE);
+    (void)lu62_end_send_data(&host.end, before.send, 0);
+    expect_untouched(&host, &before, LU62_BAD_LENGTH);
+    (void)lu62_end_confirm(&host.end);
+    expect_untouched(&host, &before, LU62_WRONG_STATE);
+    for (size_t i = 0; i < PREPARED; i++) {
+        (void)prepared[i].defer(&host.end);
+        expect_untouched(&host, &before, LU62_WRONG_STATE);
+        for (int confirm = 0; confirm < 2; confirm++) {
+            (void)prepared[i].at_once(&host.end, confirm);
+            expect_untouched(&host, &before, LU62_WRONG_STATE);
+        }
+    }
+    (void)lu62_end_allocate(&host.end);
+    expect_untouched(&host, &before, LU62_WRONG_STATE);
+    (void)lu62_end_confirmed(&host.end);
+    expect_untouched(&host, &before, LU62_WRONG_STATE);
+    (void)lu62_end_send_error(&host.end);
+    expect_untouched(&host, &before, LU62_WRONG_STATE);
+    (void)lu62_end_withdraw(&host.end);
+    expect_untouched(&host, &before, LU62_WRONG_STATE);
+    (void)lu62_end_receive(&host.end, buffer, sizeof buffer);
+    expect_untouched(&host, &before, LU62_NOTHING_TO_READ);
+}
+
+/* W 1, its unit gone with the turn: the error header waits for a pacing response, the refusal before it does not. */
+static void the_error_header_without_credit(void)
+{
+    struct host host, before;
+    uint8_t buffer[4];
+    ours("W 1: a confirmation refused without credit, a pacing answer taken, then flush");
+    open_sender(&host, 1, 64);
+    (void)lu62_end_prepare_to_receive(&host.end, 0);
+    UNIT(&host, 0x00, 0x01, 0x03, 0x91, 0xA0);
+    TAKE(&host, 0x00, 0x01, 0x03, 0x21, 0x20);
+    (void)lu62_end_receive(&host.end, buffer, sizeof buffer);
+    expect_number("mark", host.end.answer.mark, LU62_MARK_CONFIRM_TURN);
+    (void)lu62_end_send_error(&host.end);
+    UNIT(&host, 0x00, 0x01, 0x87, 0x30, 0x00, 0x08, 0x46, 0x00, 0x00);
+    memcpy(&before, &host, sizeof before);
+    (void)lu62_end_flush(&host.end);
+    expect_untouched(&host, &before, LU62_NO_CREDIT);
+    TAKE(&host, 0x00, 0x00, 0x83, 0x01, 0x00);
+    expect_no_unit(&host);
+    expect_number("error due", lu62_end_error_due(&host.end), 1);
+    (void)lu62_end_flush(&host.end);
+    UNIT(&host, 0x00, 0x02, 0x0B, 0x91, 0x00, 0x07, 0x07, 0x08, 0x89, 0x00, 0x00, 0x00);
+}
+
+/* The end that waits: the refusal gives Receive, and the error header is a mark, with no byte of it in the inbox. */
+static void a_refused_confirmation_taken(void)
+{
+    struct host host;
+    uint8_t buffer[4];
+    ours("a refused confirmation taken, then its error header, its mark read, and the turn");
+    open_sender(&host, 3, 64);
+    SEND(&host, 0x00, 0x02);
+    (void)lu62_end_deallocate(&host.end, 1);
+    UNIT(&host, 0x00, 0x01, 0x03, 0x21, 0x81, 0x00, 0x02);
+    TAKE(&host, 0x00, 0x02, 0x87, 0x30, 0x00, 0x08, 0x46, 0x00, 0x00);
+    expect_refusal(&host, LU62_BAD_RESPONSE);
+    TAKE(&host, 0x00, 0x01, 0x87, 0x30, 0x00, 0x08, 0x13, 0x00, 0x00);
+    expect_refusal(&host, LU62_BAD_RU);
+    TAKE(&host, 0x00, 0x01, 0x87, 0x30, 0x00, 0x08, 0x46, 0x00, 0x00);
+    expect_no_unit(&host);
+    expect_state(&host, LU62_RECEIVE);
+    (void)lu62_end_receive(&host.end, buffer, sizeof buffer);
+    expect_refusal(&host, LU62_NOTHING_TO_READ);
+    TAKE(&host, 0x00, 0x01, 0x0B, 0x91, 0x00, 0x07, 0x07, 0x08, 0x89, 0x00, 0x00, 0x00);
+    expect_no_unit(&host);
+    expect_number("bytes in the inbox", lu62_end_inbox_held(&host.end), 0);
+    TAKE(&host, 0x00, 0x02, 0x03, 0x90, 0x20);
+    expect_refusal(&host, LU62_UNREAD_MARK);
+    (void)lu62_end_receive(&host.end, buffer, sizeof buffer);
+    expect_refusal(&host, LU62_ACCEPTED);
+    expect_number("mark", host.end.answer.mark, LU62_MARK_ERROR);
+    expect_number("copied, complete and more of a mark", host.end.answer.copied + host.end.answer.complete + host.end.answer.more, 0);
+    expect_state(&host, LU62_RECEIVE);
+    TAKE(&host, 0x00, 0x02, 0x03, 0x90, 0x20);
+    (void)lu62_end_receive(&host.end, buffer, sizeof buffer);
+    expect_number("mark", host.end.answer.mark, LU62_MARK_TURN);
+    expect_state(&host, LU62_SEND);
+}
+
+/* An error header that comes where it may not: in Send, within a chain, within a record, to a bidder in Reset, and with another RU. */
+static void error_headers_that_break_rules(void)
+{
+    struct host host;
+    ours("error headers that break the protocol");
+    open_sender(&host, 3, 64);
+    TAKE(&host, 0x00, 0x01, 0x0B, 0x91, 0x00, 0x07, 0x07, 0x08, 0x89, 0x00, 0x00, 0x00);
+    expect_refusal(&host, LU62_BAD_STATE);
+    expect_number("sense", host.end.answer.sense, 0x20040000);
+    open_host(&host, LU62_BIDDER, 3, 64);
+    TAKE(&host, 0x00, 0x01, 0x0B, 0x91, 0x00, 0x07, 0x07, 0x08, 0x89, 0x00, 0x00, 0x00);
+    expect_refusal(&host, LU62_BAD_BRACKET);
+    TAKE(&host, 0x00, 0x01, 0x0B, 0x91, 0x80, 0x07, 0x07, 0x08, 0x89, 0x00, 0x00, 0x00);
+    expect_refusal(&host, LU62_BAD_HEADER);
+    expect_number("rule", host.end.answer.rule, 2);
+    open_receiver(&host);
+    TAKE(&host, 0x00, 0x02, 0x0B, 0x90, 0x00, 0x07, 0x07, 0x08, 0x89, 0x00, 0x00);
+    expect_refusal(&host, LU62_BAD_RU);
+    TAKE(&host, 0x00, 0x02, 0x0B, 0x91, 0x00, 0x07, 0x07, 0x08, 0x89, 0x00, 0x00, 0x00);
+    expect_refusal(&host, LU62_BAD_PACING);
+    TAKE(&host, 0x00, 0x03, 0x0B, 0x90, 0x00, 0x07, 0x07, 0x08, 0x89, 0x00, 0x00, 0x00);
+    expect_refusal(&host, LU62_BAD_NUMBER);
+    TAKE(&host, 0x00, 0x02, 0x02, 0x90, 0x00, 0x00, 0x02);
+    TAKE(&host, 0x00, 0x03, 0x0B, 0x90, 0x00, 0x07, 0x07, 0x08, 0x89, 0x00, 0x00, 0x00);
+    expect_refusal(&host, LU62_BAD_CHAIN);
+    open_receiver(&host);
+    TAKE(&host, 0x00, 0x02, 0x03, 0x90, 0x00, 0x80, 0x02);
+    TAKE(&host, 0x00, 0x03, 0x0B, 0x90, 0x00, 0x07, 0x07, 0x08, 0x89, 0x00, 0x00, 0x00);
+    expect_refusal(&host, LU62_BAD_RECORDS);
+}
+
+/* Refusing a confirmation is itself refused: with 4 for a unit buffer of M+4 bytes and an image of a wrong length, 5 and 7. */
+static void refusing_refused(void)
+{
+    struct host host, before;
+    ours("a confirmation refused with a wrong buffer, with each state and each value of the error flag in an image");
+    open_owing(&host, 0);
+    (void)lu62_send_error(host.end.image, LU62_IMAGE, host.unit, LU62_UNIT(64) - 1, &host.end.answer);
+    expect_refusal(&host, LU62_BAD_BUFFER);
+    (void)lu62_send_error(host.end.image, LU62_IMAGE - 1, host.unit, LU62_UNIT(64), &host.end.answer);
+    expect_refusal(&host, LU62_BAD_BUFFER);
+    for (unsigned state = 0; state < 256; state++)
+        for (unsigned error = 0; error < 256; error++) {
+            bool record = state <= LU62_DEFER_END && (error == 0 || (error == 1 && state == LU62_SEND));
+            open_owing(&host, 0);
+            host.end.image[STATE_AT] = (uint8_t)state;
+            host.end.image[ERROR_AT] = (uint8_t)error;
+            memcpy(&before, &host, sizeof before);
+            (void)lu62_end_send_error(&host.end);
+            if (record && state == LU62_CONFIRM_OWED)
+                UNIT(&host, 0x00, 0x07, 0x87, 0x30, 0x00, 0x08, 0x46, 0x00, 0x00);
+            else
+                expect_untouched(&host, &before, record ? LU62_WRONG_STATE : LU62_BAD_RECORD);
+        }
+}
+
+/* An error due with bytes kept, or with BB due, is no record that calls can leave. */
+static void errors_due_in_an_image(void)
+{
+    struct host host, before;
+    ours("an error due in an image with BB due, and with a byte kept");
+    open_sender(&host, 3, 64);
+    host.end.image[ERROR_AT] = 1;
+    memcpy(&before, &host, sizeof before);
+    (void)lu62_end_flush(&host.end);
+    expect_untouched(&host, &before, LU62_BAD_RECORD);
+    open_owing(&host, 0);
+    (void)lu62_end_send_error(&host.end);
+    (void)lu62_end_flush(&host.end);
+    SEND(&host, 0x00);
+    host.end.image[ERROR_AT] = 1;
+    memcpy(&before, &host, sizeof before);
+    (void)lu62_end_flush(&host.end);
+    expect_untouched(&host, &before, LU62_BAD_RECORD);
+}
+
+static void confirmations_refused(void)
+{
+    a_confirmation_refused();
+    refused_before_the_error_header();
+    the_error_header_without_credit();
+    a_refused_confirmation_taken();
+    error_headers_that_break_rules();
+    refusing_refused();
+    errors_due_in_an_image();
+}
+
 static void refused_openings(void)
 {
     static const struct {
@@ -771,6 +988,10 @@ static void other_formats(void)
     struct host host;
     ours("images of other formats");
     open_host(&host, LU62_BIDDER, 3, 64);
+    /* An image of format 3 was a byte shorter. */
+    host.end.image[0] = 3;
+    (void)lu62_allocate(host.end.image, 42, host.unit, sizeof host.unit, &host.end.answer);
+    expect_refusal(&host, LU62_BAD_BUFFER);
     for (unsigned format = 0; format < 256; format++) {
         host.end.image[0] = (uint8_t)format;
         (void)lu62_end_confirmed(&host.end);
@@ -809,6 +1030,7 @@ int main(void)
     refused_in_defer();
     states_in_an_image();
     wrong_lengths_of_an_image();
+    confirmations_refused();
     refused_openings();
     other_formats();
     if (failures != 0) {

@@ -30,9 +30,9 @@ struct room {
 static const struct lu62_session session = {LU62_FIRST_SPEAKER, WINDOW, WINDOW, MAXIMUM, MAXIMUM};
 static const uint8_t record[] = {0x00, 0x04, 0x41, 0x42};
 
-/* What the partner sends: a bid, and the record with the end of the conversation. */
+/* What the partner sends: a bid, and the record with the end of the conversation, to be confirmed. */
 static const uint8_t bid[] = {0x00, 0x01, 0x4B, 0x81, 0x80, 0x04, 0x00, 0x06, 0x00, 0x00};
-static const uint8_t data[] = {0x00, 0x02, 0x03, 0x90, 0x01, 0x00, 0x04, 0x41, 0x42};
+static const uint8_t data[] = {0x00, 0x02, 0x03, 0x20, 0x01, 0x00, 0x04, 0x41, 0x42};
 
 /* Where the buffers of a case lie: those of the end, the bytes given, the units taken, and what is read into; whether the calls are
  * to be stopped. */
@@ -92,6 +92,15 @@ static int reads(struct room *room, const struct placed *the)
            room->end.answer.more == 0 && room->end.answer.copied == sizeof record && memcmp(buffer, record, sizeof record) == 0;
 }
 
+/* True if the confirmation is refused, and the error header sent behind that. */
+static int refuses(struct room *room, const struct placed *the)
+{
+    struct lu62_end *end = &room->end;
+    return lu62_end_receive(end, at(room, the->buffer), BUFFER) == LU62_ACCEPTED && end->answer.mark == LU62_MARK_CONFIRM_END &&
+           lu62_end_send_error(end) == LU62_ACCEPTED && lu62_end_error_due(end) == 1 && lu62_end_flush(end) == LU62_ACCEPTED &&
+           end->answer.unit == LU62_UNIT(7) && lu62_end_error_due(end) == 0;
+}
+
 static void make_calls(const struct placed *the)
 {
     struct room room;
@@ -101,7 +110,9 @@ static void make_calls(const struct placed *the)
         _exit(2);
     if (!takes(&room, the, bid, sizeof bid) || !takes(&room, the, data, sizeof data))
         _exit(3);
-    _exit(reads(&room, the) ? 0 : 4);
+    if (!reads(&room, the))
+        _exit(4);
+    _exit(refuses(&room, the) ? 0 : 6);
 }
 
 /* Makes the calls in a process of their own. True if they end as the case says. */

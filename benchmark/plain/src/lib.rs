@@ -45,6 +45,7 @@ pub enum Mark {
     Confirm,
     ConfirmTurn,
     ConfirmEnd,
+    Error,
 }
 
 /// A record place: between records, after the first LL byte, or with that many bytes left. The flag is the top bit of the record's
@@ -74,6 +75,7 @@ pub struct End {
     pub follow: Follow,
     pub mark: Mark,
     pub due: bool,
+    pub error: bool,
     pub bid: bool,
     pub out_chain: bool,
     pub in_chain: bool,
@@ -108,6 +110,8 @@ pub struct Answer {
 const BID: [u8; 5] = [0x04, 0x00, 0x06, 0x00, 0x00];
 const GRANT: [u8; 1] = [0x04];
 const BID_REFUSAL: [u8; 5] = [0x08, 0x13, 0x00, 0x00, 0x04];
+const NO_CONFIRMATION: [u8; 4] = [0x08, 0x46, 0x00, 0x00];
+const ERROR_HEADER: [u8; 7] = [0x07, 0x07, 0x08, 0x89, 0x00, 0x00, 0x00];
 
 pub fn sense(number: u32) -> u32 {
     match number {
@@ -206,9 +210,11 @@ fn place_good(place: Place) -> bool {
 enum Kind {
     Data { first: bool, last: bool, confirm: bool, pacing: bool, begin: bool, follow: Follow },
     Bid { pacing: bool },
+    Error { pacing: bool },
     Grant,
     BidRefusal,
     Confirmation,
+    NoConfirmation,
     Pacing,
 }
 
@@ -224,8 +230,10 @@ pub fn broken(header: [u8; 3]) -> [bool; 6] {
             rules[4] = ![0x00, 0x01, 0x20, 0x80, 0x81, 0xA0].contains(&c);
             rules[5] = (c & 0x80 != 0 && a & 2 == 0) || (c & 0x21 != 0 && a & 1 == 0);
         }
+        0x0B => rules[1] = !((b == 0x90 || b == 0x91) && c == 0x00),
         0x4B => rules[1] = !((b == 0x80 || b == 0x81) && c == 0x80),
         0x83 => rules[1] = !((b == 0x20 || b == 0x01) && c == 0x00),
+        0x87 => rules[1] = !(b == 0x30 && c == 0x00),
         0xCB => rules[1] = !(b == 0x80 && c == 0x00),
         0xCF => rules[1] = !(b == 0x90 && c == 0x00),
         _ => rules[0] = true,
@@ -239,9 +247,11 @@ fn kind(header: [u8; 3]) -> Result<Kind, u32> {
     }
     let [a, b, c] = header;
     Ok(match a {
+        0x0B => Kind::Error { pacing: b & 1 != 0 },
         0x4B => Kind::Bid { pacing: b & 1 != 0 },
         0x83 if b == 0x01 => Kind::Pacing,
         0x83 => Kind::Confirmation,
+        0x87 => Kind::NoConfirmation,
         0xCB => Kind::Grant,
         0xCF => Kind::BidRefusal,
         _ => Kind::Data {
@@ -320,12 +330,18 @@ pub fn open(session: Session, send: usize, unit: usize, inbox: usize) -> Result<
     if send < out_max || unit < out_max + 5 || !(least..=65535).contains(&inbox) {
         return Err(4);
     }
-    Ok(End {
+    Ok(fresh(session, inbox as u16))
+}
+
+// The record of an end just opened.
+fn fresh(session: Session, inbox: u16) -> End {
+    End {
         bidder: session.role == 1,
         state: State::Reset,
         follow: Follow::Stay,
         mark: Mark::None,
         due: false,
+        error: false,
         bid: false,
         out_chain: false,
         in_chain: false,
@@ -336,14 +352,14 @@ pub fn open(session: Session, send: usize, unit: usize, inbox: usize) -> Result<
         given: WHOLE,
         into: Window { size: session.in_window, place: 0, pending: false },
         in_max: session.in_max as u16,
-        inbox: inbox as u16,
+        inbox,
         in_held: 0,
         in_number: 0,
         taken: WHOLE,
         read: WHOLE,
         bid_number: 0,
         owed_number: 0,
-    })
+    }
 }
 
 impl End {
@@ -357,6 +373,7 @@ impl End {
             && maxima.contains(&self.in_max)
             && (self.mark == Mark::None || self.state == State::Receive)
             && (!self.due || (!self.bidder && sends && !self.out_chain))
+            && (!self.error || (self.state == State::Send && self.out_held == 0 && !self.due))
             && (!self.bid || self.bidder)
             && self.out_held <= self.out_max
             && (!self.out_chain || (sends && self.out_held >= 1))
@@ -383,6 +400,11 @@ impl End {
         self.out_number = self.out_number.wrapping_add(1);
         let bit = self.out.step();
         (self.out_number, u8::from(bit))
+    }
+
+    // In Send, with no error header to go first.
+    fn may_send(&self) -> bool {
+        self.state == State::Send && !self.error
     }
 
     // Number and header of the next data unit.
@@ -430,7 +452,7 @@ impl End {
         if bytes.is_empty() || bytes.len() > max {
             return refused(6);
         }
-        if self.state != State::Send {
+        if !self.may_send() {
             return refused(7);
         }
         let Some(given) = walk(self.given, bytes) else {
@@ -465,11 +487,19 @@ impl End {
             return refused(5);
         }
         // Flush and confirm say nothing to follow, and carry out what is prepared.
-        let carries_out = follow == Follow::Stay && self.state.holds_send();
-        if self.state != State::Send && !carries_out {
+        let carries_out = follow == Follow::Stay && self.state.prepared() != Follow::Stay;
+        if self.error && follow == Follow::Stay && !confirm {
+            return self.send_error_header(unit);
+        }
+        if !self.may_send() && !carries_out {
             return refused(7);
         }
         let follow = if carries_out { self.state.prepared() } else { follow };
+        self.send_last(follow, confirm, send, unit)
+    }
+
+    // The last unit of a chain, or none where nothing is held that flush could send.
+    fn send_last(&mut self, follow: Follow, confirm: bool, send: &[u8], unit: &mut [u8]) -> Answer {
         let flush = follow == Follow::Stay && !confirm;
         if !flush && self.given != WHOLE {
             return refused(9);
@@ -498,6 +528,16 @@ impl End {
         answer
     }
 
+    // Flush where an error header is due: it goes alone, and asks nothing of the records given.
+    fn send_error_header(&mut self, unit: &mut [u8]) -> Answer {
+        if self.out.credit() == 0 {
+            return refused(10);
+        }
+        self.error = false;
+        let (number, bit) = self.next_request();
+        write_unit(unit, number, [0x0B, 0x90 | bit, 0x00], &ERROR_HEADER)
+    }
+
     pub fn flush(&mut self, send: &[u8], unit: &mut [u8]) -> Answer {
         self.close(Follow::Stay, false, send, unit)
     }
@@ -518,7 +558,7 @@ impl End {
         if !self.good() {
             return refused(5);
         }
-        if self.state != State::Send {
+        if !self.may_send() {
             return refused(7);
         }
         if self.given != WHOLE {
@@ -565,6 +605,22 @@ impl End {
         write_unit(unit, self.owed_number, [0x83, 0x20, 0x00], &[])
     }
 
+    /// Document 02's denial of what is to be confirmed.
+    pub fn send_error(&mut self, unit: &mut [u8]) -> Answer {
+        if !self.unit_fits(unit) {
+            return refused(4);
+        }
+        if !self.good() {
+            return refused(5);
+        }
+        if self.state != State::Owes {
+            return refused(7);
+        }
+        self.state = State::Send;
+        self.error = true;
+        write_unit(unit, self.owed_number, [0x87, 0x30, 0x00], &NO_CONFIRMATION)
+    }
+
     pub fn send_pacing_response(&mut self, unit: &mut [u8]) -> Answer {
         if !self.unit_fits(unit) {
             return refused(4);
@@ -605,8 +661,10 @@ impl End {
                 ru.len() <= usize::from(self.in_max) && (!ru.is_empty() || confirm || follow != Follow::Stay)
             }
             Kind::Bid { .. } => ru == BID,
+            Kind::Error { .. } => ru == ERROR_HEADER,
             Kind::Grant => ru == GRANT,
             Kind::BidRefusal => ru == BID_REFUSAL,
+            Kind::NoConfirmation => ru == NO_CONFIRMATION,
             Kind::Confirmation | Kind::Pacing => ru.is_empty(),
         };
         if !ru_good {
@@ -614,7 +672,7 @@ impl End {
         }
         match kind {
             Kind::Data { first, pacing, .. } => self.take_request(first, pacing, number, kind, ru, inbox, unit),
-            Kind::Bid { pacing } => self.take_request(true, pacing, number, kind, ru, inbox, unit),
+            Kind::Bid { pacing } | Kind::Error { pacing } => self.take_request(true, pacing, number, kind, ru, inbox, unit),
             _ => self.take_response(number, kind),
         }
     }
@@ -639,8 +697,11 @@ impl End {
         if first == self.in_chain {
             return refused(24);
         }
-        let Kind::Data { last, confirm, begin, follow, .. } = kind else {
-            return self.take_bid(number, unit);
+        // Of an error header nothing joins the inbox; it is alone in its chain.
+        let (last, confirm, begin, mark, ru) = match kind {
+            Kind::Data { last, confirm, begin, follow, .. } => (last, confirm, begin, mark_of(confirm, follow), ru),
+            Kind::Error { .. } => (true, false, false, Mark::Error, &[][..]),
+            _ => return self.take_bid(number, unit),
         };
         if begin != (self.bidder && self.state == State::Reset) {
             return refused(25);
@@ -648,7 +709,6 @@ impl End {
         if !begin && self.state != State::Receive {
             return refused(26);
         }
-        let mark = mark_of(confirm, follow);
         let taken = match walk(self.taken, ru) {
             Some(place) if mark == Mark::None || place == WHOLE => place,
             _ => return refused(29),
@@ -709,7 +769,9 @@ impl End {
                 if self.state != State::Waits || number != self.out_number {
                     return refused(28);
                 }
-                self.state = after_last(self.follow);
+                // Without a confirmation this end receives, whatever was to follow.
+                let denied = matches!(kind, Kind::NoConfirmation);
+                self.state = if denied { State::Receive } else { after_last(self.follow) };
             }
         }
         made(0)
@@ -762,6 +824,7 @@ impl End {
             Mark::Confirm => (State::Owes, Follow::Stay, 3),
             Mark::ConfirmTurn => (State::Owes, Follow::Turn, 4),
             Mark::ConfirmEnd => (State::Owes, Follow::End, 5),
+            Mark::Error => (State::Receive, self.follow, 6),
         };
         self.state = state;
         self.follow = follow;

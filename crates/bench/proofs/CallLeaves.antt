@@ -14,13 +14,14 @@ use Rattle.end.specs.declared.ReadDone.{ReadDone}
 use Rattle.calls.specs.Calls.{Called, Reply, Station, called, copies, hands, unitsOf}
 use Rattle.calls.proofs.CallCases.{defer-cases, withdraw-cases, read-cases}
 use Rattle.script.specs.declared.Verb.{Verb}
-use Rattle.script.specs.declared.Verb.the-variants.{Allocate, Confirmed, SendPacingResponse, SendData, Close, Defer, Withdraw, Receive}
+use Rattle.script.specs.declared.Verb.the-variants.{Allocate, Confirmed, SendError, SendPacingResponse, SendData, Close, Defer, Withdraw, Receive}
 use Rattle.bench.specs.CallMade.{isRead, stationOf, actedBy, plainDone}
 
 -- one call alone is a read
 pub read-is : (v : Verb) → isRead v ≡ true → v ≡ Receive
 read-is Allocate e = absurd (false≢true e)
 read-is Confirmed e = absurd (false≢true e)
+read-is SendError e = absurd (false≢true e)
 read-is SendPacingResponse e = absurd (false≢true e)
 read-is SendData e = absurd (false≢true e)
 read-is (Close f b) e = absurd (false≢true e)

@@ -9,13 +9,14 @@ use Rattle.answers.specs.declared.ReadAnswer.{ReadAnswer}
 use Rattle.end.specs.declared.ReadDone.{ReadDone}
 use Rattle.calls.specs.Calls as J
 use Rattle.script.specs.declared.Verb.{Verb}
-use Rattle.script.specs.declared.Verb.the-variants.{Allocate, Confirmed, SendPacingResponse, SendData, Close, Defer, Withdraw, Receive}
+use Rattle.script.specs.declared.Verb.the-variants.{Allocate, Confirmed, SendError, SendPacingResponse, SendData, Close, Defer, Withdraw, Receive}
 use Rattle.calls.specs.Calls.{Called, Reply, Station, plain, unitsOf}
 
 -- the call of two joined ends, with the bytes given and the cells of a read's buffer
 abbrev pub verbOf : Verb → List ℕ → List ℕ → J.Verb
 verbOf Allocate given buffer = J.allocate
 verbOf Confirmed given buffer = J.confirmed
+verbOf SendError given buffer = J.sendError
 verbOf SendPacingResponse given buffer = J.sendPacingResponse
 verbOf SendData given buffer = J.sendData given
 verbOf (Close f b) given buffer = J.close f b
@@ -26,6 +27,7 @@ verbOf Receive given buffer = J.receive buffer
 abbrev pub isRead : Verb → Bool
 isRead Allocate = false
 isRead Confirmed = false
+isRead SendError = false
 isRead SendPacingResponse = false
 isRead SendData = false
 isRead (Close f b) = false

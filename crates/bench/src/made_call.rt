@@ -36,6 +36,7 @@ fn is_read(verb: Verb) -> bool
     match verb {
         Verb::Allocate => false,
         Verb::Confirmed => false,
+        Verb::SendError => false,
         Verb::SendPacingResponse => false,
         Verb::SendData => false,
         Verb::Close(_, _) => false,
@@ -67,6 +68,7 @@ fn make(end: End, verb: Verb, given: &[u8], send: &mut [u8], unit: &mut [u8]) ->
     match verb {
         Verb::Allocate => end.allocate(unit),
         Verb::Confirmed => end.confirmed(unit),
+        Verb::SendError => end.send_error(unit),
         Verb::SendPacingResponse => end.send_pacing_response(unit),
         Verb::SendData => end.send_data(given, send, unit),
         Verb::Close(follows, confirm) => end.close(follows, confirm, send, unit),

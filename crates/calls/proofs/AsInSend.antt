@@ -10,14 +10,15 @@ use Rattle.calls.proofs.CallWords.{dataJoined}
 use Rattle.calls.proofs.CallWords.{bidAnswered, creditRaised, headerReceived, receiveUnitRefusal, receiveUnitDecision, receiveUnit, End, ReadDone, facts}
 use Rattle.calls.proofs.CallWords.{Called, Station, Verb, called, taken}
 use mathlib.Core.Path.{subst}
-use Rattle.header.specs.declared.Header.the-variants.{Data, Bid, PositiveBidResponse, NegativeBidResponse, Confirmation, PacingResponse}
+use Rattle.header.specs.declared.Header.the-variants.{Data, Bid, ErrorDescription, PositiveBidResponse, NegativeBidResponse, Confirmation}
+use Rattle.header.specs.declared.Header.the-variants.{NegativeConfirmation, PacingResponse}
 use Rattle.bools.proofs.Cases.{never}
 use Rattle.control.specs.FieldChanged.{setState}
 use Rattle.control.specs.declared.State.{State}
 use Rattle.control.specs.declared.State.the-variants.{Send}
 use Rattle.control.specs.declared.WhatReceived.the-variants as mark
 use Rattle.control.specs.declared.Deferred.the-variants as deferral
-use Rattle.control.proofs.States.{nothing-is, send-is}
+use Rattle.control.proofs.States.{nothing-is, send-is, sending-clear}
 use Rattle.control.proofs.Within.{unmarked-outside-receive}
 use Rattle.answers.specs.Answers.{readRefused}
 use Rattle.answers.proofs.TwoRows.{pass-both}
@@ -60,7 +61,7 @@ pace-same s d a =
 unmarked : (s : Station) → DeferAsked s → s .end .control .mark ≡ mark.Nothing
 unmarked s a =
     let c = s .end .control in
-    nothing-is (c .mark) (unmarked-outside-receive c (facts (s .end) (a .good) .control) (rw (send-is (c .state) (a .sending))))
+    nothing-is (c .mark) (unmarked-outside-receive c (facts (s .end) (a .good) .control) (rw (send-is (c .state) (sending-clear c (a .sending) .0))))
 
 -- what a read leaves by what it hands back
 abbrev readOf : Station → List ℕ → ReadDone → Called
@@ -98,7 +99,7 @@ abbrev inSend : Station → Station
 inSend s = withEnd s (withControl (setState Send (s .end .control)) (s .end))
 
 in-send : (s : Station) → DeferAsked s → inSend s ≡ s
-in-send s a = ap (λ (x : State). withEnd s (withControl (setState x (s .end .control)) (s .end))) (sym (send-is (s .end .control .state) (a .sending)))
+in-send s a = ap (λ (x : State). withEnd s (withControl (setState x (s .end .control)) (s .end))) (sym (send-is (s .end .control .state) (sending-clear (s .end .control) (a .sending) .0)))
 
 -- what is asked of a unit is the same
 same-questions : (s : Station) (d : Deferred) (h : Header) (n : ℕ) (ru : List ℕ)
@@ -106,32 +107,40 @@ same-questions : (s : Station) (d : Deferred) (h : Header) (n : ℕ) (ru : List 
 unfolding deferred
 same-questions s deferral.Turn (Data x) n ru = refl
 same-questions s deferral.Turn (Bid b) n ru = refl
+same-questions s deferral.Turn (ErrorDescription b) n ru = refl
 same-questions s deferral.Turn PositiveBidResponse n ru = refl
 same-questions s deferral.Turn NegativeBidResponse n ru = refl
 same-questions s deferral.Turn Confirmation n ru = refl
+same-questions s deferral.Turn NegativeConfirmation n ru = refl
 same-questions s deferral.Turn PacingResponse n ru = refl
 same-questions s deferral.End (Data x) n ru = refl
 same-questions s deferral.End (Bid b) n ru = refl
+same-questions s deferral.End (ErrorDescription b) n ru = refl
 same-questions s deferral.End PositiveBidResponse n ru = refl
 same-questions s deferral.End NegativeBidResponse n ru = refl
 same-questions s deferral.End Confirmation n ru = refl
+same-questions s deferral.End NegativeConfirmation n ru = refl
 same-questions s deferral.End PacingResponse n ru = refl
 
--- the kinds that an end in Send accepts: no data, no grant, no confirmation
+-- the kinds that an end in Send accepts: no data, no error header, no grant, no confirmation and no refusal of one
 abbrev comes : Header → Bool
 comes (Data x) = false
 comes (Bid b) = true
+comes (ErrorDescription b) = false
 comes PositiveBidResponse = false
 comes NegativeBidResponse = true
 comes Confirmation = false
+comes NegativeConfirmation = false
 comes PacingResponse = true
 
 only-these : (s : Station) (h : Header) (n : ℕ) (ru : List ℕ) → firstNo (kindQuestions (inSend s .end) h n ru) ≡ 0 → comes h ≡ true
 only-these s (Data x) n ru e = yes (kindQuestions (inSend s .end) (Data x) n ru) tt e 5
 only-these s (Bid b) n ru e = refl
+only-these s (ErrorDescription b) n ru e = yes (kindQuestions (inSend s .end) (ErrorDescription b) n ru) tt e 5
 only-these s PositiveBidResponse n ru e = yes (kindQuestions (inSend s .end) PositiveBidResponse n ru) tt e 1
 only-these s NegativeBidResponse n ru e = refl
 only-these s Confirmation n ru e = yes (kindQuestions (inSend s .end) Confirmation n ru) tt e 1
+only-these s NegativeConfirmation n ru e = yes (kindQuestions (inSend s .end) NegativeConfirmation n ru) tt e 1
 only-these s PacingResponse n ru e = refl
 
 -- what a take leaves by its decision
@@ -146,9 +155,11 @@ unfolding deferred dataJoined bidAnswered bidReceived creditRaised positiveRespo
 took-alike true q s d u (Data x) n ru z c = never (c refl)
 took-alike true q s deferral.Turn u (Bid b) n ru z c = refl
 took-alike true q s deferral.End u (Bid b) n ru z c = refl
+took-alike true q s d u (ErrorDescription b) n ru z c = never (c refl)
 took-alike true q s d u PositiveBidResponse n ru z c = never (c refl)
 took-alike true q s d u NegativeBidResponse n ru z c = refl
 took-alike true q s d u Confirmation n ru z c = never (c refl)
+took-alike true q s d u NegativeConfirmation n ru z c = never (c refl)
 took-alike true q s d u PacingResponse n ru z c = refl
 took-alike false q s d u h n ru z c = rw z
 

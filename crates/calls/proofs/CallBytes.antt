@@ -1,7 +1,7 @@
 -- Where the bytes of one call go: bytes given to the send buffer and to a unit, bytes read from the inbox to the caller's buffer.
 -- Assumes nothing.
 use Rattle.calls.proofs.CallWords.{ℕ, _+_, _≤_, eqb-true, eqb, take, drop, length, Bool, true, false, not, _||_, List, _++_, _≡_, sym, ap, _∙_, arith}
-use Rattle.calls.proofs.CallWords.{front, Last, Follows, isSend, Control, keeps, inboxMoved, recordGood, heldBytes, gone, facts, Station}
+use Rattle.calls.proofs.CallWords.{front, Last, Follows, maySend, Control, keeps, inboxMoved, recordGood, heldBytes, gone, facts, Station}
 use Prim.Native.Nat.{_-_}
 use mathlib.Core.List.{append-assoc}
 use native.Mathlib.Nat.{le-trans}
@@ -45,16 +45,16 @@ spilled-length s bytes a k =
 
 -- ---- flush, confirm, turn, end
 
--- bytes that are whole where the last unit marks are whole wherever the state after it is not Send
-pub closed-whole : (f : Follows) (b : Bool) (c : Control) (whole : Bool)
-    → not (marks (Last f b)) || whole ≡ true → isSend (closed f b c .state) ≡ false → whole ≡ true
+-- bytes that are whole where the last unit marks, no error being due, are whole wherever the end may not send after it
+pub closed-whole : (f : Follows) (b : Bool) (c : Control) (whole : Bool) → c .error ≡ false
+    → not (marks (Last f b)) || whole ≡ true → maySend (closed f b c) ≡ false → whole ≡ true
 unfolding closed
-closed-whole Stay true c whole w n = w
-closed-whole Stay false c whole w n = absurd (never n)
-closed-whole ChangeDirection true c whole w n = w
-closed-whole ChangeDirection false c whole w n = w
-closed-whole EndBracket true c whole w n = w
-closed-whole EndBracket false c whole w n = w
+closed-whole Stay true c whole y w n = w
+closed-whole Stay false c whole y w n = absurd (never (sym (ap not y) ∙ n))
+closed-whole ChangeDirection true c whole y w n = w
+closed-whole ChangeDirection false c whole y w n = w
+closed-whole EndBracket true c whole y w n = w
+closed-whole EndBracket false c whole y w n = w
 
 -- ---- a take, or a read: the bytes held stand in the inbox that is lent
 

@@ -2,13 +2,14 @@
 -- Assumes nothing.
 use Rattle.calls.proofs.CallWords.{ℕ, _+_, _≤_, eqb-true, leb-true, ne-eqb, eqb, leb, take, drop, length, Bool, true, false, cond, not, _&&_, _||_, List}
 use Rattle.calls.proofs.CallWords.{[], _∷_, _++_, _≡_, refl, sym, ap, _∙_, arith, cases, both, left, or-right, front, written, walk, placeOr, Position}
-use Rattle.calls.proofs.CallWords.{Walked, At, BadLength, headerGood, ChainEnd, Continues, Last, DataHeader, Follows, Header, bidRu, fixedRu, ruGood}
+use Rattle.calls.proofs.CallWords.{Walked, At, BadLength, headerGood, ChainEnd, Continues, Last, DataHeader, Follows, Header, bidRu, errorRu, fixedRu, ruGood}
 use Rattle.calls.proofs.CallWords.{RU-START, unitOf, numberIn, headerIn, unit-length, paced, hasCredit, mayAllocate, mayConfirm, positiveResponseFits}
 use Rattle.calls.proofs.CallWords.{negativeResponseFits, confirmationFits, holdsSend, maySend, mayWithdraw, Deferred, isNothing, agree, isFirstSpeaker}
 use Rattle.calls.proofs.CallWords.{controlGood, Control, bidAnswer}
 use Rattle.calls.proofs.CallWords.{allocated, confirmationMade, markAnswered, bidReceived, positiveResponseReceived, negativeResponseReceived}
 use Rattle.calls.proofs.CallWords.{confirmationReceived, accepted, refused, refusedNaming, ruleNamed, firstNo, yes, windowAnswered, keeps, nextNumber}
-use Rattle.calls.proofs.CallWords.{bidMade}
+use Rattle.calls.proofs.CallWords.{bidMade, negativeConfirmationRu, confirmationDenied, errorMade, errorReceived, negativeConfirmationReceived}
+use Rattle.calls.proofs.CallWords.{sendErrorDecision, sendError, errorMarked, withSending, requestMade, closed}
 use Rattle.calls.proofs.CallWords.{allocateRefusal, allocateDecision, allocate, lastMade, nothingGoes, closing, closeRefusal, closeDecision, close}
 use Rattle.calls.proofs.CallWords.{deferred, withdrawn, deferRefusal, deferDecision, defer, withdrawRefusal, withdrawDecision, withdraw}
 use Rattle.calls.proofs.CallWords.{confirmedRefusal, confirmedDecision, confirmed, withControl, withReceiving, Decision, decided}
@@ -22,7 +23,8 @@ use Rattle.cells.proofs.Fronts.{front-bytes}
 use Rattle.logical_record.specs.Positions.{isWhole}
 use Rattle.logical_record.specs.RestOfRecord.{rest}
 use Rattle.unit.specs.Ru.{marks}
-use Rattle.header.specs.declared.Header.the-variants.{Data, Bid, PositiveBidResponse, NegativeBidResponse, Confirmation, PacingResponse}
+use Rattle.header.specs.declared.Header.the-variants.{Data, Bid, ErrorDescription, PositiveBidResponse, NegativeBidResponse, Confirmation}
+use Rattle.header.specs.declared.Header.the-variants.{NegativeConfirmation, PacingResponse}
 use Rattle.control.proofs.Agree.{agrees}
 use Rattle.control.proofs.States.{closing-holds, fits-not-send}
 use Rattle.control.proofs.Within.{control-good}
@@ -33,7 +35,7 @@ use Rattle.end.specs.Outcome.{nothing, aUnit, cellsOut, accept, doneOf, made}
 use Rattle.end.specs.Allocate.{allocateQuestions}
 use Rattle.logical_record.specs.Walk.{isGood}
 use Rattle.end.specs.SendData.{sendQuestions, sendCells}
-use Rattle.end.specs.Close.{closeQuestions}
+use Rattle.end.specs.Close.{closeQuestions, lastHeader, lastRu}
 use Rattle.end.specs.Defer.{deferQuestions, withdrawQuestions}
 use Rattle.end.specs.Confirmed.{confirmedQuestions}
 use Rattle.end.specs.ReceiveUnit.{headQuestions, kindQuestions, kindReceived, kindJoined, inboxCells, answerNaming}
@@ -44,8 +46,9 @@ use Rattle.end.specs.SendPacingResponse.{sendPacingResponseQuestions}
 use Rattle.answers.proofs.Rows.{numbered, outcomes}
 use Rattle.answers.proofs.TwoRows.{pass-both}
 use Rattle.bools.proofs.Cases.{never}
-use Rattle.calls.proofs.ControlMoved.{Moved, bid-moves, positive-response-moves, negative-response-moves, confirmation-moves}
-use Rattle.calls.proofs.UnitsByHeader.{Sort, brings, asks, answers, paces, sortOf}
+use Rattle.calls.proofs.ControlMoved.{Moved, bid-moves, error-moves, positive-response-moves, negative-response-moves, confirmation-moves}
+use Rattle.calls.proofs.ControlMoved.{negative-confirmation-moves}
+use Rattle.calls.proofs.UnitsByHeader.{Sort, brings, asks, tells, answers, paces, sortOf}
 use Rattle.calls.specs.Calls.{copies, hands, makes, plain, sends, unitsOf}
 
 -- question 5 of the finite part
@@ -211,19 +214,50 @@ pub record CloseAsked (s : Station) (f : Follows) (c : Bool) : Type 0 where
   pub holding : holdsSend (s .end .control .state) ≡ true
   pub whole : not (marks (Last f c)) || isWhole (s .end .sending .given) ≡ true
 
+-- the record after the request that goes, with this finite part: nothing is held then
+abbrev pub sentEnd : End → Control → End
+sentEnd e c = withSending (requestMade 0 (e .sending .given) (e .sending)) (withControl c e)
+
+-- the bytes held go
 abbrev pub lastAct : Station → Follows → Bool → Called
 lastAct s f c =
-    unitAct s (lastMade (s .end) f c (s .send) .end) (nextNumber (s .end .sending .number)) (dataHeader (s .end) (Last f c)) (heldBytes (s .end) (s .send))
+    unitAct s (sentEnd (s .end) (closed f c (s .end .control))) (nextNumber (s .end .sending .number)) (dataHeader (s .end) (Last f c)) (heldBytes (s .end) (s .send))
+
+-- the error header goes
+abbrev pub errorAct : Station → Called
+errorAct s =
+    unitAct s (sentEnd (s .end) (errorMade (s .end .control))) (nextNumber (s .end .sending .number)) (ErrorDescription (paced (s .end .sending .window))) errorRu
+
+-- the one or the other, by whether an error is due
+abbrev goingAct : Station → Follows → Bool → Bool → Called
+goingAct s f c error =
+    unitAct s (sentEnd (s .end) (cond error (errorMade (s .end .control)) (closed f c (s .end .control)))) (nextNumber (s .end .sending .number))
+    (cond error (ErrorDescription (paced (s .end .sending .window))) (dataHeader (s .end) (Last f c))) (cond error errorRu (heldBytes (s .end) (s .send)))
+
+going-cases : (P : Called → Type 0) (s : Station) (f : Follows) (c error : Bool) → (error ≡ true → P (errorAct s)) → (error ≡ false → P (lastAct s f c))
+    → P (goingAct s f c error)
+going-cases P s f c true errs goes = errs refl
+going-cases P s f c false errs goes = goes refl
+
+-- no error is due, and a unit that says nothing to follow has a byte to carry
+pub record BytesGo (s : Station) (f : Follows) (c : Bool) : Type 0 where
+  pub clear : s .end .control .error ≡ false
+  pub some : not (marks (Last f c)) && eqb (s .end .sending .held) 0 ≡ false
+
+without-error : (m z error : Bool) → error ≡ false → m && (z && not error) ≡ false → m && z ≡ false
+without-error false z error y n = refl
+without-error true false error y n = refl
+without-error true true error y n = sym (ap not y) ∙ n
 
 pub close-cases :
     (P : Called → Type 0) (s : Station) (f : Follows) (c : Bool)
     → ((q : ℕ) → eqb q 0 ≡ false → P (refusedAct s q))
     → (let x = closing (s .end) f in CloseAsked s x c → nothingGoes (s .end) x c ≡ true → P (quietAct s (s .end)))
-    → (let x = closing (s .end) f in
-    CloseAsked s x c → nothingGoes (s .end) x c ≡ false → hasCredit (s .end .sending .window) ≡ true → P (lastAct s x c))
+    → (CloseAsked s (closing (s .end) f) c → s .end .control .error ≡ true → hasCredit (s .end .sending .window) ≡ true → P (errorAct s))
+    → (let x = closing (s .end) f in CloseAsked s x c → BytesGo s x c → hasCredit (s .end .sending .window) ≡ true → P (lastAct s x c))
     → P (called s (Verb.close f c))
 unfolding called close closeDecision closeRefusal lastMade
-close-cases P s f c refuses none goes =
+close-cases P s f c refuses none errs goes =
     let e = s .end in
     let x = closing e f in
     decided-cases P s (closeQuestions e f c (length (s .send)) (length (s .unit))) _ tt refuses
@@ -232,12 +266,15 @@ close-cases P s f c refuses none goes =
     record {
       buffer = leb-true _ _ (left (sendLent e (length (s .send))) (unitLent e (length (s .unit))) (t 0));
       good = t 1;
-      holding = closing-holds f (e .control) (t 2);
+      holding = closing-holds f c (e .control) (t 2);
       whole = t 3;
     } in
     cases (λ (d : Decision). P (makes s (made d (s .unit)))) (nothingGoes e x c) (λ n. none asked n)
-    (λ n. made-unit P s (lastMade e x c (s .send) .end) (nextNumber (e .sending .number)) (dataHeader e (Last x c)) (heldBytes e (s .send))
-    (goes asked n (or-right _ (hasCredit (e .sending .window)) (t 4) n))))
+    (λ n.
+    let k = or-right _ (hasCredit (e .sending .window)) (t 4) n in
+    made-unit P s (lastMade e x c (s .send) .end) (nextNumber (e .sending .number)) (lastHeader e x c) (lastRu e (s .send))
+    (going-cases P s x c (e .control .error) (λ y. errs asked y k)
+    (λ y. goes asked (record { clear = y; some = without-error (not (marks (Last x c))) (eqb (e .sending .held) 0) (e .control .error) y n }) k))))
 
 -- ---- prepare, withdraw
 
@@ -290,6 +327,21 @@ confirmed-cases P s refuses goes =
     let e = s .end in
     decided-cases P s (confirmedQuestions e (length (s .unit))) _ tt refuses
     (λ t. made-unit P s (withControl (confirmationMade (e .control)) e) (e .owed) Confirmation [] (goes (t 1) (t 2)))
+
+-- ---- send error
+
+pub send-error-cases :
+    (P : Called → Type 0) (s : Station)
+    → ((q : ℕ) → eqb q 0 ≡ false → P (refusedAct s q))
+    → (recordGood (s .end) ≡ true
+    → mayConfirm (s .end .control) ≡ true
+    → P (unitAct s (withControl (confirmationDenied (s .end .control)) (s .end)) (s .end .owed) NegativeConfirmation negativeConfirmationRu))
+    → P (called s Verb.sendError)
+unfolding called sendError sendErrorDecision confirmedRefusal
+send-error-cases P s refuses goes =
+    let e = s .end in
+    decided-cases P s (confirmedQuestions e (length (s .unit))) _ tt refuses
+    (λ t. made-unit P s (withControl (confirmationDenied (e .control)) e) (e .owed) NegativeConfirmation negativeConfirmationRu (goes (t 1) (t 2)))
 
 -- ---- send pacing response
 
@@ -375,9 +427,11 @@ read-cases P s buffer refuses copied marked =
 abbrev controlAfter : Header → Control → Control
 controlAfter (Data d) c = c
 controlAfter (Bid p) c = c
+controlAfter (ErrorDescription p) c = c
 controlAfter PositiveBidResponse c = positiveResponseReceived c
 controlAfter NegativeBidResponse c = negativeResponseReceived c
 controlAfter Confirmation c = confirmationReceived c
+controlAfter NegativeConfirmation c = negativeConfirmationReceived c
 controlAfter PacingResponse c = c
 
 -- bytes join the inbox
@@ -395,6 +449,10 @@ answeredAct s n =
     let h = bidAnswer (s .end .control) in
     unitAct s (bidAnswered (s .end) n .end) n h (fixedRu h)
 
+-- an error header leaves its mark
+abbrev pub erredAct : Station → Called
+erredAct s = quietAct s (errorMarked (s .end) .end)
+
 abbrev pub creditAct : Station → Called
 creditAct s = quietAct s (creditRaised (s .end) .end)
 
@@ -402,6 +460,7 @@ creditAct s = quietAct s (creditRaised (s .end) .end)
 abbrev tookAs : Station → Header → Sort → ℕ → List ℕ → Called
 tookAs s h (brings d) n ru = joinedAct s d n ru
 tookAs s h (asks p) n ru = answeredAct s n
+tookAs s h (tells p) n ru = erredAct s
 tookAs s h answers n ru = quietAct s (withControl (controlAfter h (s .end .control)) (s .end))
 tookAs s h paces n ru = creditAct s
 
@@ -421,14 +480,16 @@ took-kind :
     (P : Called → Type 0) (s : Station) (u : List ℕ) (h : Header) (n : ℕ) (ru : List ℕ)
     → P (tookKind s h n ru)
     → P (tookOf s u (kindReceived (s .end) h n ru) (cond (eqb (kindReceived (s .end) h n ru .refusal) 0) (kindJoined (s .end) h ru (s .inbox)) (s .inbox)))
-unfolding dataJoined bidAnswered creditRaised
+unfolding dataJoined errorMarked bidAnswered creditRaised
 took-kind P s u (Data d) n ru p = p
 took-kind P s u (Bid b) n ru p =
     let h = bidAnswer (s .end .control) in
     rw (unit-out n h (fixedRu h) (s .unit)) p
+took-kind P s u (ErrorDescription b) n ru p = p
 took-kind P s u PositiveBidResponse n ru p = p
 took-kind P s u NegativeBidResponse n ru p = p
 took-kind P s u Confirmation n ru p = p
+took-kind P s u NegativeConfirmation n ru p = p
 took-kind P s u PacingResponse n ru p = p
 
 -- no question that gives the number k is answered no
@@ -439,12 +500,14 @@ passes k (q ∷ qs) = (not (eqb (q .1) k) || q .0) && passes k qs
 -- every kind that is taken is accepted, and none of its questions gives the number 5, or 7
 pub kind-accepted : (e : End) (h : Header) (n : ℕ) (ru : List ℕ)
     → (kindReceived e h n ru .refusal ≡ 0) × (passes 5 (kindQuestions e h n ru) ≡ true) × (passes 7 (kindQuestions e h n ru) ≡ true)
-unfolding dataJoined bidAnswered creditRaised
+unfolding dataJoined errorMarked bidAnswered creditRaised
 kind-accepted e (Data d) n ru = (refl, refl, refl)
 kind-accepted e (Bid p) n ru = (refl, refl, refl)
+kind-accepted e (ErrorDescription p) n ru = (refl, refl, refl)
 kind-accepted e PositiveBidResponse n ru = (refl, refl, refl)
 kind-accepted e NegativeBidResponse n ru = (refl, refl, refl)
 kind-accepted e Confirmation n ru = (refl, refl, refl)
+kind-accepted e NegativeConfirmation n ru = (refl, refl, refl)
 kind-accepted e PacingResponse n ru = (refl, refl, refl)
 
 -- what an accepted take has been asked before the unit's kind
@@ -512,11 +575,13 @@ pub take-cases :
     → ((d : DataHeader) → TakeAsked s u → sortOf (headerReceived u) ≡ brings d → DataAsked s d (ruReceived u) → P (joinedAct s d (numberIn u) (ruReceived u)))
     → ((p : Bool) → TakeAsked s u → sortOf (headerReceived u) ≡ asks p → RequestAsked (s .end .receiving .window) p
     → Moved (s .end .control) (bidReceived (s .end .control)) → P (answeredAct s (numberIn u)))
+    → ((p : Bool) → TakeAsked s u → sortOf (headerReceived u) ≡ tells p → RequestAsked (s .end .receiving .window) p
+    → Moved (s .end .control) (errorReceived (s .end .control)) → P (erredAct s))
     → ((c : Control) → TakeAsked s u → sortOf (headerReceived u) ≡ answers → Moved (s .end .control) c → P (quietAct s (withControl c (s .end))))
     → (TakeAsked s u → sortOf (headerReceived u) ≡ paces → s .end .sending .window .pending ≡ true → P (creditAct s))
     → P (taken s u)
 unfolding ruGood
-take-cases P s u refuses joins bids responds raises =
+take-cases P s u refuses joins bids errs responds raises =
     kind-cases P s u refuses (λ a k. by (headerReceived u) refl a k)
   where
     by : (h : Header) → headerReceived u ≡ h → TakeAsked s u → firstNo (kindQuestions (s .end) h (numberIn u) (ruReceived u)) ≡ 0
@@ -533,6 +598,9 @@ take-cases P s u refuses joins bids responds raises =
     by (Bid p) e a k =
         let t = yes (kindQuestions (s .end) (Bid p) (numberIn u) (ruReceived u)) tt k in
         bids p a (ap sortOf e) (request-asked (s .end .receiving .window) p (t 1)) (bid-moves (s .end .control) (control-within (s .end) (a .good)))
+    by (ErrorDescription p) e a k =
+        let t = yes (kindQuestions (s .end) (ErrorDescription p) (numberIn u) (ruReceived u)) tt k in
+        errs p a (ap sortOf e) (request-asked (s .end .receiving .window) p (t 1)) (error-moves (s .end .control) (control-within (s .end) (a .good)) (t 5))
     by PositiveBidResponse e a k =
         let t = yes (kindQuestions (s .end) PositiveBidResponse (numberIn u) (ruReceived u)) tt k in
         responds _ a (ap sortOf e)
@@ -545,4 +613,8 @@ take-cases P s u refuses joins bids responds raises =
         let t = yes (kindQuestions (s .end) Confirmation (numberIn u) (ruReceived u)) tt k in
         responds _ a (ap sortOf e)
         (confirmation-moves (s .end .control) (control-within (s .end) (a .good)) (left (confirmationFits (s .end .control)) _ (t 1)))
+    by NegativeConfirmation e a k =
+        let t = yes (kindQuestions (s .end) NegativeConfirmation (numberIn u) (ruReceived u)) tt k in
+        responds _ a (ap sortOf e)
+        (negative-confirmation-moves (s .end .control) (control-within (s .end) (a .good)) (left (confirmationFits (s .end .control)) _ (t 1)))
     by PacingResponse e a k = raises a (ap sortOf e) (yes (kindQuestions (s .end) PacingResponse (numberIn u) (ruReceived u)) tt k 1)

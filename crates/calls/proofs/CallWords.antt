@@ -14,7 +14,7 @@ pub use Rattle.logical_record.specs.{Walk.walk, Walk.placeOr, declared.Position
 pub use Rattle.logical_record.specs.{declared.Walked.the-variants.BadLength}
 pub use Rattle.header.specs.{Header.confirms, Rules.headerGood, declared.ChainEnd.ChainEnd, declared.ChainEnd.the-variants.Continues}
 pub use Rattle.header.specs.{declared.ChainEnd.the-variants.Last, declared.DataHeader.DataHeader, declared.Follows.Follows, declared.Header.Header}
-pub use Rattle.unit.specs.{Ru.bidRu, Ru.fixedRu, Unit.RU-START, Unit.numberIn, Unit.headerIn, Sequence.nextNumber}
+pub use Rattle.unit.specs.{Ru.bidRu, Ru.errorRu, Ru.negativeConfirmationRu, Ru.fixedRu, Unit.RU-START, Unit.numberIn, Unit.headerIn, Sequence.nextNumber}
 unfoldable pub use Rattle.unit.specs.{Ru.ruGood, Unit.unitOf}
 pub use Rattle.unit.proofs.{UnitLaws.unit-length}
 pub use Rattle.pacing.specs.{Pacing.paced, Pacing.hasCredit}
@@ -29,6 +29,8 @@ pub use Rattle.transitions.specs.{Transitions.bidAnswer}
 unfoldable pub use Rattle.transitions.specs.{Transitions.allocated, Transitions.confirmationMade, Transitions.markAnswered, Transitions.bidReceived}
 unfoldable pub use Rattle.transitions.specs.{Transitions.positiveResponseReceived, Transitions.negativeResponseReceived}
 unfoldable pub use Rattle.transitions.specs.{Transitions.confirmationReceived, Transitions.closed, Transitions.deferred, Transitions.withdrawn}
+unfoldable pub use Rattle.transitions.specs.{Transitions.confirmationDenied, Transitions.errorMade, Transitions.errorReceived}
+unfoldable pub use Rattle.transitions.specs.{Transitions.negativeConfirmationReceived}
 pub use Rattle.answers.specs.{Answers.accepted, Answers.refused, Answers.refusedNaming, FirstNo.firstNo}
 pub use Rattle.answers.proofs.{Rows.yes}
 unfoldable pub use Rattle.receiving.specs.{Receiving.requestReceived}
@@ -41,10 +43,11 @@ unfoldable pub use Rattle.end.specs.{Close.closeRefusal, Close.closeDecision, C
 unfoldable pub use Rattle.end.specs.{Confirmed.confirmed, SendPacingResponse.sendPacingResponseRefusal, SendPacingResponse.sendPacingResponseDecision}
 unfoldable pub use Rattle.end.specs.{SendPacingResponse.sendPacingResponse, Receive.bytesRead, Receive.inboxMoved, Receive.receiveRefusal}
 unfoldable pub use Rattle.end.specs.{Receive.markRead, Receive.receiveDecision, Receive.receive, ReceiveUnit.dataJoined, ReceiveUnit.bidAnswered}
+unfoldable pub use Rattle.end.specs.{SendError.sendErrorDecision, SendError.sendError, ReceiveUnit.errorMarked}
 unfoldable pub use Rattle.end.specs.{ReceiveUnit.creditRaised, ReceiveUnit.receiveUnitRefusal, ReceiveUnit.receiveUnitDecision}
 unfoldable pub use Rattle.end.specs.{ReceiveUnit.receiveUnit, Requests.dataHeader, SendData.bytesKept, SendData.bytesSpilled, SendData.sendRefusal}
 unfoldable pub use Rattle.end.specs.{SendData.sendDecision, SendData.sendData}
-pub use Rattle.end.specs.{Close.nothingGoes, Close.closing, Outcome.withControl, Outcome.withReceiving, Outcome.Decision, Outcome.decided, Receive.someHeld}
+pub use Rattle.end.specs.{Close.nothingGoes, Close.closing, Outcome.withControl, Outcome.withSending, Outcome.withReceiving, Outcome.Decision, Outcome.decided, Receive.someHeld}
 pub use Rattle.end.specs.{ReceiveUnit.ruleNamed, ReceiveUnit.ruReceived, ReceiveUnit.headerReceived, Record.recordGood, SendData.heldBytes, SendData.gone}
 pub use Rattle.end.specs.{declared.End.End, declared.ReadDone.ReadDone}
 pub use Rattle.end.proofs.{RecordGood.facts}

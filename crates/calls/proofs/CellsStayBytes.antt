@@ -1,17 +1,17 @@
 -- The cells that a call leaves and the unit that it makes are bytes, if those that it was lent and given are.
 -- Assumes nothing.
 use Rattle.calls.proofs.CallWords.{ℕ, _<_, eqb, take, drop, Bool, true, false, cond, List, [], _∷_, arith, cases, confirms, Continues, Last, Follows}
-use Rattle.calls.proofs.CallWords.{Header, bidRu, fixedRu, RU-START, unitOf, numberIn, paced, bidAnswer, nextNumber, bidMade, lastMade, closing}
-use Rattle.calls.proofs.CallWords.{bytesRead}
+use Rattle.calls.proofs.CallWords.{Header, bidRu, fixedRu, RU-START, unitOf, numberIn, paced, bidAnswer, nextNumber, bidMade, closing, errorRu, negativeConfirmationRu}
+use Rattle.calls.proofs.CallWords.{bytesRead, errorMarked}
 use Rattle.calls.proofs.CallWords.{inboxMoved, ruReceived, dataJoined, bidAnswered, creditRaised, dataHeader, heldBytes, gone, bytesKept, bytesSpilled}
 use Rattle.calls.proofs.CallWords.{Called, Station, Verb, called, taken, AllBytes, BytesOf}
-use Rattle.header.specs.declared.Header.the-variants.{Bid, Confirmation, PacingResponse}
+use Rattle.header.specs.declared.Header.the-variants.{Bid, ErrorDescription, Confirmation, NegativeConfirmation, PacingResponse}
 use Rattle.end.specs.Receive.{inboxBytes}
 use Rattle.calls.proofs.ByteLists.{none-bytes, take-bytes, drop-bytes, append-bytes, front-bytes-all, written-bytes-all, next-small, number-small}
 use Rattle.calls.proofs.ByteLists.{AllUnits}
 use Rattle.calls.proofs.UnitsByHeader.{unit-bytes, fixed-ru}
 use Rattle.calls.proofs.CallCases.{allocate-cases, bidNumber, send-cases, spilledRu, close-cases, confirmed-cases, pacing-response-cases, read-cases}
-use Rattle.calls.proofs.CallCases.{defer-cases, withdraw-cases, readCount, take-cases}
+use Rattle.calls.proofs.CallCases.{send-error-cases, defer-cases, withdraw-cases, readCount, take-cases}
 
 -- ---- the cells and units are bytes, and the number owed is one of two bytes
 
@@ -34,9 +34,13 @@ module _ (s : Station) (c : Cells s) where
   held-bytes = take-bytes (s .end .sending .held) (s .send) (c .send)
 
   closes : (f : Follows) (b : Bool) → After (called s (Verb.close f b))
-  unfolding lastMade
   closes f b =
       close-cases After s f b (λ q n. (c, tt)) (λ a n. (c, tt))
+      (λ a n k. (
+        c,
+        one-unit (nextNumber (s .end .sending .number)) (ErrorDescription (paced (s .end .sending .window))) errorRu (next-small (s .end .sending .number))
+            (fixed-ru (ErrorDescription (paced (s .end .sending .window))) .1),
+      ))
       (λ a n k. (
         c,
         one-unit (nextNumber (s .end .sending .number)) (dataHeader (s .end) (Last (closing (s .end) f) b)) (heldBytes (s .end) (s .send))
@@ -78,6 +82,9 @@ module _ (s : Station) (c : Cells s) where
   cells-acts Verb.confirmed b =
       confirmed-cases After s (λ q n. (c, tt))
       (λ g a. (c, one-unit (s .end .owed) Confirmation [] (c .owed) none-bytes))
+  cells-acts Verb.sendError b =
+      send-error-cases After s (λ q n. (c, tt))
+      (λ g a. (c, one-unit (s .end .owed) NegativeConfirmation negativeConfirmationRu (c .owed) (fixed-ru NegativeConfirmation .1)))
   cells-acts Verb.sendPacingResponse b =
       pacing-response-cases After s (λ q n. (c, tt))
       (λ g a. (c, one-unit 0 PacingResponse [] (omega arith) none-bytes))
@@ -96,11 +103,11 @@ module _ (s : Station) (c : Cells s) where
   owed-small false n l = c .owed
 
   pub cells-takes : (u : List ℕ) → AllBytes u → After (taken s u)
-  unfolding dataJoined bidAnswered creditRaised
+  unfolding dataJoined errorMarked bidAnswered creditRaised
   cells-takes u f =
       let h = bidAnswer (s .end .control) in
       let n = number-small u f in
       let joined = written-bytes-all (s .end .receiving .held) (ruReceived u) (s .inbox) (drop-bytes RU-START u f) (c .inbox) in
       take-cases After s u (λ q w x. (c, tt))
       (λ d a e k. (record { send = c .send; inbox = joined; owed = owed-small (confirms (d .ends)) (numberIn u) n }, tt))
-      (λ p a e k m. (c, one-unit (numberIn u) h (fixedRu h) n (fixed-ru h .1))) (λ x a e m. (c, tt)) (λ a e k. (c, tt))
+      (λ p a e k m. (c, one-unit (numberIn u) h (fixedRu h) n (fixed-ru h .1))) (λ p a e k m. (c, tt)) (λ x a e m. (c, tt)) (λ a e k. (c, tt))

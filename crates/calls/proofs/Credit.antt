@@ -2,15 +2,15 @@
 -- Assumes nothing.
 use Rattle.calls.proofs.CallWords.{ℕ, _+_, _*_, eqb, Bool, true, false, _&&_, List, [], _∷_, _≡_, refl, ap, _∙_, arith, left, ChainEnd, Continues, Last}
 use Rattle.calls.proofs.CallWords.{Header, bidRu, unitOf, paced, hasCredit, advanced, answered, requestReceived, requestMade, nextNumber, bidMade}
-use Rattle.calls.proofs.CallWords.{lastMade, closing, bytesRead, markRead, dataJoined, bidAnswered, creditRaised, recordGood, dataHeader, heldBytes}
-use Rattle.calls.proofs.CallWords.{bytesKept}
+use Rattle.calls.proofs.CallWords.{closing, bytesRead, markRead, dataJoined, bidAnswered, creditRaised, recordGood, dataHeader, heldBytes}
+use Rattle.calls.proofs.CallWords.{bytesKept, errorRu, negativeConfirmationRu, errorMarked}
 use Rattle.calls.proofs.CallWords.{bytesSpilled, facts, Called, Station, Verb, called, taken, refusalIn, count, isPacingResponse, isRequest}
 use Rattle.calls.proofs.CallWords.{requestsAmong}
-use Rattle.header.specs.declared.Header.the-variants.{Bid, Confirmation, PacingResponse}
+use Rattle.header.specs.declared.Header.the-variants.{Bid, ErrorDescription, Confirmation, NegativeConfirmation, PacingResponse}
 use Rattle.pacing.specs.Pacing.{credit}
 use Rattle.end.specs.Record.{creditOf, openOf}
 use Rattle.calls.proofs.CallCases.{allocate-cases, bidNumber, close-cases, confirmed-cases, pacing-response-cases, read-cases, send-cases, spilledRu}
-use Rattle.calls.proofs.CallCases.{defer-cases, withdraw-cases, take-cases}
+use Rattle.calls.proofs.CallCases.{send-error-cases, defer-cases, withdraw-cases, take-cases}
 use Rattle.calls.proofs.UnitsByHeader.{sortOf, isAsking, pacing-taken, request-received, requests-unit}
 use Rattle.calls.specs.Laws.{CreditExact, isSendPacingResponse}
 use Rattle.pacing.proofs.Windows.{request-costs, response-raises}
@@ -57,12 +57,14 @@ module _ (s : Station) where
   free = none-made (creditOf (s .end))
 
   request-costs-one : (v : Verb) → Costs (called s v)
-  unfolding called bidMade bytesKept bytesSpilled lastMade requestMade bytesRead markRead
+  unfolding called bidMade bytesKept bytesSpilled requestMade bytesRead markRead
   request-costs-one Verb.allocate =
       allocate-cases Costs s (λ q n. free) (λ g a w. free)
       (λ g a w k. request-made s (bidNumber (s .end)) (Bid (paced (s .end .sending .window))) bidRu refl g k)
   request-costs-one Verb.confirmed =
       confirmed-cases Costs s (λ q n. free) (λ g a. other-made (s .end .owed) (creditOf (s .end)) Confirmation [] refl)
+  request-costs-one Verb.sendError =
+      send-error-cases Costs s (λ q n. free) (λ g a. other-made (s .end .owed) (creditOf (s .end)) NegativeConfirmation negativeConfirmationRu refl)
   request-costs-one Verb.sendPacingResponse = pacing-response-cases Costs s (λ q n. free) (λ g a. other-made 0 (creditOf (s .end)) PacingResponse [] refl)
   request-costs-one (Verb.sendData bytes) =
       send-cases Costs s bytes (λ q n. free) (λ a k. free)
@@ -71,6 +73,7 @@ module _ (s : Station) where
   request-costs-one (Verb.close f b) =
       let x = closing (s .end) f in
       close-cases Costs s f b (λ q n. free) (λ a n. free)
+      (λ a n k. request-made s (nextNumber (s .end .sending .number)) (ErrorDescription (paced (s .end .sending .window))) errorRu refl (a .good) k)
       (λ a n k.
       request-made s (nextNumber (s .end .sending .number)) (dataHeader (s .end) (Last x b)) (heldBytes (s .end) (s .send))
       (data-asks s (Last x b)) (a .good) k)
@@ -86,14 +89,15 @@ module _ (s : Station) where
   same = as-was (openOf (s .end)) (s .end .receiving .window .size)
 
   pacing-response-opens : (v : Verb) → Opens v (called s v)
-  unfolding called bidMade bytesKept bytesSpilled lastMade requestMade bytesRead markRead
+  unfolding called bidMade bytesKept bytesSpilled requestMade bytesRead markRead
   pacing-response-opens Verb.allocate = allocate-cases (Opens Verb.allocate) s (λ q n. rw n same) (λ g a w. same) (λ g a w k. same)
   pacing-response-opens Verb.confirmed = confirmed-cases (Opens Verb.confirmed) s (λ q n. rw n same) (λ g a. same)
+  pacing-response-opens Verb.sendError = send-error-cases (Opens Verb.sendError) s (λ q n. rw n same) (λ g a. same)
   pacing-response-opens Verb.sendPacingResponse =
       let w = s .end .receiving .window in
       pacing-response-cases (Opens Verb.sendPacingResponse) s (λ q n. rw n same) (λ g a. response-raises w (left (w .pending) _ a) ∙ once (credit w) (w .size))
   pacing-response-opens (Verb.sendData bytes) = send-cases (Opens (Verb.sendData bytes)) s bytes (λ q n. rw n same) (λ a k. same) (λ a k h. same)
-  pacing-response-opens (Verb.close f b) = close-cases (Opens (Verb.close f b)) s f b (λ q n. rw n same) (λ a n. same) (λ a n k. same)
+  pacing-response-opens (Verb.close f b) = close-cases (Opens (Verb.close f b)) s f b (λ q n. rw n same) (λ a n. same) (λ a n k. same) (λ a n k. same)
   pacing-response-opens (Verb.defer d) = defer-cases (Opens (Verb.defer d)) s d (λ q n. rw n same) (λ a. same)
   pacing-response-opens Verb.withdraw = withdraw-cases (Opens Verb.withdraw) s (λ q n. rw n same) (λ g a. same)
   pacing-response-opens (Verb.receive buffer) = read-cases (Opens (Verb.receive buffer)) s buffer (λ q w n. rw n same) (λ a h. same) (λ a h m. same)
@@ -109,21 +113,22 @@ module _ (s : Station) (u : List ℕ) where
   Lowers b t = openOf (t .end .end) + count (eqb (refusalIn (t .answer)) 0 && b) ≡ openOf (s .end)
 
   response-raises-window : Raises (isPacingResponse u) (taken s u)
-  unfolding dataJoined bidAnswered creditRaised
+  unfolding dataJoined errorMarked bidAnswered creditRaised
   response-raises-window =
       let w = s .end .sending .window in
       let same = as-was (credit w) (w .size) in
       take-cases (Raises (isPacingResponse u)) s u (λ q x n. rw n same) (λ d a e k. rw (pacing-taken u (a .header), e) same)
-      (λ p a e k m. rw (pacing-taken u (a .header), e) same) (λ c a e m. rw (pacing-taken u (a .header), e) same)
+      (λ p a e k m. rw (pacing-taken u (a .header), e) same) (λ p a e k m. rw (pacing-taken u (a .header), e) same) (λ c a e m. rw (pacing-taken u (a .header), e) same)
       (λ a e k. rw (pacing-taken u (a .header), e) (response-raises w k ∙ once (credit w) (w .size)))
 
   request-lowers-one : Lowers (isRequest u) (taken s u)
-  unfolding dataJoined bidAnswered creditRaised requestReceived
+  unfolding dataJoined errorMarked bidAnswered creditRaised requestReceived
   request-lowers-one =
       let w = s .end .receiving .window in
       let same : openOf (s .end) + 0 ≡ openOf (s .end) = omega arith in
       take-cases (Lowers (isRequest u)) s u (λ q x n. rw n same)
       (λ d a e k. rw (request-received u (a .header), e) (request-costs w (facts (s .end) (a .good) .receiving .window) (k .request .credit)))
+      (λ p a e k m. rw (request-received u (a .header), e) (request-costs w (facts (s .end) (a .good) .receiving .window) (k .credit)))
       (λ p a e k m. rw (request-received u (a .header), e) (request-costs w (facts (s .end) (a .good) .receiving .window) (k .credit)))
       (λ c a e m. rw (request-received u (a .header), e) same) (λ a e k. rw (request-received u (a .header), e) same)
 

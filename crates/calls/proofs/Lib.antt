@@ -13,3 +13,4 @@ pub mod UnitSizes
 pub mod Prepared
 pub mod AsInSend
 pub mod DeferLaws
+pub mod ErrorLaws

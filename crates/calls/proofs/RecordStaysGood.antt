@@ -3,12 +3,14 @@
 use Rattle.calls.proofs.CallWords.{ℕ, _<_, _+_, _*_, _≤_, eqb-true, leb-true, ne-eqb, eqb, leb, take, length, Bool, true, false, not, List, _≡_, refl}
 use Rattle.calls.proofs.CallWords.{sym, ap, arith, both, join, left, right, walk, placeOr, Position, Walked, At, BadLength, Follows, RU-START, numberIn}
 use Rattle.calls.proofs.CallWords.{closing, deferred, withdrawn, controlGood, Control, within, allocated, confirmationMade, markAnswered, firstNo, yes}
-use Rattle.calls.proofs.CallWords.{requestReceived}
-use Rattle.calls.proofs.CallWords.{windowAnswered, requestMade, bidMade, lastMade, withControl, withReceiving, bytesRead, ruReceived, dataJoined}
+use Rattle.calls.proofs.CallWords.{requestReceived, _||_, or-right, holdsSend, closed, confirmationDenied, errorMade, errorMarked}
+use Rattle.calls.proofs.CallWords.{windowAnswered, requestMade, bidMade, withControl, withReceiving, bytesRead, ruReceived, dataJoined}
 use Rattle.calls.proofs.CallWords.{bidAnswered, creditRaised, recordGood, gone, bytesKept, bytesSpilled, End, facts, Called, Station, Verb, called}
 use Rattle.calls.proofs.CallWords.{taken, AllBytes, BytesOf}
 use Prim.Native.Nat.{_-_}
 use mathlib.Core.Path.{subst}
+use mathlib.Core.Bool.{and-false}
+use Rattle.control.specs.Within.{mayHold}
 use borrow.Author.Tests.{eq-eqb, eqb-false, leb-false, le-leb}
 use Rattle.pacing.specs.Pacing.{sizeGood}
 use Rattle.transitions.specs.Transitions.{spilled}
@@ -22,15 +24,15 @@ use Rattle.session.specs.declared.Session.{Session}
 use Rattle.bools.proofs.Cases.{split}
 use Rattle.calls.proofs.ByteLists.{drop-bytes, take-bytes}
 use Rattle.calls.proofs.CallCases.{allocate-cases, close-cases, confirmed-cases, pacing-response-cases, read-cases, readCount, send-cases, take-cases}
-use Rattle.calls.proofs.CallCases.{control-within, defer-cases, withdraw-cases}
-use Rattle.calls.proofs.ControlMoved.{allocate-moves, confirmed-moves, mark-moves}
+use Rattle.calls.proofs.CallCases.{control-within, send-error-cases, defer-cases, withdraw-cases, sentEnd}
+use Rattle.calls.proofs.ControlMoved.{allocate-moves, confirmed-moves, denied-moves, mark-moves}
 use Rattle.calls.specs.Laws.{StaysGood}
 use Rattle.calls.proofs.Refusals.{accepted-good, accepted-take-good}
 use Rattle.end.proofs.RecordGood.{good}
 use Rattle.pacing.proofs.Windows.{answered-good, fresh-open, fresh-window}
 use Rattle.logical_record.specs.Positions.{isPosition}
 use Rattle.logical_record.proofs.Walks.{walk-position}
-use Rattle.transitions.proofs.KeptWithin.{closed-leaves, deferred-keeps, withdrawn-keeps, data-keeps, fresh-within, given-leaves, spilled-leaves}
+use Rattle.transitions.proofs.KeptWithin.{closed-leaves, error-made-keeps, deferred-keeps, withdrawn-keeps, data-keeps, fresh-within, given-leaves, spilled-leaves}
 use Rattle.control.proofs.Within.{control-facts, heldFits}
 use Rattle.sending.proofs.SendingGood.{SendingWithin, request-made}
 use Rattle.receiving.proofs.ReceivingGood.{ReceivingWithin, request-received, window-answered}
@@ -85,16 +87,29 @@ module _ (s : Station) (g : recordGood (s .end) ≡ true) where
       good-from (bidMade e .end) (moves a .keeps _ _ (fits-of e g)) (request-made (e .sending) (e .sending .held) (e .sending .given) (o .held) (o .given) o)
       (facts e g .receiving))
 
+  -- nothing is held while an error is due
+  pub none-held : s .end .control .error ≡ true → s .end .sending .held ≡ 0
+  none-held y =
+      let c = s .end .control in
+      let held = s .end .sending .held in
+      let n : mayHold c ≡ false = rw y (and-false (holdsSend (c .state))) in
+      eqb-true held 0 (or-right (mayHold c) (eqb held 0) (right (not (c .outchain) || leb 1 held) _ (facts (s .end) g .fits)) n)
+
   closes : (f : Follows) (b : Bool) → After (called s (Verb.close f b))
-  unfolding lastMade requestMade
+  unfolding requestMade
   closes f b =
       let e = s .end in
       let o = facts e g .sending in
       let c = closing e f in
+      let sent = request-made (e .sending) 0 (e .sending .given) (omega arith) (o .given) o in
       close-cases After s f b (λ q x. g) (λ a x. g)
-      (λ a x k.
-      good-from (lastMade e c b (s .send) .end) (closed-leaves c b (e .control) (a .holding) (control-within e g))
-      (request-made (e .sending) 0 (e .sending .given) (omega arith) (o .given) o) (facts e g .receiving))
+      (λ a y k.
+      good-from (sentEnd e (errorMade (e .control)))
+      (error-made-keeps (e .control) _ _ y (subst (λ (n : ℕ). Fits (e .control) n) (none-held y) (fits-of e g))) sent (facts e g .receiving))
+      (λ a y k.
+      good-from (sentEnd e (closed c b (e .control)))
+      (closed-leaves c b (e .control) (join (holdsSend (e .control .state)) (not (e .control .error)) (a .holding) (ap not (y .clear))) (control-within e g))
+      sent (facts e g .receiving))
 
   gives : (bytes : List ℕ) → AllBytes bytes → After (called s (Verb.sendData bytes))
   unfolding bytesKept bytesSpilled requestMade
@@ -143,6 +158,9 @@ module _ (s : Station) (g : recordGood (s .end) ≡ true) where
   calls Verb.confirmed b i =
       let c = s .end .control in
       confirmed-cases After s (λ q x. g) (λ x a. control-kept (confirmationMade c) (confirmed-moves c (control-within (s .end) g) a .keeps))
+  calls Verb.sendError b i =
+      let c = s .end .control in
+      send-error-cases After s (λ q x. g) (λ x a. control-kept (confirmationDenied c) (denied-moves c (control-within (s .end) g) a .keeps))
   calls Verb.sendPacingResponse b i =
       let e = s .end in
       pacing-response-cases After s (λ q x. g)
@@ -167,7 +185,7 @@ good-acts s v b i g = calls s g v b i
 -- every take leaves a good record
 pub good-takes :
     (s : Station) (u : List ℕ) → AllBytes u → recordGood (s .end) ≡ true → recordGood (taken s u .end .end) ≡ true
-unfolding dataJoined bidAnswered creditRaised requestReceived
+unfolding dataJoined errorMarked bidAnswered creditRaised requestReceived
 good-takes s u b g =
     let e = s .end in
     let r = e .receiving in
@@ -183,6 +201,8 @@ good-takes s u b g =
     (request-received r (r .held + length ru) _ (k .request .credit) (omega arith) (place-good (r .taken) ru (i .taken) (drop-bytes RU-START u b)) i))
     (λ p a w k m.
     good-from (bidAnswered e (numberIn u) .end) (m .keeps _ _ fits) o (request-received r (r .held) (r .taken) (k .credit) (omega arith) (i .taken) i))
+    (λ p a w k m.
+    good-from (errorMarked e .end) (m .keeps _ _ fits) o (request-received r (r .held) (r .taken) (k .credit) (omega arith) (i .taken) i))
     (λ c a w m. control-kept s g c (m .keeps))
     (λ a w k.
     good-from (creditRaised e .end) fits

@@ -5,7 +5,7 @@ use Rattle.calls.proofs.CallWords.{ℕ, eqb-true, ne-eqb, eqb, length, 
 use Rattle.calls.proofs.CallWords.{cases, join, left, right, numberIn, isFirstSpeaker, allocated, accepted, refused, refusedNaming, firstNo, keeps}
 use Rattle.calls.proofs.CallWords.{bidMade, allocateRefusal, allocateDecision, allocate, lastMade, nothingGoes, closing, closeRefusal, closeDecision}
 use Rattle.calls.proofs.CallWords.{close}
-use Rattle.calls.proofs.CallWords.{deferRefusal, deferDecision, defer, withdrawRefusal, withdrawDecision, withdraw}
+use Rattle.calls.proofs.CallWords.{deferRefusal, deferDecision, defer, withdrawRefusal, withdrawDecision, withdraw, sendError, sendErrorDecision}
 use Rattle.calls.proofs.CallWords.{confirmedRefusal, confirmedDecision, confirmed, withControl, Decision, decided, sendPacingResponseRefusal}
 use Rattle.calls.proofs.CallWords.{sendPacingResponseDecision, sendPacingResponse, bytesRead, someHeld, receiveRefusal, markRead, receiveDecision}
 use Rattle.calls.proofs.CallWords.{receive, ruleNamed, ruReceived, headerReceived, receiveUnitRefusal, receiveUnitDecision, receiveUnit, recordGood}
@@ -16,7 +16,7 @@ use Rattle.end.specs.Outcome.{nothing, lengthOut, accept, answerOf}
 use mathlib.Core.Bool.{true≢false as never}
 use Rattle.bools.proofs.Tests.{off}
 use Rattle.calls.proofs.CallCases.{allocate-cases, close-cases, confirmed-cases, pacing-response-cases, read-cases, send-cases, kind-cases, take-cases}
-use Rattle.calls.proofs.CallCases.{defer-cases, withdraw-cases, kind-accepted, passes}
+use Rattle.calls.proofs.CallCases.{send-error-cases, defer-cases, withdraw-cases, kind-accepted, passes}
 use Rattle.calls.specs.Laws.{Refusals, questions, receiveUnitQuestions}
 
 -- an accepted call was not refused, and a refused one not accepted
@@ -48,11 +48,12 @@ decided-number : (q : ℕ) (e : End) (d : Decision) → d .refusal ≡ 0 → ans
 decided-number q e d z = number-of refused (λ n. refl) q e d z
 
 pub number-is : (s : Station) (v : Verb) → refusalIn (called s v .answer) ≡ firstNo (questions s v)
-unfolding defer deferDecision deferRefusal withdraw withdrawDecision withdrawRefusal called allocate allocateDecision allocateRefusal bidMade sendData sendDecision sendRefusal bytesKept bytesSpilled close closeDecision closeRefusal lastMade confirmed confirmedDecision confirmedRefusal sendPacingResponse sendPacingResponseDecision sendPacingResponseRefusal receive receiveDecision receiveRefusal bytesRead markRead
+unfolding defer deferDecision deferRefusal withdraw withdrawDecision withdrawRefusal called allocate allocateDecision allocateRefusal bidMade sendData sendDecision sendRefusal bytesKept bytesSpilled close closeDecision closeRefusal lastMade confirmed confirmedDecision confirmedRefusal sendError sendErrorDecision sendPacingResponse sendPacingResponseDecision sendPacingResponseRefusal receive receiveDecision receiveRefusal bytesRead markRead
 number-is s Verb.allocate =
     decided-number _ (s .end) _
     (both-accepted (isFirstSpeaker (s .end .control .role)) (accept (withControl (allocated (s .end .control)) (s .end)) nothing) (bidMade (s .end)) refl refl)
 number-is s Verb.confirmed = decided-number _ (s .end) _ refl
+number-is s Verb.sendError = decided-number _ (s .end) _ refl
 number-is s Verb.sendPacingResponse = decided-number _ (s .end) _ refl
 number-is s (Verb.defer d) = decided-number _ (s .end) _ refl
 number-is s Verb.withdraw = decided-number _ (s .end) _ refl
@@ -86,6 +87,7 @@ module _ (s : Station) (g : recordGood (s .end) ≡ true) where
   asked-5 : (v : Verb) → passes 5 (questions s v) ≡ true
   asked-5 Verb.allocate = ap (λ (b : Bool). b && true) g
   asked-5 Verb.confirmed = ap (λ (b : Bool). b && true) g
+  asked-5 Verb.sendError = ap (λ (b : Bool). b && true) g
   asked-5 Verb.sendPacingResponse = ap (λ (b : Bool). b && true) g
   asked-5 Verb.withdraw = ap (λ (b : Bool). b && true) g
   asked-5 (Verb.defer d) = ap (λ (b : Bool). b && true) g
@@ -112,9 +114,10 @@ module _ (s : Station) where
   unfolding called bytesRead markRead
   refused-nothing Verb.allocate = allocate-cases Nothing s (λ q n h. (refl, refl)) (λ g a w h. yes h) (λ g a w k h. yes h)
   refused-nothing Verb.confirmed = confirmed-cases Nothing s (λ q n h. (refl, refl)) (λ g a h. yes h)
+  refused-nothing Verb.sendError = send-error-cases Nothing s (λ q n h. (refl, refl)) (λ g a h. yes h)
   refused-nothing Verb.sendPacingResponse = pacing-response-cases Nothing s (λ q n h. (refl, refl)) (λ g a h. yes h)
   refused-nothing (Verb.sendData bytes) = send-cases Nothing s bytes (λ q n h. (refl, refl)) (λ a k h. yes h) (λ a k c h. yes h)
-  refused-nothing (Verb.close f b) = close-cases Nothing s f b (λ q n h. (refl, refl)) (λ a n h. yes h) (λ a n k h. yes h)
+  refused-nothing (Verb.close f b) = close-cases Nothing s f b (λ q n h. (refl, refl)) (λ a n h. yes h) (λ a n k h. yes h) (λ a n k h. yes h)
   refused-nothing (Verb.defer d) = defer-cases Nothing s d (λ q n h. (refl, refl)) (λ a h. yes h)
   refused-nothing Verb.withdraw = withdraw-cases Nothing s (λ q n h. (refl, refl)) (λ g a h. yes h)
   refused-nothing (Verb.receive buffer) = read-cases Nothing s buffer (λ q w n h. (refl, refl)) (λ a k h. yes h) (λ a k m h. yes h)
@@ -134,9 +137,10 @@ module _ (s : Station) where
   unfolding called bytesRead markRead
   accepted-good Verb.allocate = allocate-cases Asked s (λ q n h. no (eqb q 0) n h) (λ g a w h. g) (λ g a w k h. g)
   accepted-good Verb.confirmed = confirmed-cases Asked s (λ q n h. no (eqb q 0) n h) (λ g a h. g)
+  accepted-good Verb.sendError = send-error-cases Asked s (λ q n h. no (eqb q 0) n h) (λ g a h. g)
   accepted-good Verb.sendPacingResponse = pacing-response-cases Asked s (λ q n h. no (eqb q 0) n h) (λ g a h. g)
   accepted-good (Verb.sendData bytes) = send-cases Asked s bytes (λ q n h. no (eqb q 0) n h) (λ a k h. a .good) (λ a k c h. a .good)
-  accepted-good (Verb.close f b) = close-cases Asked s f b (λ q n h. no (eqb q 0) n h) (λ a n h. a .good) (λ a n k h. a .good)
+  accepted-good (Verb.close f b) = close-cases Asked s f b (λ q n h. no (eqb q 0) n h) (λ a n h. a .good) (λ a n k h. a .good) (λ a n k h. a .good)
   accepted-good (Verb.defer d) = defer-cases Asked s d (λ q n h. no (eqb q 0) n h) (λ a h. a .good)
   accepted-good Verb.withdraw = withdraw-cases Asked s (λ q n h. no (eqb q 0) n h) (λ g a h. g)
   accepted-good (Verb.receive buffer) = read-cases Asked s buffer (λ q w n h. no (eqb q 0) n h) (λ a k h. a .good) (λ a k m h. a .good)
@@ -151,7 +155,8 @@ module _ (s : Station) (u : List ℕ) where
   pub refused-take-nothing : eqb (refusalIn (taken s u .answer)) 0 ≡ false
       → (taken s u .end ≡ s) × (taken s u .sent ≡ [])
   refused-take-nothing =
-      take-cases Untaken s u (λ q w n h. (refl, refl)) (λ d a e k h. yes h) (λ p a e k m h. yes h) (λ c a e m h. yes h) (λ a e k h. yes h)
+      take-cases Untaken s u (λ q w n h. (refl, refl)) (λ d a e k h. yes h) (λ p a e k m h. yes h) (λ p a e k m h. yes h) (λ c a e m h. yes h)
+      (λ a e k h. yes h)
 
   pub accepted-take-good : eqb (refusalIn (taken s u .answer)) 0 ≡ true → recordGood (s .end) ≡ true
   accepted-take-good =

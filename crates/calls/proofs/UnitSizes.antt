@@ -1,12 +1,12 @@
 -- A unit that a call makes is at most 1,029 bytes long, and stands within the unit buffer.
 -- Assumes nothing.
-use Rattle.calls.proofs.CallWords.{ℕ, _+_, _≤_, length, true, List, _≡_, arith, front, Header, bidRu, fixedRu, unitOf, numberIn, unit-length, bidAnswer}
+use Rattle.calls.proofs.CallWords.{ℕ, _+_, _≤_, length, true, List, _≡_, arith, front, Header, bidRu, errorRu, negativeConfirmationRu, fixedRu, unitOf, numberIn, unit-length, bidAnswer}
 use Rattle.calls.proofs.CallWords.{bytesRead, markRead, recordGood, heldBytes, End, facts, Called, Station, Verb, called, taken}
 use Prim.Native.Nat.{zero-le}
 use lib.ListN.{length-append, length-take}
 use Rattle.calls.specs.Laws.{UnitsFit}
 use Rattle.calls.proofs.CallCases.{spilledRu, allocate-cases, send-cases, close-cases, confirmed-cases, pacing-response-cases, read-cases, take-cases}
-use Rattle.calls.proofs.CallCases.{defer-cases, withdraw-cases}
+use Rattle.calls.proofs.CallCases.{send-error-cases, defer-cases, withdraw-cases}
 use Rattle.calls.proofs.UnitsByHeader.{fixed-ru}
 
 -- a unit of n bytes at the front of these cells, short enough
@@ -37,12 +37,14 @@ module _ (s : Station) where
   acts-fit Verb.allocate =
       allocate-cases After s (λ q n. none (s .unit)) (λ g a w. none (s .unit)) (λ g a w k. unit-fits _ _ bidRu (s .unit) (omega arith))
   acts-fit Verb.confirmed = confirmed-cases After s (λ q n. none (s .unit)) (λ g a. unit-fits _ _ _ (s .unit) (omega arith))
+  acts-fit Verb.sendError = send-error-cases After s (λ q n. none (s .unit)) (λ g a. unit-fits _ _ negativeConfirmationRu (s .unit) (omega arith))
   acts-fit Verb.sendPacingResponse = pacing-response-cases After s (λ q n. none (s .unit)) (λ g a. unit-fits _ _ _ (s .unit) (omega arith))
   acts-fit (Verb.sendData bytes) =
       send-cases After s bytes (λ q n. none (s .unit)) (λ a k. none (s .unit))
       (λ a k h. unit-fits _ _ (spilledRu s bytes) (s .unit) (spilled-short s bytes (a .good)))
   acts-fit (Verb.close f c) =
       close-cases After s f c (λ q n. none (s .unit)) (λ a n. none (s .unit))
+      (λ a n k. unit-fits _ _ errorRu (s .unit) (omega arith))
       (λ a n k. unit-fits _ _ (heldBytes (s .end) (s .send)) (s .unit) (held-short (s .end) (s .send) (a .good)))
   acts-fit (Verb.defer d) = defer-cases After s d (λ q n. none (s .unit)) (λ a. none (s .unit))
   acts-fit Verb.withdraw = withdraw-cases After s (λ q n. none (s .unit)) (λ g a. none (s .unit))
@@ -53,7 +55,8 @@ module _ (s : Station) where
   takes-fit u =
       let h = bidAnswer (s .end .control) in
       take-cases After s u (λ q w n. none (s .unit)) (λ d a e k. none (s .unit))
-      (λ p a e k m. unit-fits (numberIn u) h (fixedRu h) (s .unit) (fixed-ru h .0)) (λ c a e m. none (s .unit)) (λ a e k. none (s .unit))
+      (λ p a e k m. unit-fits (numberIn u) h (fixedRu h) (s .unit) (fixed-ru h .0)) (λ p a e k m. none (s .unit)) (λ c a e m. none (s .unit))
+      (λ a e k. none (s .unit))
 
 pub units-fit : UnitsFit
 units-fit =

@@ -1,22 +1,24 @@
 -- What a unit is, by its header alone: the sort of a unit, what is counted of it, and its bytes. Every proof above that asks no more goes by the sort, so that
 -- a new kind of header is a line of each list here.
 -- Assumes nothing.
-use Rattle.calls.proofs.CallWords.{ℕ, _<_, _+_, _≤_, eqb, length, Bool, true, false, cond, not, List, [], _∷_, _≡_, refl, sym, ap, _∙_, arith, cases}
+use Rattle.calls.proofs.CallWords.{ℕ, _<_, _+_, _≤_, eqb, length, Bool, true, false, cond, not, _&&_, _||_, List, [], _∷_, _≡_, refl, sym, ap, _∙_, arith, cases}
 use Rattle.calls.proofs.CallWords.{confirms, headerGood, DataHeader, Header, bidRu, fixedRu, ruGood, unitOf, headerIn, Control, bidAnswer, ruReceived}
 use Rattle.calls.proofs.CallWords.{headerReceived, AllBytes, count, isPacingResponse, isRequest, requestsAmong}
 use Prim.Native.Nat.{_/_, _%_}
+use lib.ListN.{drop}
 use Rattle.cells.specs.Equal.{sameBytes}
 use Rattle.header.specs.Weights.{on, bit, FIRST, LAST, DR1, DR2, EXCEPTION, PACING, BB, CD, CEB}
 use Rattle.header.specs.Rules.{bytes, isData, sameHeader}
 use Rattle.header.specs.Header.{headerBytes, fieldsOf, dataFields, isFirst, beginsBracket, isLast, followsOf, turns, endsBracket}
-use Rattle.unit.specs.Ru.{positiveRu, negativeRu}
-use Rattle.unit.specs.Unit.{unitBytes}
+use Rattle.unit.specs.Ru.{positiveRu, negativeRu, errorRu, negativeConfirmationRu}
+use Rattle.unit.specs.Unit.{RU-START, unitBytes}
 use Rattle.header.specs.declared.HeaderBytes.{HeaderBytes}
-use Rattle.header.specs.declared.Header.the-variants.{Data, Bid, PositiveBidResponse, NegativeBidResponse, Confirmation, PacingResponse}
+use Rattle.header.specs.declared.Header.the-variants.{Data, Bid, ErrorDescription, PositiveBidResponse, NegativeBidResponse, Confirmation}
+use Rattle.header.specs.declared.Header.the-variants.{NegativeConfirmation, PacingResponse}
 use Rattle.header.proofs.RoundTrip.{built-fields, read-bytes}
 use Rattle.unit.proofs.UnitLaws.{unit-header, unit-ru}
 use Rattle.control.specs.StateTests.{isReset}
-use Rattle.calls.specs.UnitCounts.{dataRu}
+use Rattle.calls.specs.UnitCounts.{dataRu, isNegativeConfirmation, isErrorHeader}
 use Rattle.calls.proofs.ByteLists.{are-bytes, cons-bytes}
 
 -- ---- sorts
@@ -24,8 +26,10 @@ use Rattle.calls.proofs.ByteLists.{are-bytes, cons-bytes}
 pub data Sort : Type 0 where
   -- a request that brings bytes
   brings : DataHeader → Sort
-  -- a request that brings none, with its pacing bit
+  -- a bid: a request that brings none and is answered, with its pacing bit
   asks : Bool → Sort
+  -- an error header: a request that brings none and leaves a mark, with its pacing bit
+  tells : Bool → Sort
   -- a response that changes the finite part alone
   answers : Sort
   -- a pacing response
@@ -34,27 +38,32 @@ pub data Sort : Type 0 where
 abbrev pub sortOf : Header → Sort
 sortOf (Data d) = brings d
 sortOf (Bid p) = asks p
+sortOf (ErrorDescription p) = tells p
 sortOf PositiveBidResponse = answers
 sortOf NegativeBidResponse = answers
 sortOf Confirmation = answers
+sortOf NegativeConfirmation = answers
 sortOf PacingResponse = paces
 
 -- the bytes of data, and of no other sort
 abbrev pub dataOf : Sort → List ℕ → List ℕ
 dataOf (brings d) ru = ru
 dataOf (asks p) ru = []
+dataOf (tells p) ru = []
 dataOf answers ru = []
 dataOf paces ru = []
 
 abbrev pub isAsking : Sort → Bool
 isAsking (brings d) = true
 isAsking (asks p) = true
+isAsking (tells p) = true
 isAsking answers = false
 isAsking paces = false
 
 abbrev pub isPacing : Sort → Bool
 isPacing (brings d) = false
 isPacing (asks p) = false
+isPacing (tells p) = false
 isPacing answers = false
 isPacing paces = true
 
@@ -62,8 +71,28 @@ isPacing paces = true
 abbrev pub bitOf : Sort → Bool
 bitOf (brings d) = d .pacing
 bitOf (asks p) = p
+bitOf (tells p) = p
 bitOf answers = false
 bitOf paces = false
+
+-- an error header
+abbrev pub isTelling : Sort → Bool
+isTelling (brings d) = false
+isTelling (asks p) = false
+isTelling (tells p) = true
+isTelling answers = false
+isTelling paces = false
+
+-- the response that announces it
+abbrev pub isDenial : Header → Bool
+isDenial (Data d) = false
+isDenial (Bid p) = false
+isDenial (ErrorDescription p) = false
+isDenial PositiveBidResponse = false
+isDenial NegativeBidResponse = false
+isDenial Confirmation = false
+isDenial NegativeConfirmation = true
+isDenial PacingResponse = false
 
 -- the answer to a bid
 pub answer-sort : (c : Control) → sortOf (bidAnswer c) ≡ answers
@@ -76,23 +105,30 @@ taken-header n h ru = ap fieldsOf (unit-header n h ru) ∙ built-fields h
 
 -- ---- the bytes of data on a line
 
-by-kind : (a b c d e : Bool) (h : HeaderBytes) (p : Bool) (ru : List ℕ)
+-- in the order of `fieldsOf`: data, and then by byte 0
+by-kind : (a x b c d y e : Bool) (h : HeaderBytes) (p : Bool) (ru : List ℕ)
     → cond a ru []
     ≡ dataOf
-    (sortOf (cond a (Data (dataFields h)) (cond b (Bid p) (cond c (cond d PacingResponse Confirmation) (cond e PositiveBidResponse NegativeBidResponse)))))
+    (sortOf
+    (cond a (Data (dataFields h))
+    (cond x (ErrorDescription p)
+    (cond b (Bid p)
+    (cond c (cond d PacingResponse Confirmation) (cond y NegativeConfirmation (cond e PositiveBidResponse NegativeBidResponse)))))))
     ru
-by-kind true b c d e h p ru = refl
-by-kind false true c d e h p ru = refl
-by-kind false false true true e h p ru = refl
-by-kind false false true false e h p ru = refl
-by-kind false false false d true h p ru = refl
-by-kind false false false d false h p ru = refl
+by-kind true x b c d y e h p ru = refl
+by-kind false true b c d y e h p ru = refl
+by-kind false false true c d y e h p ru = refl
+by-kind false false false true true y e h p ru = refl
+by-kind false false false true false y e h p ru = refl
+by-kind false false false false d true e h p ru = refl
+by-kind false false false false d false true h p ru = refl
+by-kind false false false false d false false h p ru = refl
 
 pub data-ru : (u : List ℕ) → dataRu u ≡ dataOf (sortOf (headerReceived u)) (ruReceived u)
 unfolding fieldsOf
 data-ru u =
     let h = headerIn u in
-    by-kind (isData h) (eqb (h .b0) 0x4B) (eqb (h .b0) 0x83) (on 0x01 (h .b1)) (eqb (h .b0) 0xCB) h (on 0x01 (h .b1)) (ruReceived u)
+    by-kind (isData h) (eqb (h .b0) 0x0B) (eqb (h .b0) 0x4B) (eqb (h .b0) 0x83) (on 0x01 (h .b1)) (eqb (h .b0) 0x87) (eqb (h .b0) 0xCB) h (on 0x01 (h .b1)) (ruReceived u)
 
 pub data-unit : (n : ℕ) (h : Header) (ru : List ℕ) → dataRu (unitOf n h ru) ≡ dataOf (sortOf h) ru
 data-unit n h ru = data-ru (unitOf n h ru) ∙ rw (taken-header n h ru, unit-ru n h ru)
@@ -100,24 +136,32 @@ data-unit n h ru = data-ru (unitOf n h ru) ∙ rw (taken-header n h ru, unit-ru 
 -- ---- requests and pacing responses
 
 -- byte 0 of a data header
-data-byte : (a b : Bool) → (not (on 0x80 (bit a FIRST + bit b LAST)) ≡ true) × (eqb (bit a FIRST + bit b LAST) 0x83 ≡ false)
-data-byte true true = (refl, refl)
-data-byte true false = (refl, refl)
-data-byte false true = (refl, refl)
-data-byte false false = (refl, refl)
+data-byte : (a b : Bool)
+    → let b0 = bit a FIRST + bit b LAST in
+    (not (on 0x80 b0) ≡ true) × (eqb b0 0x83 ≡ false) × (eqb b0 0x87 ≡ false) × (eqb b0 0x0B ≡ false)
+data-byte true true = (refl, refl, refl, refl)
+data-byte true false = (refl, refl, refl, refl)
+data-byte false true = (refl, refl, refl, refl)
+data-byte false false = (refl, refl, refl, refl)
 
 -- what the bytes of a header say
 header-says : (h : Header)
-    → (not (on 0x80 (headerBytes h .b0)) ≡ isAsking (sortOf h)) × (sameHeader (headerBytes h) (bytes 0x83 0x01 0x00) ≡ isPacing (sortOf h))
+    → let b = headerBytes h in
+    (not (on 0x80 (b .b0)) ≡ isAsking (sortOf h)) × (sameHeader b (bytes 0x83 0x01 0x00) ≡ isPacing (sortOf h))
+    × (sameHeader b (bytes 0x87 0x30 0x00) ≡ isDenial h)
+    × (sameHeader b (bytes 0x0B 0x90 0x00) || sameHeader b (bytes 0x0B 0x91 0x00) ≡ isTelling (sortOf h))
 unfolding headerBytes
 header-says (Data d) =
     let b = data-byte (isFirst (d .begins)) (isLast (d .ends)) in
-    (b .0, rw (b .1))
-header-says (Bid p) = (refl, refl)
-header-says PositiveBidResponse = (refl, refl)
-header-says NegativeBidResponse = (refl, refl)
-header-says Confirmation = (refl, refl)
-header-says PacingResponse = (refl, refl)
+    (b .0, rw (b .1), rw (b .2), rw (b .3))
+header-says (Bid p) = (refl, refl, refl, refl)
+header-says (ErrorDescription true) = (refl, refl, refl, refl)
+header-says (ErrorDescription false) = (refl, refl, refl, refl)
+header-says PositiveBidResponse = (refl, refl, refl, refl)
+header-says NegativeBidResponse = (refl, refl, refl, refl)
+header-says Confirmation = (refl, refl, refl, refl)
+header-says NegativeConfirmation = (refl, refl, refl, refl)
+header-says PacingResponse = (refl, refl, refl, refl)
 
 pub requests-unit : (n : ℕ) (h : Header) (ru : List ℕ) → requestsAmong (unitOf n h ru ∷ []) ≡ count (isAsking (sortOf h)) + 0
 unfolding requestsAmong
@@ -129,6 +173,24 @@ request-received u g = ap (λ (x : HeaderBytes). not (on 0x80 (x .b0))) (sym (re
 pub pacing-taken : (u : List ℕ) → headerGood (headerIn u) ≡ true → isPacingResponse u ≡ isPacing (sortOf (headerReceived u))
 pacing-taken u g =
     ap (λ (x : HeaderBytes). sameHeader x (bytes 0x83 0x01 0x00)) (sym (read-bytes (headerIn u) g)) ∙ header-says (headerReceived u) .1
+
+-- a unit made, as a request, as a negative confirmation and as an error header
+pub unit-says : (n : ℕ) (h : Header) (ru : List ℕ)
+    → (isRequest (unitOf n h ru) ≡ isAsking (sortOf h)) × (isNegativeConfirmation (unitOf n h ru) ≡ isDenial h)
+    × (isErrorHeader (unitOf n h ru) ≡ (isTelling (sortOf h) && sameBytes ru errorRu))
+unit-says n h ru =
+    let s = header-says h in
+    let e = unit-header n h ru in
+    let rest = drop RU-START (unitOf n h ru) in (
+      ap (λ (x : HeaderBytes). not (on 0x80 (x .b0))) e ∙ s .0,
+      ap (λ (x : HeaderBytes). sameHeader x (bytes 0x87 0x30 0x00)) e ∙ s .2,
+      ap (λ (x : HeaderBytes). (sameHeader x (bytes 0x0B 0x90 0x00) || sameHeader x (bytes 0x0B 0x91 0x00)) && sameBytes rest errorRu) e
+          ∙ ap (λ (b : Bool). b && sameBytes rest errorRu) (s .3) ∙ ap (λ (r : List ℕ). isTelling (sortOf h) && sameBytes r errorRu) (unit-ru n h ru),
+    )
+
+pub denial-received : (u : List ℕ) → headerGood (headerIn u) ≡ true → isNegativeConfirmation u ≡ isDenial (headerReceived u)
+denial-received u g =
+    ap (λ (x : HeaderBytes). sameHeader x (bytes 0x87 0x30 0x00)) (sym (read-bytes (headerIn u) g)) ∙ header-says (headerReceived u) .2
 
 -- ---- the bytes of a unit, and the RUs that are always the same
 
@@ -152,9 +214,11 @@ header-small (Data d) =
     let h = bit-most (endsBracket (followsOf (d .ends))) CEB in
     (omega arith, omega arith, omega arith)
 header-small (Bid p) = let a = bit-most p PACING in (omega arith, omega arith, omega arith)
+header-small (ErrorDescription p) = let a = bit-most p PACING in (omega arith, omega arith, omega arith)
 header-small PositiveBidResponse = (omega arith, omega arith, omega arith)
 header-small NegativeBidResponse = (omega arith, omega arith, omega arith)
 header-small Confirmation = (omega arith, omega arith, omega arith)
+header-small NegativeConfirmation = (omega arith, omega arith, omega arith)
 header-small PacingResponse = (omega arith, omega arith, omega arith)
 
 -- the bytes of a unit that an end makes
@@ -173,7 +237,9 @@ pub fixed-ru : (h : Header) → (length (fixedRu h) ≤ 1024) × AllBytes (fixed
 unfolding ruGood sameBytes
 fixed-ru (Data d) = (omega arith, are-bytes [] refl, λ m e. cc)
 fixed-ru (Bid p) = (omega arith, are-bytes bidRu refl, λ m e. refl)
+fixed-ru (ErrorDescription p) = (omega arith, are-bytes errorRu refl, λ m e. refl)
 fixed-ru PositiveBidResponse = (omega arith, are-bytes positiveRu refl, λ m e. refl)
 fixed-ru NegativeBidResponse = (omega arith, are-bytes negativeRu refl, λ m e. refl)
 fixed-ru Confirmation = (omega arith, are-bytes [] refl, λ m e. refl)
+fixed-ru NegativeConfirmation = (omega arith, are-bytes negativeConfirmationRu refl, λ m e. refl)
 fixed-ru PacingResponse = (omega arith, are-bytes [] refl, λ m e. refl)

@@ -17,6 +17,7 @@ use Rattle.end.specs.SendData as S
 use Rattle.end.specs.Close as C
 use Rattle.end.specs.Defer as D
 use Rattle.end.specs.Confirmed as F
+use Rattle.end.specs.SendError as E
 use Rattle.end.specs.ReceiveUnit as T
 use Rattle.end.specs.Receive as R
 use Rattle.end.specs.SendPacingResponse as P
@@ -34,7 +35,7 @@ pub record Station : Type 0 where
 -- A call with all that its caller chooses: the bytes given; of a closing call what follows, and whether confirmation is asked; what is prepared; the
 -- read's buffer with its former cells.
 pub data Verb : Type 0 where
-  allocate confirmed sendPacingResponse withdraw : Verb
+  allocate confirmed sendError sendPacingResponse withdraw : Verb
   sendData : List ℕ → Verb
   close : Follows → Bool → Verb
   defer : Deferred → Verb
@@ -116,6 +117,7 @@ called s (close f b) = makes s (C.close f b (s .end) (s .send) (s .unit))
 called s (defer d) = hands s (D.defer d (s .end))
 called s withdraw = hands s (D.withdraw (s .end))
 called s confirmed = makes s (F.confirmed (s .end) (s .unit))
+called s sendError = makes s (E.sendError (s .end) (s .unit))
 called s (receive buffer) = copies s (R.receive (s .end) (s .inbox) buffer)
 called s sendPacingResponse = makes s (P.sendPacingResponse (s .end) (s .unit))
 

@@ -14,7 +14,7 @@ use Rattle.transitions.specs.Transitions.{deferred}
 use Rattle.answers.specs.FirstNo.{firstNo}
 use Rattle.answers.specs.Answers.{BAD-BUFFER, WRONG-STATE, NO-CREDIT}
 use Rattle.end.specs.Outcome.{withControl}
-use Rattle.calls.specs.Calls.{Station, Verb, allocate, confirmed, sendPacingResponse, withdraw, sendData, close, defer, receive}
+use Rattle.calls.specs.Calls.{Station, Verb, allocate, confirmed, sendError, sendPacingResponse, withdraw, sendData, close, defer, receive}
 use Rattle.calls.specs.Calls.{prepareToReceive, deallocate, Called, refusalIn, called, taken}
 use Rattle.calls.specs.Laws.{questions}
 
@@ -27,6 +27,7 @@ atOnce deferral.End confirm = deallocate confirm
 abbrev pub allowedInDefer : Verb → Bool
 allowedInDefer allocate = false
 allowedInDefer confirmed = false
+allowedInDefer sendError = false
 allowedInDefer sendPacingResponse = true
 allowedInDefer withdraw = true
 allowedInDefer (sendData bytes) = false

@@ -1,5 +1,6 @@
 -- What holds of each call by itself, at any record, cells and unit, forged ones too: what a refusal is and leaves, question 5, and what a request and a
--- pacing response cost. Those of Defer are in DeferLaws.
+-- pacing response cost. Those of Defer are in DeferLaws, those of
+-- an error that is due in ErrorLaws.
 -- Assumes nothing.
 use Prim.Native.Nat.{ℕ, _+_, _*_, _≤_, _<_}
 use mathlib.Core.Path.{_≡_}
@@ -20,8 +21,8 @@ use Rattle.end.specs.ReceiveUnit.{headQuestions, kindQuestions, headerReceived,
 use Rattle.end.specs.Receive.{receiveQuestions}
 use Rattle.end.specs.SendPacingResponse.{sendPacingResponseQuestions}
 use Rattle.session.specs.declared.Session.{Session}
-use Rattle.calls.specs.Calls.{Station, Verb, allocate, confirmed, sendPacingResponse, withdraw, sendData, close, defer, receive, refusalIn, called}
-use Rattle.calls.specs.Calls.{taken}
+use Rattle.calls.specs.Calls.{Station, Verb, allocate, confirmed, sendError, sendPacingResponse, withdraw, sendData, close, defer, receive}
+use Rattle.calls.specs.Calls.{refusalIn, called, taken}
 use Rattle.calls.specs.UnitCounts.{count, isRequest, requestsAmong, isPacingResponse}
 
 -- ---- refusals
@@ -30,6 +31,7 @@ use Rattle.calls.specs.UnitCounts.{count, isRequest, requestsAmong, isPa
 abbrev pub questions : Station → Verb → List (Bool × ℕ)
 questions s allocate = allocateQuestions (s .end) (length (s .unit))
 questions s confirmed = confirmedQuestions (s .end) (length (s .unit))
+questions s sendError = confirmedQuestions (s .end) (length (s .unit))
 questions s sendPacingResponse = sendPacingResponseQuestions (s .end) (length (s .unit))
 questions s withdraw = withdrawQuestions (s .end)
 questions s (sendData bytes) = sendQuestions (s .end) bytes (length (s .send)) (length (s .unit))
@@ -65,6 +67,7 @@ AllBytes bs = (k : ℕ) → getD bs k 0 < 256
 abbrev pub BytesOf : Verb → Type 0
 BytesOf allocate = Unit {0}
 BytesOf confirmed = Unit {0}
+BytesOf sendError = Unit {0}
 BytesOf sendPacingResponse = Unit {0}
 BytesOf withdraw = Unit {0}
 BytesOf (sendData bytes) = AllBytes bytes
@@ -86,6 +89,7 @@ pub record StaysGood : Type 0 where
 abbrev pub isSendPacingResponse : Verb → Bool
 isSendPacingResponse allocate = false
 isSendPacingResponse confirmed = false
+isSendPacingResponse sendError = false
 isSendPacingResponse sendPacingResponse = true
 isSendPacingResponse withdraw = false
 isSendPacingResponse (sendData bytes) = false

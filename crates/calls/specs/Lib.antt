@@ -2,3 +2,4 @@ pub mod Calls
 pub mod UnitCounts
 pub mod Laws
 pub mod DeferLaws
+pub mod ErrorLaws

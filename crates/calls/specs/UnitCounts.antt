@@ -1,11 +1,13 @@
 -- What is counted of a unit, by its bytes.
 -- Assumes nothing.
 use Prim.Native.Nat.{ℕ, _+_}
-use mathlib.Core.Bool.{Bool, not, cond}
+use mathlib.Core.Bool.{Bool, not, cond, _&&_, _||_}
 use mathlib.Core.List.{List, [], _∷_}
 use lib.ListN.{drop}
+use Rattle.cells.specs.Equal.{sameBytes}
 use Rattle.header.specs.Weights.{on}
 use Rattle.header.specs.Rules.{isData, bytes, sameHeader}
+use Rattle.unit.specs.Ru.{errorRu}
 use Rattle.unit.specs.Unit.{RU-START, headerIn}
 
 abbrev pub count : Bool → ℕ
@@ -26,3 +28,12 @@ requestsAmong (u ∷ us) = count (isRequest u) + requestsAmong us
 -- the accepted takes of pacing answers, on any lane
 abbrev pub isPacingResponse : List ℕ → Bool
 isPacingResponse u = sameHeader (headerIn u) (bytes 0x83 0x01 0x00)
+
+-- a negative confirmation: 87 30 00
+abbrev pub isNegativeConfirmation : List ℕ → Bool
+isNegativeConfirmation u = sameHeader (headerIn u) (bytes 0x87 0x30 0x00)
+
+-- an error header: 0B 90 00, or 0B 91 00 with the pacing bit, and its RU
+abbrev pub isErrorHeader : List ℕ → Bool
+isErrorHeader u =
+    (sameHeader (headerIn u) (bytes 0x0B 0x90 0x00) || sameHeader (headerIn u) (bytes 0x0B 0x91 0x00)) && sameBytes (drop RU-START u) errorRu

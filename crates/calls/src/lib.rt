@@ -3,6 +3,7 @@
 // and fails if a proof goes.
 ghost use Rattle.calls.specs.Laws.{Refusals, StaysGood, CreditExact, UnitsFit};
 ghost use Rattle.calls.specs.DeferLaws.{Deferring};
+ghost use Rattle.calls.specs.ErrorLaws.{Denying};
 
 // A refused call gives the first number that fits and changes nothing.
 pub fn refused_calls()
@@ -28,4 +29,9 @@ pub fn units_fit()
 // deferring end may do.
 pub fn deferring()
     ensures { λ _. ⌜ Deferring ⌝ }
+{}
+
+// No confirmation, and then its cause: what send error leaves, what flush makes while the error is due, and what has to wait for it.
+pub fn denying()
+    ensures { λ _. ⌜ Denying ⌝ }
 {}

@@ -26,6 +26,7 @@ all-bytes (b ∷ bs) h = cons-bytes b bs (h .0) (all-bytes bs (h .1))
 gives-bytes : (v : Verb) → AreBytes (bytesOf v) → BytesOf v
 gives-bytes Verb.allocate h = tt
 gives-bytes Verb.confirmed h = tt
+gives-bytes Verb.sendError h = tt
 gives-bytes Verb.sendPacingResponse h = tt
 gives-bytes (Verb.sendData bytes) h = all-bytes bytes h
 gives-bytes (Verb.close f b) h = tt

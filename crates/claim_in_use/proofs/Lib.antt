@@ -2,6 +2,8 @@ mod Stories
 mod InRangeAccepted
 mod GivenBytes
 mod Orders
+mod Causes
 mod OtherWords
 mod Conversation
 mod Deferral
+mod Denial

@@ -1,8 +1,9 @@
--- The claim in other words follows from the claim and from what is said of the records and of question 5, and from nothing else that crate joined proves.
+-- The claim in other words follows from the claim and from what is said of the records, of question 5 and of denials, and from nothing else that crate joined
+-- proves but laws of its definitions.
 -- Assumes nothing.
 use Prim.Native.Nat.{ℕ, _+_, _*_}
 use mathlib.Core.Path.{_≡_, refl, sym, ap, _∙_}
-use mathlib.Core.Bool.{true, false}
+use mathlib.Core.Bool.{true, false, and-false}
 use mathlib.Core.List.{List, [], _++_}
 use lib.ListN.{length, take}
 use Rattle.logical_record.specs.Positions.{start}
@@ -20,13 +21,15 @@ use Rattle.joined.specs.Joined.{Call, At, run}
 use Rattle.joined.specs.Ends.{Lane, normal, sameLane, acts, takes, openedBoth, Buffers}
 use Rattle.joined.specs.Histories.{bytesOnLine, breaches}
 use Rattle.joined.specs.Claim.{Claim, BytesConserved, CreditCounted, ReadsRight, RecordsArrive, TablesArrive, TheRecords, AlwaysGood}
+use Rattle.joined.specs.Denials.{TheDenials}
 use Rattle.claim_in_use.specs.OtherWords.{Numbers, speaker, bidder, Opens, InRange, story, each, made, request, pacingAnswer, creditLeft, Ends, OneEnd}
 use Rattle.claim_in_use.specs.OtherWords.{hasRead, AtOneEnd, OneWay, HasTurn, sends, prepared-turn, prepared-end, Agree, Interleaves, after, TakesFind}
-use Rattle.claim_in_use.specs.OtherWords.{SameEnd, AreBytes, offered, KeepsRules, InOtherWords, answer}
+use Rattle.claim_in_use.specs.OtherWords.{SameEnd, AreBytes, offered, KeepsRules, Causes, InOtherWords, answer}
 use Rattle.claim_in_use.proofs.Stories.{given-is, read-is, line-is, requests-are, answers-are, no-breach-in, never-in, no-bad-read, takes-not-complete}
 use Rattle.claim_in_use.proofs.Stories.{takes-no-more, ends-there, says-so, says-more, none-before}
 use Rattle.claim_in_use.proofs.InRangeAccepted.{accepts, openings}
 use Rattle.claim_in_use.proofs.GivenBytes.{parted, all-bytes, given-bytes}
+use Rattle.claim_in_use.proofs.Causes.{causes-of}
 use Rattle.claim_in_use.proofs.Orders.{firsts-are, seconds-are, fed}
 use Rattle.calls.specs.Calls.{Verb}
 
@@ -50,7 +53,8 @@ at-one-end w x b c r places =
       no-breach = no-breach-in (x .log) b;
       credit = counted w x c;
       unfinished = ap (walk start) (given-is (x .log)) ∙ r .given;
-      finished = λ n. r .whole (not-send (x .end .end .control .state) n);
+      finished = λ n. r .whole (rw (not-send (x .end .end .control .state) n));
+      finished-first = λ e. r .whole (rw e (and-false (isSend (x .end .end .control .state))));
       can-finish = places (x .end .end .sending .given);
       read-so-far = ap (walk start) (read-is (x .log)) ∙ r .read;
       in-inbox = r .inbox;
@@ -94,7 +98,7 @@ same-end x y e =
       answers = ap (λ (z : OneEnd). each answer (story (z .log))) e;
     }
 
-module _ (claim : Claim) (records : TheRecords) (always : AlwaysGood) (places : EveryPlaceCanEnd) where
+module _ (claim : Claim) (records : TheRecords) (always : AlwaysGood) (denials : TheDenials) (places : EveryPlaceCanEnd) where
   agrees : (n : Numbers) (b c : Buffers) → InRange n b c → (l : List (At Lane Verb)) → Agree n (after n b c l)
   agrees n b c r l =
       let p = after n b c l in
@@ -140,5 +144,12 @@ module _ (claim : Claim) (records : TheRecords) (always : AlwaysGood) (places : 
         record { record-good = g .two; never-5 = never-in 5 (p .two .log) (g .never-5-two) },
       )
 
+  tells : (s t : Session) (b c : Buffers) → Opens s b → Opens t c → (l : List (At Lane Verb))
+      → (let p = run sameLane acts takes (openedBoth s t b c) l in Causes (p .one) (p .two) × Causes (p .two) (p .one))
+  tells s t b c o q l =
+      let p = run sameLane acts takes (openedBoth s t b c) l in
+      let d = denials s t b c l (accepts s b o) (accepts t c q) in
+      (causes-of (p .one) (p .two) (d .out), causes-of (p .two) (p .one) (d .back))
+
   pub in-other-words : InOtherWords
-  in-other-words = record { agree = agrees; same = alike; rules = keeps }
+  in-other-words = record { agree = agrees; same = alike; rules = keeps; causes = tells }

@@ -31,7 +31,7 @@ each-append f [] ys = refl
 each-append f (x ∷ xs) ys = ap (λ (r : List _). f x ++ r) (each-append f xs ys) ∙ sym (append-assoc (f x) (each f xs) (each f ys))
 
 -- the story goes on with what happened last
-goes-on : {B : Type 0} (f : Seen → List B) (e : Seen) (es : List Seen) → each f (story (e ∷ es)) ≡ each f (story es) ++ f e
+pub goes-on : {B : Type 0} (f : Seen → List B) (e : Seen) (es : List Seen) → each f (story (e ∷ es)) ≡ each f (story es) ++ f e
 goes-on f e es = each-append f (story es) (e ∷ []) ∙ ap (λ (r : List _). each f (story es) ++ r) (append-nil (f e))
 
 all-append : {A : Type 0} (P : A → Type 0) (xs ys : List A) → All P xs → All P ys → All P (xs ++ ys)
@@ -52,6 +52,7 @@ gave-none false = refl
 gave-is : (v : Verb) (r : Reply) (us : Lines Lane (List ℕ)) → gave (acted v r us) ≡ H.given v (numberOf r)
 gave-is Verb.allocate r us = gave-none (eqb (numberOf r) 0)
 gave-is Verb.confirmed r us = gave-none (eqb (numberOf r) 0)
+gave-is Verb.sendError r us = gave-none (eqb (numberOf r) 0)
 gave-is Verb.sendPacingResponse r us = gave-none (eqb (numberOf r) 0)
 gave-is (Verb.sendData bytes) r us = refl
 gave-is (Verb.close f b) r us = gave-none (eqb (numberOf r) 0)
@@ -157,6 +158,7 @@ never-in n (took l u r us ∷ es) e =
 not-bad : (v : Verb) (r : Reply) → isBadRead v (numberOf r) ≡ false → All (Not 8) (ofRead v r)
 not-bad Verb.allocate r e = tt
 not-bad Verb.confirmed r e = tt
+not-bad Verb.sendError r e = tt
 not-bad Verb.sendPacingResponse r e = tt
 not-bad (Verb.sendData bytes) r e = tt
 not-bad (Verb.close f b) r e = tt

@@ -1,5 +1,6 @@
--- One conversation, with the claim read off it: a turn that is prepared and carried out, a bid that is refused and pacing answers that cross meanwhile, a
--- table of two parts cut over three units and by a read, and a way back that is under way. What the claim says of it is written out in bytes and numbers.
+-- One conversation, with the claim read off it: a turn that is prepared and carried out by confirm, a bid that is refused and pacing answers that cross
+-- meanwhile, a table of two parts cut over three units and by a read, no confirmation of it and the error header that says so, and a way back that is under
+-- way. What the claim says of it is written out in bytes and numbers.
 -- Assumes nothing.
 use Prim.Native.Nat.{ℕ, _+_, _*_}
 use mathlib.Core.Path.{_≡_}
@@ -22,7 +23,7 @@ use Rattle.joined.specs.Histories.{bytesAccepted, bytesRead, bytesInInbox, byte
 use Rattle.joined.specs.Histories.{refusedWith, badReads, CompleteIsRight, MoreIsRight, NoneCrosses}
 use Rattle.joined.specs.Claim.{Pair}
 use Rattle.worked_examples.specs.Stations.{zeros, session}
-use Rattle.calls.specs.Calls.{Verb, flush}
+use Rattle.calls.specs.Calls.{Verb, flush, confirm}
 
 -- ---- the calls
 
@@ -94,17 +95,32 @@ meanwhile =
     ∷ first (J.take normal)
     ∷ []
 
--- the turn is carried out, and the bidder replies
+-- the turn is carried out, with a confirmation requested, and the bidder reads all
+abbrev pub asking : List (J.At Lane Verb)
+asking =
+    first (act confirm)
+    ∷ second (J.take normal)
+    ∷ second (J.take normal)
+    ∷ second (J.take normal)
+    ∷ second (J.take normal)
+    ∷ second (act (Verb.receive (zeros 32)))
+    ∷ second (act (Verb.receive (zeros 32)))
+    ∷ second (act (Verb.receive (zeros 32)))
+    ∷ []
+
+-- it does not confirm
+abbrev pub denying : List (J.At Lane Verb)
+denying = second (act Verb.sendError) ∷ []
+
+-- the error header is made, and the first speaker takes the negative confirmation before it
+abbrev pub telling : List (J.At Lane Verb)
+telling = second (act flush) ∷ first (J.take normal) ∷ []
+
+-- and then the error header, which it reads, while the bidder replies
 abbrev pub late : List (J.At Lane Verb)
 late =
-    first (act flush)
-    ∷ second (J.take normal)
-    ∷ second (J.take normal)
-    ∷ second (J.take normal)
-    ∷ second (J.take normal)
-    ∷ second (act (Verb.receive (zeros 32)))
-    ∷ second (act (Verb.receive (zeros 32)))
-    ∷ second (act (Verb.receive (zeros 32)))
+    first (J.take normal)
+    ∷ first (act (Verb.receive (zeros 64)))
     ∷ second (act (Verb.sendData (0x80 ∷ 0x06 ∷ 0x20 ∷ 0x21 ∷ 0x22 ∷ 0x23 ∷ 0x00 ∷ 0x05 ∷ [])))
     ∷ second (act (Verb.sendData (0x30 ∷ 0x31 ∷ 0x32 ∷ 0x00 ∷ 0x02 ∷ 0xAB ∷ [])))
     ∷ first (J.take normal)
@@ -113,7 +129,7 @@ late =
     ∷ []
 
 abbrev pub calls : List (J.At Lane Verb)
-calls = early ++ (meanwhile ++ late)
+calls = early ++ (meanwhile ++ (asking ++ (denying ++ (telling ++ late))))
 
 -- the same calls at each end, in another order between the ends
 abbrev pub reordered : List (J.At Lane Verb)
@@ -133,14 +149,19 @@ reordered =
     ∷ first (act Verb.sendPacingResponse)
     ∷ second (J.take normal)
     ∷ first (J.take normal)
-    ∷ first (act flush)
+    ∷ first (act confirm)
     ∷ second (J.take normal)
     ∷ second (act (Verb.receive (zeros 32)))
     ∷ second (act (Verb.receive (zeros 32)))
     ∷ second (act (Verb.receive (zeros 32)))
+    ∷ second (act Verb.sendError)
+    ∷ first (J.take normal)
+    ∷ second (act flush)
     ∷ second (act (Verb.sendData (0x80 ∷ 0x06 ∷ 0x20 ∷ 0x21 ∷ 0x22 ∷ 0x23 ∷ 0x00 ∷ 0x05 ∷ [])))
     ∷ second (act (Verb.sendData (0x30 ∷ 0x31 ∷ 0x32 ∷ 0x00 ∷ 0x02 ∷ 0xAB ∷ [])))
     ∷ second (act (Verb.sendData (0x01 ∷ 0x02 ∷ 0x03 ∷ 0x04 ∷ 0x05 ∷ 0x06 ∷ 0x07 ∷ 0x08 ∷ [])))
+    ∷ first (J.take normal)
+    ∷ first (act (Verb.receive (zeros 64)))
     ∷ first (J.take normal)
     ∷ first (act (Verb.receive (zeros 64)))
     ∷ []
@@ -161,7 +182,7 @@ pub record Happened : Type 0 where
   pub held-back : bytesInSendBuffer (talked .two .end) ≡ 0x03 ∷ 0x04 ∷ 0x05 ∷ 0x06 ∷ 0x07 ∷ 0x08 ∷ []
   -- at each end: the requests made, the credit left, the pacing answers taken
   pub counts-one : (requestsMade (talked .one .log) ≡ 3) × (creditOf (talked .one .end .end) ≡ 1) × (pacingResponsesTaken (talked .one .log) ≡ 1)
-  pub counts-two : (requestsMade (talked .two .log) ≡ 3) × (creditOf (talked .two .end .end) ≡ 1) × (pacingResponsesTaken (talked .two .log) ≡ 1)
+  pub counts-two : (requestsMade (talked .two .log) ≡ 4) × (creditOf (talked .two .end .end) ≡ 0) × (pacingResponsesTaken (talked .two .log) ≡ 1)
   -- the bidder has the turn, the first speaker waits
   pub state-one : talked .one .end .end .control .state ≡ Receive
   pub state-two : talked .two .end .end .control .state ≡ Send
@@ -187,9 +208,9 @@ pub record Said : Type 0 where
       ++ ((0x00 ∷ 0x05 ∷ [])
       ++ ((0x30 ∷ 0x31 ∷ 0x32 ∷ 0x00 ∷ 0x02 ∷ 0xAB ∷ 0x01 ∷ 0x02 ∷ [])
       ++ (0x03 ∷ 0x04 ∷ 0x05 ∷ 0x06 ∷ 0x07 ∷ 0x08 ∷ [])))
-  -- three requests and one answer at each end, W 2: one credit is left
+  -- one answer at each end, W 2: after three requests one credit is left, after four, the error header among them, none
   pub credit-one : 3 + 1 ≡ 2 * (1 + 1)
-  pub credit-two : 3 + 1 ≡ 2 * (1 + 1)
+  pub credit-two : 4 + 0 ≡ 2 * (1 + 1)
   -- the same outcome
   pub same : talked ≡ run sameLane acts takes ends reordered
   -- the records read are the first of those given

@@ -1,3 +1,4 @@
 pub mod OtherWords
 pub mod Conversation
 pub mod Deferral
+pub mod Denial

@@ -15,7 +15,8 @@ use Rattle.logical_record.specs.RecordClaims.{CanEnd}
 use Rattle.logical_record.specs.declared.Walked.the-variants as walked
 use Rattle.pacing.specs.declared.Window.{Window}
 use Rattle.control.specs.declared.State.{State}
-use Rattle.control.specs.declared.State.the-variants.{Send, DeferTurn, DeferEnd}
+use Rattle.control.specs.declared.State.the-variants.{Send, Receive, DeferTurn, DeferEnd}
+use Rattle.control.specs.declared.WhatReceived.the-variants as mark
 use Rattle.end.specs.Record.{recordGood}
 use Rattle.session.specs.declared.Session.{Session}
 use Rattle.joined.specs.Lanes.{Lines}
@@ -90,6 +91,7 @@ numberOf r = r .answer .answer .refusal
 abbrev pub bytesOf : Verb → List ℕ
 bytesOf Verb.allocate = []
 bytesOf Verb.confirmed = []
+bytesOf Verb.sendError = []
 bytesOf Verb.sendPacingResponse = []
 bytesOf Verb.withdraw = []
 bytesOf (Verb.sendData bytes) = bytes
@@ -125,6 +127,7 @@ takeAnswer (took l u r us) = r ∷ []
 abbrev pub ofRead : Verb → Reply → List Reply
 ofRead Verb.allocate r = []
 ofRead Verb.confirmed r = []
+ofRead Verb.sendError r = []
 ofRead Verb.sendPacingResponse r = []
 ofRead Verb.withdraw r = []
 ofRead (Verb.sendData bytes) r = []
@@ -181,6 +184,8 @@ pub record AtOneEnd (w : ℕ) (x : OneEnd) : Type 0 where
   -- what was given and not finished is what the end keeps; there is none outside Send, and none where a turn or an end is prepared
   pub unfinished : walk start (given x) ≡ walked.At (x .end .end .sending .given)
   pub finished : (x .end .end .control .state ≡ Send → ⊥) → isWhole (x .end .end .sending .given) ≡ true
+  -- and none where an error header is due
+  pub finished-first : x .end .end .control .error ≡ true → isWhole (x .end .end .sending .given) ≡ true
   -- whatever was given, some bytes finish it
   pub can-finish : CanEnd (x .end .end .sending .given)
   -- what was read ends at the place read, and what the inbox holds goes on from there to the place taken
@@ -268,6 +273,36 @@ pub record KeepsRules (x : OneEnd) : Type 0 where
   pub record-good : recordGood (x .end .end) ≡ true
   pub never-5 : All (λ r. numberOf r ≡ 5 → ⊥) (each answer (story (x .log)))
 
+-- ---- no confirmation, and its cause
+
+-- a unit that was taken
+abbrev pub tookUnit : Seen → List (List ℕ)
+tookUnit (acted v r us) = []
+tookUnit (took l u r us) = cond (eqb (numberOf r) 0) (u ∷ []) []
+
+-- it refuses a confirmation: its header is 87 30 00
+abbrev pub Denies : List ℕ → Type 0
+Denies u = (getD u 2 0 ≡ 0x87) × (getD u 3 0 ≡ 0x30) × (getD u 4 0 ≡ 0x00)
+
+-- it is the error header, whole
+abbrev pub IsCause : List ℕ → Type 0
+IsCause u = (getD u 2 0 ≡ 0x0B) × (drop 5 u ≡ 0x07 ∷ 0x07 ∷ 0x08 ∷ 0x89 ∷ 0x00 ∷ 0x00 ∷ 0x00 ∷ [])
+
+-- among these units the first request behind each that refuses a confirmation is the error header
+abbrev pub CauseNext : List (List ℕ) → Type 0
+CauseNext us =
+    (before between behind : List (List ℕ)) (n r : List ℕ) → us ≡ before ++ (n ∷ (between ++ (r ∷ behind)))
+    → Denies n → each request between ≡ [] → on 0x80 (getD r 2 0) ≡ false → IsCause r
+
+-- One way, from x to y: among all units that x made; among those that y took; and while it is still to come there, y receives and has no mark.
+pub record Causes (x y : OneEnd) : Type 0 where
+  pub made-so : CauseNext (each made (story (x .log)))
+  pub taken-so : CauseNext (each tookUnit (story (y .log)))
+  pub waits-for-it : (before between : List (List ℕ)) (n : List ℕ) → each tookUnit (story (y .log)) ≡ before ++ (n ∷ between)
+      → Denies n → each request between ≡ [] → (y .end .end .control .state ≡ Receive) × (y .end .end .control .mark ≡ mark.Nothing)
+  -- what x has made is what y has taken and what is on the line
+  pub each-once : each made (story (x .log)) ≡ each tookUnit (story (y .log)) ++ y .waiting normal
+
 -- ---- the whole, of every two sessions, buffers and lists
 
 pub record InOtherWords : Type 0 where
@@ -282,3 +317,6 @@ pub record InOtherWords : Type 0 where
   pub rules : (s t : Session) (b c : Buffers) → Opens s b → Opens t c → (l : List (At Lane Verb))
       → AreBytes (b .send ++ (b .inbox ++ (c .send ++ (c .inbox ++ each offered l))))
       → (let p = run sameLane acts takes (openedBoth s t b c) l in KeepsRules (p .one) × KeepsRules (p .two))
+  -- of these too: who refuses a confirmation says why, and next
+  pub causes : (s t : Session) (b c : Buffers) → Opens s b → Opens t c → (l : List (At Lane Verb))
+      → (let p = run sameLane acts takes (openedBoth s t b c) l in Causes (p .one) (p .two) × Causes (p .two) (p .one))

@@ -1,8 +1,8 @@
 -- A test at every value of the finite part of a record, which antt computes.
 -- Assumes nothing.
-use mathlib.Core.Path.{_≡_, refl}
+use mathlib.Core.Path.{_≡_}
 use mathlib.Core.Bool.{Bool, true, _&&_}
-use Rattle.bools.proofs.Finite.{Finite, halves, pairs, covered, bools}
+use Rattle.bools.proofs.Finite.{Finite, halves, pairs, bools}
 use Rattle.header.specs.declared.Follows.{Follows}
 use Rattle.header.proofs.FiniteHeader.{follows}
 use Rattle.control.specs.declared.Role.{Role}
@@ -36,37 +36,47 @@ abbrev pub states : Finite State
 states = record { all = allStates; at = at-state }
 
 abbrev pub allMarks : (WhatReceived → Bool) → Bool
-allMarks f = f mark.Nothing && (f mark.Turn && (f mark.End && (f mark.Confirm && (f mark.ConfirmTurn && f mark.ConfirmEnd))))
+allMarks f = f mark.Nothing && (f mark.Turn && (f mark.End && (f mark.Confirm && (f mark.ConfirmTurn && (f mark.ConfirmEnd && f mark.Error)))))
 
 pub at-mark : (f : WhatReceived → Bool) → allMarks f ≡ true → (m : WhatReceived) → f m ≡ true
-at-mark f t mark.Nothing = search halves depth 8
-at-mark f t mark.Turn = search halves depth 8
-at-mark f t mark.End = search halves depth 8
-at-mark f t mark.Confirm = search halves depth 8
-at-mark f t mark.ConfirmTurn = search halves depth 8
-at-mark f t mark.ConfirmEnd = search halves depth 8
+at-mark f t mark.Nothing = search halves depth 9
+at-mark f t mark.Turn = search halves depth 9
+at-mark f t mark.End = search halves depth 9
+at-mark f t mark.Confirm = search halves depth 9
+at-mark f t mark.ConfirmTurn = search halves depth 9
+at-mark f t mark.ConfirmEnd = search halves depth 9
+at-mark f t mark.Error = search halves depth 9
 
 abbrev pub marks : Finite WhatReceived
 marks = record { all = allMarks; at = at-mark }
 
+-- the fields but for the receiving chain, of which no test here asks: it stays a variable where a law is computed
 abbrev pub Fields : Type 0
 Fields = Role × (State × (Follows × (WhatReceived × (Bool × (Bool × (Bool × Bool))))))
 
-abbrev pub ofFields : Fields → Control
-ofFields p =
+abbrev pub ofFields : Bool → Fields → Control
+ofFields chain p =
     record {
       role = p .0;
       state = p .1 .0;
       follows = p .1 .1 .0;
       mark = p .1 .1 .1 .0;
       due = p .1 .1 .1 .1 .0;
-      bid = p .1 .1 .1 .1 .1 .0;
-      outchain = p .1 .1 .1 .1 .1 .1 .0;
-      inchain = p .1 .1 .1 .1 .1 .1 .1;
+      error = p .1 .1 .1 .1 .1 .0;
+      bid = p .1 .1 .1 .1 .1 .1 .0;
+      outchain = p .1 .1 .1 .1 .1 .1 .1;
+      inchain = chain;
     }
 
 abbrev pub fieldsOf : Control → Fields
-fieldsOf c = (c .role, (c .state, (c .follows, (c .mark, (c .due, (c .bid, (c .outchain, c .inchain)))))))
+fieldsOf c = (c .role, (c .state, (c .follows, (c .mark, (c .due, (c .error, (c .bid, c .outchain)))))))
 
-abbrev pub controls : Finite Control
-controls = covered (pairs roles (pairs states (pairs follows (pairs marks (pairs bools (pairs bools (pairs bools bools))))))) ofFields fieldsOf (λ c. refl)
+abbrev pub fields : Finite Fields
+fields = pairs roles (pairs states (pairs follows (pairs marks (pairs bools (pairs bools (pairs bools bools))))))
+
+-- a test at every control with this receiving chain
+abbrev pub allControls : (Control → Bool) → Bool → Bool
+allControls f chain = fields .all (λ p. f (ofFields chain p))
+
+pub at-control : (f : Control → Bool) → ((chain : Bool) → allControls f chain ≡ true) → (c : Control) → f c ≡ true
+at-control f t c = fields .at (λ p. f (ofFields (c .inchain) p)) (t (c .inchain)) (fieldsOf c)

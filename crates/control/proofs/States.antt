@@ -3,11 +3,11 @@
 use mathlib.Core.Path.{_≡_, refl, sym, ap, _∙_}
 use mathlib.Core.Bool.{Bool, true, false, not, _&&_, _||_, or-true}
 use Rattle.bools.proofs.Cases.{never, split}
-use Rattle.bools.proofs.Tests.{follows-from, not-true}
+use Rattle.bools.proofs.Tests.{both, left, follows-from, not-true}
 use Rattle.control.specs.StateTests.{isFirstSpeaker, isBidder, isReset, isSend, isReceive, isConfirmOwed, isConfirmAwaited, isDefer, holdsSend, isNothing}
 use Rattle.header.specs.declared.Follows.{Follows}
 use Rattle.header.specs.declared.Follows.the-variants.{Stay, ChangeDirection, EndBracket}
-use Rattle.control.specs.Questions.{mayClose}
+use Rattle.control.specs.Questions.{maySend, mayClose}
 use Rattle.control.specs.declared.Control.{Control}
 use Rattle.control.specs.declared.Role.{Role}
 use Rattle.control.specs.declared.Role.the-variants.{FirstSpeaker, Bidder}
@@ -46,6 +46,7 @@ nothing-is mark.End e = never e
 nothing-is mark.Confirm e = never e
 nothing-is mark.ConfirmTurn e = never e
 nothing-is mark.ConfirmEnd e = never e
+nothing-is mark.Error e = never e
 
 -- ---- which it is not
 
@@ -74,10 +75,15 @@ holding-not-receive = excludes holdsSend isReceive refl
 pub sending-holds : (s : State) → isSend s ≡ true → holdsSend s ≡ true
 sending-holds s e = rw e
 
-pub closing-holds : (f : Follows) (c : Control) → mayClose f c ≡ true → holdsSend (c .state) ≡ true
-closing-holds Stay c e = e
-closing-holds ChangeDirection c e = sending-holds (c .state) e
-closing-holds EndBracket c e = sending-holds (c .state) e
+pub sending-clear : (c : Control) → maySend c ≡ true → (isSend (c .state) ≡ true) × (c .error ≡ false)
+sending-clear c e =
+    let p = both (isSend (c .state)) (not (c .error)) e in
+    (p .0, not-true (c .error) (p .1))
+
+pub closing-holds : (f : Follows) (b : Bool) (c : Control) → mayClose f b c ≡ true → holdsSend (c .state) ≡ true
+closing-holds Stay b c e = left (holdsSend (c .state)) (not (b && c .error)) e
+closing-holds ChangeDirection b c e = sending-holds (c .state) (sending-clear c e .0)
+closing-holds EndBracket b c e = sending-holds (c .state) (sending-clear c e .0)
 
 pub not-holding : (s : State) → holdsSend s ≡ false → isSend s ≡ false
 not-holding s e = split (isSend s) (λ y. never (sym e ∙ sending-holds s y)) (λ n. n)

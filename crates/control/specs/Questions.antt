@@ -11,19 +11,21 @@ use Rattle.control.specs.declared.Control.{Control}
 abbrev pub mayAllocate : Control → Bool
 mayAllocate c = isReset (c .state) && not (c .bid)
 
--- send data, turn, end, and preparing one
+-- send data, turn, end, and preparing one: in Send, and not until an error that is due has gone
 abbrev pub maySend : Control → Bool
-maySend c = isSend (c .state)
+maySend c = isSend (c .state) && not (c .error)
 
--- flush and confirm carry out what is prepared; turn and end by name are for Send alone
-abbrev pub mayClose : Follows → Control → Bool
-mayClose Stay c = holdsSend (c .state)
-mayClose ChangeDirection c = maySend c
-mayClose EndBracket c = maySend c
+-- flush and confirm carry out what is prepared; turn and end by name are for Send alone. An error that is due goes by flush, which requests no
+-- confirmation
+abbrev pub mayClose : Follows → Bool → Control → Bool
+mayClose Stay confirm c = holdsSend (c .state) && not (confirm && c .error)
+mayClose ChangeDirection confirm c = maySend c
+mayClose EndBracket confirm c = maySend c
 
 abbrev pub mayWithdraw : Control → Bool
 mayWithdraw c = isDefer (c .state)
 
+-- confirmed, and send error
 abbrev pub mayConfirm : Control → Bool
 mayConfirm c = isConfirmOwed (c .state)
 
@@ -33,7 +35,7 @@ mayConfirm c = isConfirmOwed (c .state)
 abbrev pub chainFits : Bool → Control → Bool
 chainFits first c = agree first (not (c .inchain))
 
--- 25: is data's BB on exactly at a bidder in Reset?
+-- 25: is data's BB on exactly at a bidder in Reset? An error header has it off
 abbrev pub bracketFits : Bool → Control → Bool
 bracketFits bb c = agree bb (isBidder (c .role) && isReset (c .state))
 
@@ -45,7 +47,7 @@ bidFits c = isFirstSpeaker (c .role)
 abbrev pub stateFits : Bool → Control → Bool
 stateFits bb c = isReceive (c .state) || (isReset (c .state) && bb)
 
--- 28: does a grant, a bid refusal, a confirmation fit state or flag?
+-- 28: does a grant, a bid refusal, a confirmation or its refusal fit state or flag?
 abbrev pub positiveResponseFits : Control → Bool
 positiveResponseFits c = isReset (c .state) && c .bid
 

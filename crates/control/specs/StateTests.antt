@@ -96,7 +96,7 @@ isDefer DeferEnd = true
 abbrev pub holdsSend : State → Bool
 holdsSend s = isSend s || isDefer s
 
--- in the paper's order, from 0: none, turn, end, confirm, confirm-turn, confirm-end
+-- in the papers' order, from 0: none, turn, end, confirm, confirm-turn, confirm-end, error
 abbrev pub markNumber : WhatReceived → ℕ
 markNumber mark.Nothing = 0
 markNumber mark.Turn = 1
@@ -104,6 +104,7 @@ markNumber mark.End = 2
 markNumber mark.Confirm = 3
 markNumber mark.ConfirmTurn = 4
 markNumber mark.ConfirmEnd = 5
+markNumber mark.Error = 6
 
 abbrev pub isNothing : WhatReceived → Bool
 isNothing mark.Nothing = true
@@ -112,6 +113,7 @@ isNothing mark.End = false
 isNothing mark.Confirm = false
 isNothing mark.ConfirmTurn = false
 isNothing mark.ConfirmEnd = false
+isNothing mark.Error = false
 
 -- one is on exactly when the other is
 abbrev pub agree : Bool → Bool → Bool

@@ -1,7 +1,7 @@
 -- What the section 'The end's record' says of the finite part, a sentence a definition. Where it says "in Send", document 02 has "in Send or Defer".
 -- Assumes nothing.
 use mathlib.Core.Bool.{Bool, not, _&&_, _||_}
-use Rattle.control.specs.StateTests.{isFirstSpeaker, isBidder, isReceive, holdsSend, isNothing}
+use Rattle.control.specs.StateTests.{isFirstSpeaker, isBidder, isSend, isReceive, holdsSend, isNothing}
 use Rattle.control.specs.declared.Control.{Control}
 
 -- a mark stands only in Receive
@@ -20,5 +20,13 @@ bidAtBidder c = not (c .bid) || isBidder (c .role)
 abbrev pub chainInSend : Control → Bool
 chainInSend c = not (c .outchain) || holdsSend (c .state)
 
+-- error-due: only in Send, not in Defer, with BB-due off
+abbrev pub errorInSend : Control → Bool
+errorInSend c = not (c .error) || (isSend (c .state) && not (c .due))
+
 unfoldable pub controlGood : Control → Bool
-controlGood c = markInReceive c && (dueInSend c && (bidAtBidder c && chainInSend c))
+controlGood c = markInReceive c && (dueInSend c && (bidAtBidder c && (chainInSend c && errorInSend c)))
+
+-- bytes are held in Send and Defer alone, and none while an error is due
+abbrev pub mayHold : Control → Bool
+mayHold c = holdsSend (c .state) && not (c .error)

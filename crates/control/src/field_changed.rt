@@ -4,7 +4,7 @@ use crate::State;
 use crate::WhatReceived;
 use header::Follows;
 ghost use mathlib.Core.Path.{_≡_};
-ghost use Rattle.control.specs.FieldChanged.{setState, setFollows, setMark, setDue, setBid, setOutchain, setInchain};
+ghost use Rattle.control.specs.FieldChanged.{setState, setFollows, setMark, setDue, setError, setBid, setOutchain, setInchain};
 
 impl Control {
     pub fn with_state(self, state: State) -> Control
@@ -19,6 +19,7 @@ impl Control {
             follows,
             mark,
             due: self.due,
+            error: self.error,
             bid: self.bid,
             outchain: self.outchain,
             inchain: self.inchain,
@@ -37,6 +38,7 @@ impl Control {
             follows,
             mark,
             due: self.due,
+            error: self.error,
             bid: self.bid,
             outchain: self.outchain,
             inchain: self.inchain,
@@ -55,6 +57,7 @@ impl Control {
             follows,
             mark,
             due: self.due,
+            error: self.error,
             bid: self.bid,
             outchain: self.outchain,
             inchain: self.inchain,
@@ -65,6 +68,13 @@ impl Control {
         ensures { λ r. ⌜ r ≡ setDue due self ⌝ }
     {
         self.due = due;
+        self
+    }
+
+    pub fn with_error(mut self, error: bool) -> Control
+        ensures { λ r. ⌜ r ≡ setError error self ⌝ }
+    {
+        self.error = error;
         self
     }
 

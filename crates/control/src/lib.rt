@@ -29,7 +29,8 @@ pub enum Deferred {
     End,
 }
 
-// Document 01's mark: what the last unit taken says after its bytes, kept until a read answers it.
+// Document 01's mark: what the last unit taken says after its bytes, kept until a read answers it. Error is document 02's: the
+// partner does not confirm, and this is the cause.
 pub enum WhatReceived {
     Nothing,
     Turn,
@@ -37,16 +38,19 @@ pub enum WhatReceived {
     Confirm,
     ConfirmTurn,
     ConfirmEnd,
+    Error,
 }
 
-// `follows` is what follows a confirmation; `due` is BB-due: the next data unit begins the bracket; `bid` is the flag bid: a
-// bid is unanswered; `outchain` and `inchain` say whether the sending and the receiving chain is open.
+// `follows` is what follows a confirmation; `due` is BB-due: the next data unit begins the bracket; `error` is error-due: the next
+// request is the error header; `bid` is the flag bid: a bid is unanswered; `outchain` and `inchain` say whether the sending and
+// the receiving chain is open.
 pub struct Control {
     pub role: Role,
     pub state: State,
     pub follows: header::Follows,
     pub mark: WhatReceived,
     pub due: bool,
+    pub error: bool,
     pub bid: bool,
     pub outchain: bool,
     pub inchain: bool,

@@ -14,7 +14,7 @@ use crate::state_tests::is_send;
 use header::Follows;
 ghost use mathlib.Core.Path.{_≡_};
 ghost use Rattle.control.specs.StateTests.{isFirstSpeaker, isNothing};
-ghost use Rattle.control.specs.Within.{markInReceive, dueInSend, bidAtBidder, chainInSend, controlGood};
+ghost use Rattle.control.specs.Within.{markInReceive, dueInSend, bidAtBidder, chainInSend, errorInSend, controlGood, mayHold};
 ghost use Rattle.control.specs.Questions.{mayAllocate, maySend, mayClose, mayWithdraw, mayConfirm, chainFits, bracketFits, bidFits, stateFits};
 ghost use Rattle.control.specs.Questions.{positiveResponseFits, negativeResponseFits, confirmationFits};
 
@@ -49,12 +49,28 @@ impl Control {
         !self.outchain | holds_send(state)
     }
 
+    fn error_in_send(self) -> bool
+        ensures { λ r. ⌜ r ≡ errorInSend self ⌝ }
+    {
+        let state = self.state;
+        !self.error | (is_send(state) & !self.due)
+    }
+
     // The finite part is within the section 'The end's record'.
     pub fn control_good(self) -> bool
         ensures { λ r. ⌜ r ≡ controlGood self ⌝ }
     {
         self.mark_in_receive()
-            & (self.due_in_send() & (self.bid_at_bidder() & self.chain_in_send()))
+            & (self.due_in_send()
+                & (self.bid_at_bidder() & (self.chain_in_send() & self.error_in_send())))
+    }
+
+    // Bytes are held in Send and Defer alone, and none while an error is due.
+    pub fn may_hold(self) -> bool
+        ensures { λ r. ⌜ r ≡ mayHold self ⌝ }
+    {
+        let state = self.state;
+        holds_send(state) & !self.error
     }
 
     pub fn speaks_first(self) -> bool
@@ -83,18 +99,19 @@ impl Control {
         ensures { λ r. ⌜ r ≡ maySend self ⌝ }
     {
         let state = self.state;
-        is_send(state)
+        is_send(state) & !self.error
     }
 
-    // Flush and confirm (both say nothing to follow) carry out what is prepared; turn and end are for Send alone.
-    pub fn may_close(self, follows: Follows) -> bool
-        ensures { λ r. ⌜ r ≡ mayClose follows self ⌝ }
+    // Flush and confirm (both say nothing to follow) carry out what is prepared; turn and end are for Send alone. An error that
+    // is due goes by flush.
+    pub fn may_close(self, follows: Follows, confirm: bool) -> bool
+        ensures { λ r. ⌜ r ≡ mayClose follows confirm self ⌝ }
     {
         let state = self.state;
         match follows {
-            Follows::Stay => holds_send(state),
-            Follows::ChangeDirection => is_send(state),
-            Follows::EndBracket => is_send(state),
+            Follows::Stay => holds_send(state) & !(confirm & self.error),
+            Follows::ChangeDirection => self.may_send(),
+            Follows::EndBracket => self.may_send(),
         }
     }
 

@@ -145,6 +145,7 @@ pub fn is_nothing(m: WhatReceived) -> bool
         WhatReceived::Confirm => false,
         WhatReceived::ConfirmTurn => false,
         WhatReceived::ConfirmEnd => false,
+        WhatReceived::Error => false,
     }
 }
 

@@ -83,6 +83,90 @@ const HEADER_CONFIRMATION: [u8; 380] = *b"header_confirmation\n\
     1 Reset mark none send 0 inbox 0 credit 1 open 3 waiting 0\n\
     2 Receive mark none send 0 inbox 0 credit 3 open 2 waiting 1\n";
 
+const HEADER_NEGATIVE_CONFIRMATION: [u8; 356] = *b"header_negative_confirmation\n\
+    ends 3 64 3 64 192 192\n\
+    1 allocate\n\
+    1 confirm\n\
+    2 take\n\
+    2 read 1\n\
+    2 deny\n\
+    1 take\n\
+    =\n\
+    1 open 0\n\
+    2 open 0\n\
+    1 allocate 0\n\
+    1 confirm 0 unit 0001032180\n\
+    2 take 0\n\
+    2 read 0 mark confirm\n\
+    2 deny 0 unit 000187300008460000\n\
+    1 take 0\n\
+    1 Receive mark none send 0 inbox 0 credit 2 open 3 waiting 0\n\
+    2 Send mark none send 0 inbox 0 credit 3 open 2 waiting 0\n";
+
+const HEADER_ERROR: [u8; 433] = *b"header_error\n\
+    ends 3 64 3 64 192 192\n\
+    1 allocate\n\
+    1 confirm\n\
+    2 take\n\
+    2 read 1\n\
+    2 deny\n\
+    2 flush\n\
+    1 take\n\
+    1 take\n\
+    1 read 1\n\
+    =\n\
+    1 open 0\n\
+    2 open 0\n\
+    1 allocate 0\n\
+    1 confirm 0 unit 0001032180\n\
+    2 take 0\n\
+    2 read 0 mark confirm\n\
+    2 deny 0 unit 000187300008460000\n\
+    2 flush 0 unit 00010B910007070889000000\n\
+    1 take 0\n\
+    1 take 0\n\
+    1 read 0 mark error\n\
+    1 Receive mark none send 0 inbox 0 credit 2 open 2 waiting 0\n\
+    2 Send mark none send 0 inbox 0 credit 2 open 2 waiting 0\n";
+
+const HEADER_ERROR_WITHIN_WINDOW: [u8; 599] = *b"header_error_within_window\n\
+    ends 3 64 3 64 192 192\n\
+    1 allocate\n\
+    1 turn\n\
+    2 take\n\
+    2 read 1\n\
+    2 turn\n\
+    1 take\n\
+    1 read 1\n\
+    1 confirm\n\
+    2 take\n\
+    2 read 1\n\
+    2 deny\n\
+    2 flush\n\
+    1 take\n\
+    1 take\n\
+    1 read 1\n\
+    =\n\
+    1 open 0\n\
+    2 open 0\n\
+    1 allocate 0\n\
+    1 turn 0 unit 00010391A0\n\
+    2 take 0\n\
+    2 read 0 mark turn\n\
+    2 turn 0 unit 0001039120\n\
+    1 take 0\n\
+    1 read 0 mark turn\n\
+    1 confirm 0 unit 0002032000\n\
+    2 take 0\n\
+    2 read 0 mark confirm\n\
+    2 deny 0 unit 000287300008460000\n\
+    2 flush 0 unit 00020B900007070889000000\n\
+    1 take 0\n\
+    1 take 0\n\
+    1 read 0 mark error\n\
+    1 Receive mark none send 0 inbox 0 credit 1 open 1 waiting 0\n\
+    2 Send mark none send 0 inbox 0 credit 1 open 1 waiting 0\n";
+
 const HEADER_PACING_RESPONSE: [u8; 370] = *b"header_pacing_response\n\
     ends 3 64 3 64 192 320\n\
     1 allocate\n\
@@ -317,6 +401,9 @@ pub fn headers(name: &[u8]) -> bool {
         | goes(name, &HEADER_BID_WITHIN_WINDOW)
         | goes(name, &HEADER_BID_REFUSAL)
         | goes(name, &HEADER_CONFIRMATION)
+        | goes(name, &HEADER_NEGATIVE_CONFIRMATION)
+        | goes(name, &HEADER_ERROR)
+        | goes(name, &HEADER_ERROR_WITHIN_WINDOW)
         | goes(name, &HEADER_PACING_RESPONSE)
         | goes(name, &HEADER_DATA_ALONE)
         | goes(name, &HEADER_DATA_IN_CHAIN)

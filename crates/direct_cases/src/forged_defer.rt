@@ -61,7 +61,7 @@ fn unit_calls_refused(end: End) -> bool {
     unit_calls(end, 5, &mut unit) & same(&unit, &[0xA5u8; 69])
 }
 
-fn every_call_refused(end: End) -> bool {
+pub fn every_call_refused(end: End) -> bool {
     prepare_answers(end, 5)
         & withdraw_answers(end, 5)
         & carrying_refused(end, 5)

@@ -2,6 +2,7 @@
 mod deferred;
 mod forged;
 mod forged_defer;
+mod forged_error;
 mod lent_short;
 mod opened;
 mod refused;
@@ -17,6 +18,12 @@ use forged_defer::refusal_5_defer_chain_of_none;
 use forged_defer::refusal_5_defer_due_at_bidder;
 use forged_defer::refusal_5_forged_prepare;
 use forged_defer::refusal_9_forged_defer;
+use forged_error::error_header_within_record;
+use forged_error::refusal_5_error_due_bb_due;
+use forged_error::refusal_5_error_due_bytes_held;
+use forged_error::refusal_5_error_due_in_defer;
+use forged_error::refusal_5_error_due_in_receive;
+use lent_short::refusal_4_error_due;
 use lent_short::refusal_4_in_defer;
 use lent_short::refusal_4_inbox_of_read;
 use lent_short::refusal_4_inbox_of_take;
@@ -50,7 +57,16 @@ fn in_defer(name: &[u8]) -> bool {
         | (same(name, b"refusal_9_forged_defer") & refusal_9_forged_defer())
 }
 
+fn error_due(name: &[u8]) -> bool {
+    (same(name, b"refusal_4_error_due") & refusal_4_error_due())
+        | (same(name, b"refusal_5_error_due_bytes_held") & refusal_5_error_due_bytes_held())
+        | (same(name, b"refusal_5_error_due_in_defer") & refusal_5_error_due_in_defer())
+        | (same(name, b"refusal_5_error_due_bb_due") & refusal_5_error_due_bb_due())
+        | (same(name, b"refusal_5_error_due_in_receive") & refusal_5_error_due_in_receive())
+        | (same(name, b"error_header_within_record") & error_header_within_record())
+}
+
 // Whether the case of that name went as it should; an unknown name is bad. Every case is run whatever the name: they are short.
 pub fn run(name: &[u8]) -> bool {
-    opened_and_forged(name) | lent(name) | in_defer(name)
+    opened_and_forged(name) | lent(name) | in_defer(name) | error_due(name)
 }

@@ -37,11 +37,18 @@ fn confirm(end: End, unit: &mut [u8]) -> u8 {
     refusal_of(end.confirmed(unit))
 }
 
+fn deny(end: End, unit: &mut [u8]) -> u8 {
+    refusal_of(end.send_error(unit))
+}
+
 fn pace(end: End, unit: &mut [u8]) -> u8 {
     refusal_of(end.send_pacing_response(unit))
 }
 
 // The calls that are lent nothing but a unit buffer.
 pub fn unit_calls(end: End, number: u8, unit: &mut [u8]) -> bool {
-    (begin(end, unit) == number) & (pace(end, unit) == number) & (confirm(end, unit) == number)
+    (begin(end, unit) == number)
+        & (pace(end, unit) == number)
+        & (confirm(end, unit) == number)
+        & (deny(end, unit) == number)
 }

@@ -12,7 +12,7 @@ fn flush_record(end: End, send: &mut [u8], unit: &mut [u8]) -> Done {
 }
 
 // The cells begin with these bytes.
-fn begins(cells: &[u8], front: &[u8]) -> bool {
+pub fn begins(cells: &[u8], front: &[u8]) -> bool {
     let n = front.len();
     if cells.len() < n {
         return false;

@@ -13,7 +13,8 @@ use Rattle.cells.proofs.Fronts.{written-none}
 use Rattle.unit.specs.Ru.{fixedRu}
 use Rattle.unit.specs.Unit.{numberIn, cellsMade}
 use Rattle.header.specs.declared.Header.{Header}
-use Rattle.header.specs.declared.Header.the-variants.{Data, Bid, PositiveBidResponse, NegativeBidResponse, Confirmation, PacingResponse}
+use Rattle.header.specs.declared.Header.the-variants.{Data, Bid, ErrorDescription, PositiveBidResponse, NegativeBidResponse, Confirmation}
+use Rattle.header.specs.declared.Header.the-variants.{NegativeConfirmation, PacingResponse}
 use Rattle.transitions.specs.Transitions.{bidAnswer}
 use Rattle.answers.specs.Answers.{accepted, refused, refusedNaming}
 use Rattle.answers.proofs.Rows.{yes}
@@ -22,7 +23,7 @@ use Rattle.receiving.specs.Receiving.{requestReceived}
 use Rattle.end.specs.Record.{recordGood}
 use Rattle.end.specs.Outcome.{aUnit, lengthOut, Decision, refuse}
 use Rattle.end.specs.Results.{takenBy}
-use Rattle.end.specs.ReceiveUnit.{kindQuestions, headerReceived, ruReceived, receiveUnitRefusal, dataJoined, bidAnswered, creditRaised, kindReceived, receiveUnitDecision, kindJoined, inboxCells, ruleNamed, doneNaming, receiveUnit}
+use Rattle.end.specs.ReceiveUnit.{kindQuestions, headerReceived, ruReceived, receiveUnitRefusal, dataJoined, bidAnswered, creditRaised, kindReceived, receiveUnitDecision, kindJoined, inboxCells, ruleNamed, doneNaming, receiveUnit, errorMarked}
 use Rattle.end.specs.Kinds.{kindRefusal}
 use Rattle.end.proofs.RoomToReceive.{bid-room, bid-answer-length, inbox-is, joined-room}
 use Rattle.end.proofs.ReceiveUnitRows.{kind-accepted, take-accepted}
@@ -40,22 +41,26 @@ data-joins true held (x ∷ ru) inbox z = absurd (let e = eqb-true (held + lengt
 
 kind-joins : (e : End) (h : Header) (n : ℕ) (ru inbox : List ℕ)
     → cond (eqb (kindReceived e h n ru .end .receiving .held) (e .receiving .held)) inbox (written (e .receiving .held) ru inbox) ≡ kindJoined e h ru inbox
-unfolding dataJoined bidAnswered creditRaised requestReceived
+unfolding dataJoined errorMarked bidAnswered creditRaised requestReceived
 kind-joins e (Data d) n ru inbox = data-joins (eqb (e .receiving .held + length ru) (e .receiving .held)) (e .receiving .held) ru inbox refl
 kind-joins e (Bid p) n ru inbox = rw (eq-eqb (e .receiving .held) (e .receiving .held) refl)
+kind-joins e (ErrorDescription p) n ru inbox = rw (eq-eqb (e .receiving .held) (e .receiving .held) refl)
 kind-joins e PositiveBidResponse n ru inbox = rw (eq-eqb (e .receiving .held) (e .receiving .held) refl)
 kind-joins e NegativeBidResponse n ru inbox = rw (eq-eqb (e .receiving .held) (e .receiving .held) refl)
 kind-joins e Confirmation n ru inbox = rw (eq-eqb (e .receiving .held) (e .receiving .held) refl)
+kind-joins e NegativeConfirmation n ru inbox = rw (eq-eqb (e .receiving .held) (e .receiving .held) refl)
 kind-joins e PacingResponse n ru inbox = rw (eq-eqb (e .receiving .held) (e .receiving .held) refl)
 
 kind-room : (e : End) (h : Header) (n : ℕ) (ru : List ℕ) → recordGood e ≡ true → kindRefusal e h n ru ≡ 0
     → (kindReceived e h n ru .end .receiving .held ≡ e .receiving .held → ⊥) → e .receiving .held + length ru ≤ e .receiving .inbox
-unfolding bidAnswered creditRaised requestReceived
+unfolding errorMarked bidAnswered creditRaised requestReceived
 kind-room e (Data d) n ru g q x = joined-room e (Data d) d n ru g refl q
 kind-room e (Bid p) n ru g q x = absurd (x refl)
+kind-room e (ErrorDescription p) n ru g q x = absurd (x refl)
 kind-room e PositiveBidResponse n ru g q x = absurd (x refl)
 kind-room e NegativeBidResponse n ru g q x = absurd (x refl)
 kind-room e Confirmation n ru g q x = absurd (x refl)
+kind-room e NegativeConfirmation n ru g q x = absurd (x refl)
 kind-room e PacingResponse n ru g q x = absurd (x refl)
 
 -- a bid that is accepted carries the next number
@@ -65,14 +70,16 @@ bid-number e p n ru q = eqb-true n (nextNumber (e .receiving .number)) (yes (kin
 
 kind-makes : (e : End) (h : Header) (n : ℕ) (ru : List ℕ) (unit : ℕ) → 10 ≤ unit → kindRefusal e h n ru ≡ 0
     → (let d = kindReceived e h n ru in Makes d (d .end .receiving .number) (bidAnswer (e .control)) (fixedRu (bidAnswer (e .control))) unit)
-unfolding dataJoined bidAnswered creditRaised requestReceived
+unfolding dataJoined errorMarked bidAnswered creditRaised requestReceived
 kind-makes e (Data d) n ru unit l q = none refl
 kind-makes e (Bid p) n ru unit l q =
     one refl (ap (λ (k : ℕ). aUnit k (bidAnswer (e .control)) (fixedRu (bidAnswer (e .control)))) (bid-number e p n ru q))
     (omega (arith, bid-answer-length (e .control), l))
+kind-makes e (ErrorDescription p) n ru unit l q = none refl
 kind-makes e PositiveBidResponse n ru unit l q = none refl
 kind-makes e NegativeBidResponse n ru unit l q = none refl
 kind-makes e Confirmation n ru unit l q = none refl
+kind-makes e NegativeConfirmation n ru unit l q = none refl
 kind-makes e PacingResponse n ru unit l q = none refl
 
 -- ---- of the call

@@ -11,7 +11,8 @@ use borrow.Author.Tests.{eqb-true, eqb-false, ne-eqb}
 use Rattle.header.specs.Rules.{headerGood}
 use Rattle.unit.specs.Unit.{RU-START, numberIn, headerIn}
 use Rattle.header.specs.declared.Header.{Header}
-use Rattle.header.specs.declared.Header.the-variants.{Data, Bid, PositiveBidResponse, NegativeBidResponse, Confirmation, PacingResponse}
+use Rattle.header.specs.declared.Header.the-variants.{Data, Bid, ErrorDescription, PositiveBidResponse, NegativeBidResponse, Confirmation}
+use Rattle.header.specs.declared.Header.the-variants.{NegativeConfirmation, PacingResponse}
 use Rattle.answers.specs.FirstNo.{firstNo}
 use Rattle.answers.specs.Answers.{SHORT-UNIT, BAD-HEADER, accepted, refused, refusedNaming}
 use Rattle.answers.specs.declared.Answer.{Answer}
@@ -19,7 +20,7 @@ use Rattle.answers.proofs.Rows.{yes}
 use Rattle.answers.proofs.TwoRows.{pass, stop, never}
 use Rattle.end.specs.Record.{recordGood, inboxLent, unitLent}
 use Rattle.end.specs.Outcome.{Decision, refuse, lengthOut, doneOf}
-use Rattle.end.specs.ReceiveUnit.{endQuestions, kindQuestions, headerReceived, ruReceived, receiveUnitRefusal, dataJoined, bidAnswered, creditRaised, kindReceived, receiveUnitDecision, ruleNamed, doneNaming}
+use Rattle.end.specs.ReceiveUnit.{endQuestions, kindQuestions, headerReceived, ruReceived, receiveUnitRefusal, dataJoined, errorMarked, bidAnswered, creditRaised, kindReceived, receiveUnitDecision, ruleNamed, doneNaming}
 use Rattle.end.specs.Kinds.{endRefusal, kindRefusal, kindDecision}
 use Rattle.end.proofs.RoomToReceive.{end-good}
 use Rattle.end.specs.declared.Done.{Done}
@@ -93,18 +94,22 @@ kind-asks-no-21 : (e : End) (h : Header) (n : ℕ) (ru : List ℕ) → kindRefus
 unfolding kindRefusal
 kind-asks-no-21 e (Data d) n ru q = never 21 (kindQuestions e (Data d) n ru) refl q
 kind-asks-no-21 e (Bid p) n ru q = never 21 (kindQuestions e (Bid p) n ru) refl q
+kind-asks-no-21 e (ErrorDescription p) n ru q = never 21 (kindQuestions e (ErrorDescription p) n ru) refl q
 kind-asks-no-21 e PositiveBidResponse n ru q = never 21 (kindQuestions e PositiveBidResponse n ru) refl q
 kind-asks-no-21 e NegativeBidResponse n ru q = never 21 (kindQuestions e NegativeBidResponse n ru) refl q
 kind-asks-no-21 e Confirmation n ru q = never 21 (kindQuestions e Confirmation n ru) refl q
+kind-asks-no-21 e NegativeConfirmation n ru q = never 21 (kindQuestions e NegativeConfirmation n ru) refl q
 kind-asks-no-21 e PacingResponse n ru q = never 21 (kindQuestions e PacingResponse n ru) refl q
 
 pub kind-accepted : (e : End) (h : Header) (n : ℕ) (ru : List ℕ) → kindReceived e h n ru .refusal ≡ 0
-unfolding dataJoined bidAnswered creditRaised
+unfolding dataJoined errorMarked bidAnswered creditRaised
 kind-accepted e (Data d) n ru = refl
 kind-accepted e (Bid p) n ru = refl
+kind-accepted e (ErrorDescription p) n ru = refl
 kind-accepted e PositiveBidResponse n ru = refl
 kind-accepted e NegativeBidResponse n ru = refl
 kind-accepted e Confirmation n ru = refl
+kind-accepted e NegativeConfirmation n ru = refl
 kind-accepted e PacingResponse n ru = refl
 
 not-21 : (b : Bool) (q : ℕ) (e : End) (k : Decision) → k .refusal ≡ 0 → (q ≡ BAD-HEADER → ⊥) → (cond b k (refuse q e)) .refusal ≡ BAD-HEADER → ⊥

@@ -16,29 +16,30 @@ use Rattle.end.proofs.RecordGood.{facts}
 use Rattle.end.specs.declared.End.{End}
 use Rattle.bools.proofs.Tests.{both}
 
--- the longest unit that holds no data, a bid, has ten bytes: M is at least 8
-fixed-room : (e : End) (n : ℕ) → unitLent e n ≡ true → recordGood e ≡ true → 10 ≤ n
+-- the longest unit that holds no data, an error header, has twelve bytes: M is at least 8
+fixed-room : (e : End) (n : ℕ) → unitLent e n ≡ true → recordGood e ≡ true → 12 ≤ n
 fixed-room e n u g =
     let l = leb-true (e .sending .max + 5) n u in
     let s = facts e g .sending in
     omega arith
 
-pub allocate-room : (e : End) (n : ℕ) → allocateRefusal e n ≡ 0 → 10 ≤ n
+pub allocate-room : (e : End) (n : ℕ) → allocateRefusal e n ≡ 0 → 12 ≤ n
 unfolding allocateRefusal
 allocate-room e n h = let t = yes (allocateQuestions e n) tt h in fixed-room e n (t 0) (t 1)
 
-pub confirmed-room : (e : End) (n : ℕ) → confirmedRefusal e n ≡ 0 → 10 ≤ n
+pub confirmed-room : (e : End) (n : ℕ) → confirmedRefusal e n ≡ 0 → 12 ≤ n
 unfolding confirmedRefusal
 confirmed-room e n h = let t = yes (confirmedQuestions e n) tt h in fixed-room e n (t 0) (t 1)
 
-pub pacing-response-room : (e : End) (n : ℕ) → sendPacingResponseRefusal e n ≡ 0 → 10 ≤ n
+pub pacing-response-room : (e : End) (n : ℕ) → sendPacingResponseRefusal e n ≡ 0 → 12 ≤ n
 unfolding sendPacingResponseRefusal
 pacing-response-room e n h = let t = yes (sendPacingResponseQuestions e n) tt h in fixed-room e n (t 0) (t 1)
 
--- the bytes held stand in the send buffer, and a unit of them has room
+-- the bytes held stand in the send buffer, and a unit of them has room, as an error header has
 pub record HeldRoom (e : End) (send unit : ℕ) : Type 0 where
   pub in-send : e .sending .held ≤ send
   pub in-unit : 5 + e .sending .held ≤ unit
+  pub error-in-unit : 12 ≤ unit
 
 pub close-room :
     (e : End) (f : Follows) (confirm : Bool) (send unit : ℕ) → closeRefusal e f confirm send unit ≡ 0 → HeldRoom e send unit
@@ -49,4 +50,4 @@ close-room e f confirm send unit h =
     let l = leb-true (e .sending .max) send (b .0) in
     let u = leb-true (e .sending .max + 5) unit (b .1) in
     let s = facts e (t 1) .sending in
-    record { in-send = omega arith; in-unit = omega arith }
+    record { in-send = omega arith; in-unit = omega arith; error-in-unit = fixed-room e unit (b .1) (t 1) }

@@ -1,7 +1,7 @@
 -- The calls that are lent the unit buffer to write and no other: which unit each makes, if it makes one.
 -- Assumes nothing.
 use Prim.Native.Nat.{ℕ, _+_, _≤_}
-use mathlib.Core.Path.{_≡_, refl}
+use mathlib.Core.Path.{_≡_, refl, subst}
 use mathlib.Core.Bool.{Bool, true, false, cond}
 use mathlib.Core.List.{List, []}
 use native.Mathlib.Omega.{arith}
@@ -10,9 +10,9 @@ use lib.ListN.{length}
 use lib.Seq.{length-take-le}
 use borrow.Author.Tests.{eqb-true}
 use Rattle.unit.specs.Unit.{RU-START}
-use Rattle.unit.specs.Ru.{bidRu}
+use Rattle.unit.specs.Ru.{bidRu, errorRu, negativeConfirmationRu}
 use Rattle.header.specs.declared.Header.{Header}
-use Rattle.header.specs.declared.Header.the-variants.{Bid, Confirmation, PacingResponse}
+use Rattle.header.specs.declared.Header.the-variants.{Bid, ErrorDescription, Confirmation, NegativeConfirmation, PacingResponse}
 use Rattle.header.specs.declared.Follows.{Follows}
 use Rattle.header.specs.declared.ChainEnd.the-variants.{Last}
 use Rattle.pacing.specs.Pacing.{paced}
@@ -23,8 +23,9 @@ use Rattle.end.specs.Requests.{dataHeader}
 use Rattle.end.specs.SendData.{heldBytes}
 use Rattle.end.specs.Outcome.{nothing, aUnit, accept, refuse, doneOf, withControl}
 use Rattle.end.specs.Allocate.{allocateRefusal, bidMade, allocateDecision}
-use Rattle.end.specs.Close.{nothingGoes, closing, closeRefusal, lastMade, closeDecision}
+use Rattle.end.specs.Close.{nothingGoes, closing, closeRefusal, lastHeader, lastRu, lastMade, closeDecision}
 use Rattle.end.specs.Confirmed.{confirmedRefusal, confirmedDecision}
+use Rattle.end.specs.SendError.{sendErrorDecision}
 use Rattle.end.specs.SendPacingResponse.{sendPacingResponseRefusal, sendPacingResponseDecision}
 use Rattle.end.proofs.RoomToWrite.{allocate-room, confirmed-room, pacing-response-room, HeldRoom, close-room}
 use Rattle.end.proofs.DecisionCells.{Makes, none, one}
@@ -57,26 +58,46 @@ confirmed-makes e n =
     always (eqb (confirmedRefusal e n) 0) (confirmedRefusal e n) e _ (e .owed) Confirmation [] n refl
     (λ z. omega (arith, confirmed-room e n z))
 
+pub send-error-makes : (e : End) (n : ℕ) → Makes (sendErrorDecision e n) (e .owed) NegativeConfirmation negativeConfirmationRu n
+unfolding sendErrorDecision
+send-error-makes e n =
+    always (eqb (confirmedRefusal e n) 0) (confirmedRefusal e n) e _ (e .owed) NegativeConfirmation negativeConfirmationRu n refl
+    (λ z. omega (arith, confirmed-room e n z))
+
 pub pacing-response-makes : (e : End) (n : ℕ) → Makes (sendPacingResponseDecision e n) 0 PacingResponse [] n
 unfolding sendPacingResponseDecision
 pacing-response-makes e n =
     always (eqb (sendPacingResponseRefusal e n) 0) (sendPacingResponseRefusal e n) e _ 0 PacingResponse [] n refl
     (λ z. omega (arith, pacing-response-room e n z))
 
-held-room : (e : End) (f : Follows) (confirm : Bool) (send : List ℕ) (unit : ℕ) → closeRefusal e f confirm (length send) unit ≡ 0
-    → RU-START + length (heldBytes e send) ≤ unit
-held-room e f confirm send unit z =
-    let r = close-room e f confirm (length send) unit z in
-    omega (arith, length-take-le (e .sending .held) send (r .in-send), r .in-unit)
+either-room : (error : Bool) (e : End) (send : List ℕ) (unit : ℕ) → HeldRoom e (length send) unit
+    → RU-START + length (cond error errorRu (heldBytes e send)) ≤ unit
+either-room true e send unit r = omega (arith, r .error-in-unit)
+either-room false e send unit r = omega (arith, length-take-le (e .sending .held) send (r .in-send), r .in-unit)
+
+last-room : (e : End) (f : Follows) (confirm : Bool) (send : List ℕ) (unit : ℕ) → closeRefusal e f confirm (length send) unit ≡ 0
+    → RU-START + length (lastRu e send) ≤ unit
+last-room e f confirm send unit z = either-room (e .control .error) e send unit (close-room e f confirm (length send) unit z)
 
 pub close-makes : (e : End) (f : Follows) (confirm : Bool) (send : List ℕ) (unit : ℕ)
-    → (let d = closeDecision e f confirm send unit in Makes d (d .end .sending .number) (dataHeader e (Last (closing e f) confirm)) (heldBytes e send) unit)
+    → (let d = closeDecision e f confirm send unit in Makes d (d .end .sending .number) (lastHeader e (closing e f) confirm) (lastRu e send) unit)
 unfolding closeDecision lastMade requestMade
 close-makes e f confirm send unit =
     let q = closeRefusal e f confirm (length send) unit in
     let x = closing e f in
     either (eqb q 0) (nothingGoes e x confirm) q e e (lastMade e x confirm send .end) (λ (y : End). y .sending .number)
-    (dataHeader e (Last x confirm)) (heldBytes e send) unit refl (held-room e f confirm send unit)
+    (lastHeader e x confirm) (lastRu e send) unit refl (last-room e f confirm send unit)
+
+-- by whether an error is due
+module _ (e : End) (f : Follows) (confirm : Bool) (send : List ℕ) (unit : ℕ) where
+  abbrev closes : Bool → Type 0
+  closes error =
+      let d = closeDecision e f confirm send unit in
+      Makes d (d .end .sending .number) (cond error (ErrorDescription (paced (e .sending .window))) (dataHeader e (Last (closing e f) confirm)))
+      (cond error errorRu (heldBytes e send)) unit
+
+  pub close-makes-if : (error : Bool) → e .control .error ≡ error → closes error
+  close-makes-if error y = subst closes y (close-makes e f confirm send unit)
 
 close-made : (t b : Bool) (e : End) (f : Follows) (confirm : Bool) (send : List ℕ) (unit : ℕ) → eqb (closeRefusal e f confirm (length send) unit) 0 ≡ t
     → (doneOf (cond t (cond b (accept e nothing) (lastMade e (closing e f) confirm send)) (refuse (closeRefusal e f confirm (length send) unit) e)) .answer .unit ≡ 0 → ⊥)

@@ -6,6 +6,7 @@ pub mod SendData
 pub mod Close
 pub mod Defer
 pub mod Confirmed
+pub mod SendError
 pub mod ReceiveUnit
 pub mod Receive
 pub mod SendPacingResponse

@@ -13,16 +13,18 @@ use Rattle.unit.specs.Ru.{fixedRu}
 use Rattle.unit.specs.Unit.{RU-START, numberIn, headerIn}
 use Rattle.header.specs.declared.DataHeader.{DataHeader}
 use Rattle.header.specs.declared.Header.{Header}
-use Rattle.header.specs.declared.Header.the-variants.{Data, Bid, PositiveBidResponse, NegativeBidResponse, Confirmation, PacingResponse}
+use Rattle.header.specs.declared.Header.the-variants.{Data, Bid, ErrorDescription, PositiveBidResponse, NegativeBidResponse, Confirmation}
+use Rattle.header.specs.declared.Header.the-variants.{NegativeConfirmation, PacingResponse}
 use Rattle.control.specs.StateTests.{isNothing}
 use Rattle.control.specs.Questions.{positiveResponseFits, negativeResponseFits, confirmationFits}
-use Rattle.transitions.specs.Transitions.{dataReceived, bidReceived, bidAnswer, positiveResponseReceived, negativeResponseReceived, confirmationReceived}
+use Rattle.transitions.specs.Transitions.{dataReceived, errorReceived, bidReceived, bidAnswer, positiveResponseReceived, negativeResponseReceived}
+use Rattle.transitions.specs.Transitions.{confirmationReceived, negativeConfirmationReceived}
 use Rattle.answers.specs.FirstNo.{firstNo}
 use Rattle.answers.specs.Answers.{BAD-BUFFER, BAD-RECORD, UNREAD-MARK, SHORT-UNIT, BAD-HEADER, accepted, refusedNaming}
 use Rattle.answers.specs.declared.Answer.{Answer}
 use Rattle.sending.specs.Sending.{creditAnswered}
 use Rattle.receiving.specs.Receiving.{requestReceived}
-use Rattle.receiving.specs.UnitQuestions.{dataQuestions, bidQuestions, responseQuestions, pacingQuestions}
+use Rattle.receiving.specs.UnitQuestions.{dataQuestions, bidQuestions, errorQuestions, responseQuestions, pacingQuestions}
 use Rattle.end.specs.Record.{recordGood, inboxLent, unitLent}
 use Rattle.end.specs.Outcome.{nothing, aUnit, lengthOut, cellsOut, Decision, accept, decided, Taken, withControl, withSending, withReceiving, withOwed}
 use Rattle.end.specs.declared.End.{End}
@@ -34,12 +36,15 @@ use Rattle.end.specs.declared.Done.{Done}
 abbrev pub kindQuestions : End → Header → ℕ → List ℕ → List (Bool × ℕ)
 kindQuestions e (Data d) n ru = dataQuestions (e .control) (e .receiving) d n ru
 kindQuestions e (Bid p) n ru = bidQuestions (e .control) (e .receiving) p n ru
+kindQuestions e (ErrorDescription p) n ru = errorQuestions (e .control) (e .receiving) p n ru
 kindQuestions e PositiveBidResponse n ru =
     responseQuestions (e .receiving .max) PositiveBidResponse (positiveResponseFits (e .control) && eqb n (e .bidding)) ru
 kindQuestions e NegativeBidResponse n ru =
     responseQuestions (e .receiving .max) NegativeBidResponse (negativeResponseFits (e .control) && eqb n (e .bidding)) ru
 kindQuestions e Confirmation n ru =
     responseQuestions (e .receiving .max) Confirmation (confirmationFits (e .control) && eqb n (e .sending .number)) ru
+kindQuestions e NegativeConfirmation n ru =
+    responseQuestions (e .receiving .max) NegativeConfirmation (confirmationFits (e .control) && eqb n (e .sending .number)) ru
 kindQuestions e PacingResponse n ru = pacingQuestions (e .receiving .max) (e .sending .window .pending) n ru
 
 -- what is asked of the end alone, before a byte of the unit is read
@@ -75,6 +80,13 @@ dataJoined e d n ru =
     (withControl (dataReceived (d .ends) (e .control)) e)))
     nothing
 
+-- an error header leaves its mark, and none of its bytes joins the inbox
+unfoldable pub errorMarked : End → Decision
+errorMarked e =
+    accept
+    (withReceiving (requestReceived (e .receiving .held) (e .receiving .taken) (e .receiving)) (withControl (errorReceived (e .control)) e))
+    nothing
+
 -- a bid is answered under its own number
 unfoldable pub bidAnswered : End → ℕ → Decision
 bidAnswered e n =
@@ -92,9 +104,11 @@ creditRaised e =
 abbrev pub kindReceived : End → Header → ℕ → List ℕ → Decision
 kindReceived e (Data d) n ru = dataJoined e d n ru
 kindReceived e (Bid p) n ru = bidAnswered e n
+kindReceived e (ErrorDescription p) n ru = errorMarked e
 kindReceived e PositiveBidResponse n ru = accept (withControl (positiveResponseReceived (e .control)) e) nothing
 kindReceived e NegativeBidResponse n ru = accept (withControl (negativeResponseReceived (e .control)) e) nothing
 kindReceived e Confirmation n ru = accept (withControl (confirmationReceived (e .control)) e) nothing
+kindReceived e NegativeConfirmation n ru = accept (withControl (negativeConfirmationReceived (e .control)) e) nothing
 kindReceived e PacingResponse n ru = creditRaised e
 
 unfoldable pub receiveUnitDecision : End → List ℕ → ℕ → ℕ → Decision
@@ -105,9 +119,11 @@ receiveUnitDecision e taken inbox unit =
 abbrev pub kindJoined : End → Header → List ℕ → List ℕ → List ℕ
 kindJoined e (Data d) ru inbox = written (e .receiving .held) ru inbox
 kindJoined e (Bid p) ru inbox = inbox
+kindJoined e (ErrorDescription p) ru inbox = inbox
 kindJoined e PositiveBidResponse ru inbox = inbox
 kindJoined e NegativeBidResponse ru inbox = inbox
 kindJoined e Confirmation ru inbox = inbox
+kindJoined e NegativeConfirmation ru inbox = inbox
 kindJoined e PacingResponse ru inbox = inbox
 
 unfoldable pub inboxCells : End → List ℕ → ℕ → List ℕ → List ℕ

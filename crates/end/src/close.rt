@@ -1,8 +1,10 @@
 // The calls that send the last unit of a chain: flush, confirm, prepare to receive (document 01: turn) and deallocate (end).
 // They differ only in what that unit says to follow, and whether it asks for a confirmation. In Defer flush and confirm carry out
-// the turn or end that is prepared.
+// the turn or end that is prepared. While an error is due flush makes the error header, and the others are not allowed.
 use crate::Done;
 use crate::End;
+use crate::requests::fixed_made;
+use crate::requests::write_made;
 use crate::results::accepted;
 use crate::results::refused;
 use answers::first_no::then_ask;
@@ -13,12 +15,14 @@ use answers::numbers::UNFINISHED_RECORD;
 use answers::numbers::WRONG_STATE;
 use header::ChainEnd;
 use header::Follows;
+use header::Header;
 use sending::bytes_given::send_held;
 use sending::outgoing::given_whole;
 use sending::outgoing::nothing_goes;
 use sending::outgoing::request_sent;
 use transitions::carried_out;
 use transitions::closed;
+use transitions::error_made;
 use unit::RU_START;
 use unit::ru::marks;
 ghost use mathlib.Core.Path.{_≡_};
@@ -40,7 +44,7 @@ impl End {
         };
         let q = then_ask(0, self.send_lent(send) & self.unit_lent(unit), BAD_BUFFER);
         let q = then_ask(q, self.record_good(), BAD_RECORD);
-        let q = then_ask(q, self.control.may_close(follows), WRONG_STATE);
+        let q = then_ask(q, self.control.may_close(follows, confirm), WRONG_STATE);
         let q = then_ask(
             q,
             !marks(ends) | given_whole(self.sending),
@@ -48,15 +52,22 @@ impl End {
         );
         then_ask(
             q,
-            nothing_goes(self.sending.held, ends) | self.sending.window.has_credit(),
+            nothing_goes(self.sending.held, self.control.error, ends)
+                | self.sending.window.has_credit(),
             NO_CREDIT,
         )
     }
 
-    // The last unit, with the bytes held.
+    // The last unit: the error header if it is due, and else the bytes held.
     fn last_decision(self, follows: Follows, confirm: bool) -> Done
         ensures { λ r. ⌜ ((cells : List ℕ) → self .sending .held ≤ length cells → r ≡ doneOf (lastMade self follows confirm cells)) ⌝ }
     {
+        if self.control.error {
+            let control = error_made(self.control);
+            let next = request_sent(self.sending, 0);
+            let end = self.with_control(control).with_sending(next);
+            return fixed_made(end, Header::ErrorDescription(self.sending.window.paced()));
+        }
         let control = closed(self.control, follows, confirm);
         let next = request_sent(self.sending, 0);
         let n = RU_START + self.sending.held as usize;
@@ -73,7 +84,8 @@ impl End {
             return refused(q, self);
         }
         let follows = carried_out(self.control, follows);
-        if nothing_goes(self.sending.held, ChainEnd::Last { follows, confirm }) {
+        let ends = ChainEnd::Last { follows, confirm };
+        if nothing_goes(self.sending.held, self.control.error, ends) {
             return accepted(0, self);
         }
         self.last_decision(follows, confirm)
@@ -85,6 +97,11 @@ impl End {
     {
         let done = self.close_decision(follows, confirm, send.len(), unit.len());
         if done.answer.unit == 0 {
+            return done;
+        }
+        if self.control.error {
+            let header = Header::ErrorDescription(self.sending.window.paced());
+            write_made(done.answer.unit, done.end.sending.number, header, unit);
             return done;
         }
         let follows = carried_out(self.control, follows);
@@ -99,7 +116,8 @@ impl End {
         done
     }
 
-    // Sends the bytes held, if there are any; in Defer carries out what is prepared, without confirmation.
+    // Sends the error header if it is due, and else the bytes held, if there are any; in Defer carries out what is prepared, without
+    // confirmation.
     pub fn flush(self, send: &[u8], unit: &mut [u8]) -> Done
         ensures { λ r. ⌜ madeBy r (now (unit .exit)) ≡ flush self (now (send .entry)) (now (unit .entry)) ⌝ }
     {

@@ -16,7 +16,8 @@ ghost use Rattle.end.specs.Outcome.{doneOf};
 ghost use Rattle.end.specs.Results.{madeBy};
 
 impl End {
-    fn confirmed_refusal(self, unit: usize) -> u8
+    // Send error asks the same.
+    pub(crate) fn confirmed_refusal(self, unit: usize) -> u8
         ensures { λ r. ⌜ r ≡ confirmedRefusal self unit ⌝ }
     {
         let q = then_ask(0, self.unit_lent(unit), BAD_BUFFER);

@@ -10,6 +10,7 @@ mod record_parts;
 mod requests;
 pub mod results;
 mod send_data;
+mod send_error;
 mod send_pacing_response;
 mod unit_effects;
 mod unit_refusals;

@@ -16,6 +16,8 @@ use transitions::bid_answer;
 use transitions::bid_received;
 use transitions::confirmation_received;
 use transitions::data_received;
+use transitions::error_received;
+use transitions::negative_confirmation_received;
 use transitions::negative_response_received;
 use transitions::positive_response_received;
 ghost use mathlib.Core.Path.{_≡_};
@@ -26,7 +28,7 @@ ghost use Rattle.logical_record.specs.Walk.{walk};
 ghost use Rattle.receiving.specs.UnitQuestions.{walkedFor};
 ghost use Rattle.end.specs.Record.{recordGood};
 ghost use Rattle.end.specs.Outcome.{accept, nothing, doneOf, withControl};
-ghost use Rattle.end.specs.ReceiveUnit.{dataJoined, bidAnswered, creditRaised, kindReceived};
+ghost use Rattle.end.specs.ReceiveUnit.{dataJoined, errorMarked, bidAnswered, creditRaised, kindReceived};
 ghost use Rattle.end.specs.Kinds.{kindRefusal};
 
 impl End {
@@ -43,6 +45,15 @@ impl End {
         accepted(0, end)
     }
 
+    // An error header is counted as a request and leaves its mark. None of its bytes is for the program.
+    fn mark_error(self) -> Done
+        ensures { λ r. ⌜ r ≡ doneOf (errorMarked self) ⌝ }
+    {
+        let next = error_received(self.control);
+        let counted = request_counted(self.receiving);
+        accepted(0, self.with_control(next).with_receiving(counted))
+    }
+
     // A bid is granted in Reset and refused in any other state.
     fn answer_bid(self, number: u16) -> Done
         ensures { λ r. ⌜ r ≡ doneOf (bidAnswered self number) ⌝ }
@@ -53,7 +64,7 @@ impl End {
         fixed_made(self.with_control(next).with_receiving(counted), answer)
     }
 
-    // Of a grant, a bid refusal and a confirmation: only the finite part changes.
+    // Of a grant, a bid refusal, a confirmation and its refusal: only the finite part changes.
     fn settle(self, control: Control) -> Done
         ensures { λ r. ⌜ r ≡ doneOf (accept (withControl control self) nothing) ⌝ }
     {
@@ -76,9 +87,13 @@ impl End {
         match header {
             Header::Data(d) => self.join_data(d, number, walked, ru),
             Header::Bid(_) => self.answer_bid(number),
+            Header::ErrorDescription(_) => self.mark_error(),
             Header::PositiveBidResponse => self.settle(positive_response_received(self.control)),
             Header::NegativeBidResponse => self.settle(negative_response_received(self.control)),
             Header::Confirmation => self.settle(confirmation_received(self.control)),
+            Header::NegativeConfirmation => {
+                self.settle(negative_confirmation_received(self.control))
+            }
             Header::PacingResponse => self.raise_credit(),
         }
     }

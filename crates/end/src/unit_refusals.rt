@@ -8,6 +8,7 @@ use header::Header;
 use logical_record::Walked;
 use receiving::units_received::bid_refusal;
 use receiving::units_received::data_refusal;
+use receiving::units_received::error_refusal;
 use receiving::units_received::pacing_response_refusal;
 use receiving::units_received::response_refusal;
 ghost use mathlib.Core.Path.{_≡_};
@@ -24,7 +25,7 @@ impl End {
         then_ask(q, self.control.has_no_mark(), UNREAD_MARK)
     }
 
-    // By the kind of unit. A response to a bid carries the bid's number, a confirmation the last one sent.
+    // By the kind of unit. A response to a bid carries the bid's number; a confirmation, or its refusal, the last one sent.
     pub(crate) fn kind_refusal(self, header: Header, number: u16, walked: Walked, ru: &[u8]) -> u8
         requires { ⌜ walked ≡ walkedFor header (self .receiving .taken) (now ru) ⌝ }
         ensures { λ r. ⌜ r ≡ kindRefusal self header number (now (ru .entry)) ⌝ }
@@ -33,6 +34,9 @@ impl End {
         match header {
             Header::Data(d) => data_refusal(self.control, self.receiving, d, number, walked, ru),
             Header::Bid(bit) => bid_refusal(self.control, self.receiving, bit, number, ru),
+            Header::ErrorDescription(bit) => {
+                error_refusal(self.control, self.receiving, bit, number, ru)
+            }
             Header::PositiveBidResponse => {
                 let fits = self.control.positive_response_fits() & (number == self.bidding);
                 response_refusal(max, Header::PositiveBidResponse, fits, ru)
@@ -44,6 +48,10 @@ impl End {
             Header::Confirmation => {
                 let fits = self.control.confirmation_fits() & (number == self.sending.number);
                 response_refusal(max, Header::Confirmation, fits, ru)
+            }
+            Header::NegativeConfirmation => {
+                let fits = self.control.confirmation_fits() & (number == self.sending.number);
+                response_refusal(max, Header::NegativeConfirmation, fits, ru)
             }
             Header::PacingResponse => pacing_response_refusal(
                 max,

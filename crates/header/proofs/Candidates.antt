@@ -1,4 +1,4 @@
--- A good header is one of 198 candidates: byte 0 of H1's list with byte 1 of H3's and byte 2 of H5's, or one of H2's list.
+-- A good header is one of 249 candidates: byte 0 of H1's list with byte 1 of H3's and byte 2 of H5's, or one of H2's list.
 -- So a test that antt computes at each of them gives a law of every good header.
 -- Assumes nothing.
 use mathlib.Core.Path.{_≡_, refl}
@@ -15,7 +15,7 @@ use Rattle.header.proofs.FiniteHeader.{each, at-one, at-header}
 
 -- the lists of H1, H3 and H5
 abbrev heads : List ℕ
-heads = 0x00 ∷ 0x01 ∷ 0x02 ∷ 0x03 ∷ 0x4B ∷ 0x83 ∷ 0xCB ∷ 0xCF ∷ []
+heads = 0x00 ∷ 0x01 ∷ 0x02 ∷ 0x03 ∷ 0x0B ∷ 0x4B ∷ 0x83 ∷ 0x87 ∷ 0xCB ∷ 0xCF ∷ []
 
 abbrev answers : List ℕ
 answers = 0x90 ∷ 0x91 ∷ 0x20 ∷ 0x21 ∷ []
@@ -27,9 +27,9 @@ abbrev pub allCandidates : (HeaderBytes → Bool) → Bool
 allCandidates f = each (λ x. each (λ y. each (λ z. f (bytes x y z)) brackets) answers) heads && each f fixedHeaders
 
 -- byte 0 of H1's list is data or fixed
-data-or-fixed : (x : ℕ) → oneOf x heads ≡ true → leb x 0x03 || oneOf x (0x4B ∷ 0x83 ∷ 0xCB ∷ 0xCF ∷ []) ≡ true
+data-or-fixed : (x : ℕ) → oneOf x heads ≡ true → leb x 0x03 || oneOf x (0x0B ∷ 0x4B ∷ 0x83 ∷ 0x87 ∷ 0xCB ∷ 0xCF ∷ []) ≡ true
 data-or-fixed x e =
-    at-one (λ x. leb x 0x03 || oneOf x (0x4B ∷ 0x83 ∷ 0xCB ∷ 0xCF ∷ [])) x heads refl e
+    at-one (λ x. leb x 0x03 || oneOf x (0x0B ∷ 0x4B ∷ 0x83 ∷ 0x87 ∷ 0xCB ∷ 0xCF ∷ [])) x heads refl e
 
 pub good-at : (f : HeaderBytes → Bool) → allCandidates f ≡ true → (h : HeaderBytes) → headerGood h ≡ true → f h ≡ true
 unfolding headerGood

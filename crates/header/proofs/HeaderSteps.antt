@@ -10,9 +10,10 @@ use Rattle.bools.proofs.Cases.{split}
 use Rattle.header.specs.Weights.{PACING, on}
 use Rattle.header.specs.Rules.{bytes, dataH3, dataH4, dataH5, dataH6, keeps, lowestBroken, headerGood}
 use Rattle.header.specs.Header.{dataFields, fieldsOf, readHeader}
-use Rattle.header.specs.HeaderSteps.{goodOr, dataRead, bidRead, responseRead, positiveRead, negativeRead}
+use Rattle.header.specs.HeaderSteps.{goodOr, dataRead, errorRead, bidRead, responseRead, negativeConfirmationRead, positiveRead, negativeRead}
 use Rattle.header.specs.declared.Header.{Header}
-use Rattle.header.specs.declared.Header.the-variants.{Data, Bid, PositiveBidResponse, NegativeBidResponse, Confirmation, PacingResponse}
+use Rattle.header.specs.declared.Header.the-variants.{Data, Bid, ErrorDescription}
+use Rattle.header.specs.declared.Header.the-variants.{PositiveBidResponse, NegativeBidResponse, Confirmation, NegativeConfirmation, PacingResponse}
 use Rattle.header.specs.declared.HeaderRead.the-variants.{Good, Breaks}
 use Rattle.header.specs.declared.Rule.the-variants.{H1, H2, H3, H4, H5, H6}
 
@@ -53,6 +54,10 @@ one-rule false f = refl
 by-rule : (k l : Bool) (f : Header) → k ≡ l → goodOr k f H2 ≡ cond (l && true) (Good f) (Breaks (cond (not l) H2 H6))
 by-rule k l f e = ap (λ (b : Bool). goodOr b f H2) e ∙ one-rule l f
 
+pub error-lowest : (x y z : ℕ) → x ≡ 0x0B → errorRead y z ≡ readHeader (bytes x y z)
+unfolding readHeader fieldsOf headerGood lowestBroken keeps
+error-lowest x y z e = rw e (by-rule _ _ (ErrorDescription (on PACING y)) (two-rows (eqb y 0x90) (eqb y 0x91) (eqb z 0x00)))
+
 pub bid-lowest : (x y z : ℕ) → x ≡ 0x4B → bidRead y z ≡ readHeader (bytes x y z)
 unfolding readHeader fieldsOf headerGood lowestBroken keeps
 bid-lowest x y z e = rw e (by-rule _ _ (Bid (on PACING y)) (two-rows (eqb y 0x80) (eqb y 0x81) (eqb z 0x80)))
@@ -62,6 +67,10 @@ unfolding readHeader fieldsOf headerGood lowestBroken keeps
 response-lowest x y z e =
     split (eqb y 0x20) (λ a. rw (e, eqb-true y 0x20 a) (by-rule _ _ Confirmation (sym (or-false (eqb z 0x00)))))
     (λ a. split (eqb y 0x01) (λ b. rw (e, eqb-true y 0x01 b) (by-rule _ _ PacingResponse (sym (or-false (eqb z 0x00))))) (λ b. rw (e, a, b)))
+
+pub negative-confirmation-lowest : (x y z : ℕ) → x ≡ 0x87 → negativeConfirmationRead y z ≡ readHeader (bytes x y z)
+unfolding readHeader fieldsOf headerGood lowestBroken keeps
+negative-confirmation-lowest x y z e = rw e (by-rule _ _ NegativeConfirmation (sym (or-false (eqb y 0x30 && eqb z 0x00))))
 
 pub positive-lowest : (x y z : ℕ) → x ≡ 0xCB → positiveRead y z ≡ readHeader (bytes x y z)
 unfolding readHeader fieldsOf headerGood lowestBroken keeps
@@ -73,16 +82,19 @@ negative-lowest x y z e = rw e (by-rule _ _ NegativeBidResponse (sym (or-false (
 
 -- ---- any other byte 0: H1
 
-pub no-kind : (x y z : ℕ) → 3 < x → (x ≡ 0x4B → ⊥) → (x ≡ 0x83 → ⊥) → (x ≡ 0xCB → ⊥) → (x ≡ 0xCF → ⊥) → Breaks H1 ≡ readHeader (bytes x y z)
+pub no-kind : (x y z : ℕ) → 3 < x → (x ≡ 0x0B → ⊥) → (x ≡ 0x4B → ⊥) → (x ≡ 0x83 → ⊥) → (x ≡ 0x87 → ⊥) → (x ≡ 0xCB → ⊥) → (x ≡ 0xCF → ⊥)
+    → Breaks H1 ≡ readHeader (bytes x y z)
 unfolding readHeader headerGood lowestBroken keeps
-no-kind x y z h n1 n2 n3 n4 =
+no-kind x y z h n1 n2 n3 n4 n5 n6 =
     rw (
       ne-eqb x 0x00 (λ e. omega arith),
       ne-eqb x 0x01 (λ e. omega arith),
       ne-eqb x 0x02 (λ e. omega arith),
       ne-eqb x 0x03 (λ e. omega arith),
-      ne-eqb x 0x4B n1,
-      ne-eqb x 0x83 n2,
-      ne-eqb x 0xCB n3,
-      ne-eqb x 0xCF n4,
+      ne-eqb x 0x0B n1,
+      ne-eqb x 0x4B n2,
+      ne-eqb x 0x83 n3,
+      ne-eqb x 0x87 n4,
+      ne-eqb x 0xCB n5,
+      ne-eqb x 0xCF n6,
     )

@@ -4,4 +4,4 @@ mod HeaderSteps
 pub mod RoundTrip
 pub mod OnlyH1
 mod LowestNamed
-pub mod FortyEight
+pub mod FiftyOne

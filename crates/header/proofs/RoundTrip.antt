@@ -17,7 +17,8 @@ use Rattle.header.specs.declared.ChainEnd.{ChainEnd}
 use Rattle.header.specs.declared.ChainEnd.the-variants.{Continues, Last}
 use Rattle.header.specs.declared.DataHeader.{DataHeader}
 use Rattle.header.specs.declared.Header.{Header}
-use Rattle.header.specs.declared.Header.the-variants.{Data, Bid, PositiveBidResponse, NegativeBidResponse, Confirmation, PacingResponse}
+use Rattle.header.specs.declared.Header.the-variants.{Data, Bid, ErrorDescription}
+use Rattle.header.specs.declared.Header.the-variants.{PositiveBidResponse, NegativeBidResponse, Confirmation, NegativeConfirmation, PacingResponse}
 use Rattle.header.specs.declared.HeaderBytes.{HeaderBytes}
 use Rattle.header.specs.declared.HeaderRead.the-variants.{Good, Breaks}
 use Rattle.header.specs.declared.Rule.{Rule}
@@ -36,9 +37,12 @@ unfolding headerBytes headerGood
 built-good (Data d) = dataHeaders .at (λ d. headerGood (dataBytes d)) data-good d
 built-good (Bid true) = refl
 built-good (Bid false) = refl
+built-good (ErrorDescription true) = refl
+built-good (ErrorDescription false) = refl
 built-good PositiveBidResponse = refl
 built-good NegativeBidResponse = refl
 built-good Confirmation = refl
+built-good NegativeConfirmation = refl
 built-good PacingResponse = refl
 
 -- ---- a bit that is built is read
@@ -104,9 +108,12 @@ unfolding headerBytes fieldsOf
 built-fields (Data d) = rw (data-byte-0 (isFirst (d .begins)) (isLast (d .ends))) (ap (λ (k : DataHeader). Data k) (data-fields d))
 built-fields (Bid true) = refl
 built-fields (Bid false) = refl
+built-fields (ErrorDescription true) = refl
+built-fields (ErrorDescription false) = refl
 built-fields PositiveBidResponse = refl
 built-fields NegativeBidResponse = refl
 built-fields Confirmation = refl
+built-fields NegativeConfirmation = refl
 built-fields PacingResponse = refl
 
 pub built-is-read : BuiltIsRead

@@ -14,7 +14,8 @@ use Rattle.header.specs.declared.ChainEnd.{ChainEnd}
 use Rattle.header.specs.declared.ChainEnd.the-variants.{Continues, Last}
 use Rattle.header.specs.declared.DataHeader.{DataHeader}
 use Rattle.header.specs.declared.Header.{Header}
-use Rattle.header.specs.declared.Header.the-variants.{Data, Bid, PositiveBidResponse, NegativeBidResponse, Confirmation, PacingResponse}
+use Rattle.header.specs.declared.Header.the-variants.{Data, Bid, ErrorDescription}
+use Rattle.header.specs.declared.Header.the-variants.{PositiveBidResponse, NegativeBidResponse, Confirmation, NegativeConfirmation, PacingResponse}
 use Rattle.header.specs.declared.HeaderRead.{HeaderRead}
 use Rattle.header.specs.declared.HeaderRead.the-variants as headerRead
 
@@ -64,9 +65,11 @@ dataBytes d =
 unfoldable pub headerBytes : Header → HeaderBytes
 headerBytes (Data d) = dataBytes d
 headerBytes (Bid p) = bytes (FLOW-CONTROL + FORMAT + FIRST + LAST) (DR1 + bit p PACING) BB
+headerBytes (ErrorDescription p) = bytes (FORMAT + FIRST + LAST) (DR1 + EXCEPTION + bit p PACING) 0
 headerBytes PositiveBidResponse = bytes (RESPONSE + FLOW-CONTROL + FORMAT + FIRST + LAST) DR1 0
 headerBytes NegativeBidResponse = bytes (RESPONSE + FLOW-CONTROL + FORMAT + SENSE + FIRST + LAST) (DR1 + EXCEPTION) 0
 headerBytes Confirmation = bytes (RESPONSE + FIRST + LAST) DR2 0
+headerBytes NegativeConfirmation = bytes (RESPONSE + SENSE + FIRST + LAST) (DR2 + EXCEPTION) 0
 headerBytes PacingResponse = bytes (RESPONSE + FIRST + LAST) PACING 0
 
 -- ---- the fields of a header that is good
@@ -91,9 +94,11 @@ dataFields h =
 unfoldable pub fieldsOf : HeaderBytes → Header
 fieldsOf h =
     cond (isData h) (Data (dataFields h))
+    (cond (eqb (h .b0) 0x0B) (ErrorDescription (on PACING (h .b1)))
     (cond (eqb (h .b0) 0x4B) (Bid (on PACING (h .b1)))
     (cond (eqb (h .b0) 0x83) (cond (on PACING (h .b1)) PacingResponse Confirmation)
-    (cond (eqb (h .b0) 0xCB) PositiveBidResponse NegativeBidResponse)))
+    (cond (eqb (h .b0) 0x87) NegativeConfirmation
+    (cond (eqb (h .b0) 0xCB) PositiveBidResponse NegativeBidResponse)))))
 
 -- ---- reading
 

@@ -37,6 +37,6 @@ sumBelow f (suc n) = f n + sumBelow f n
 unfoldable pub goodHeaders : ℕ
 goodHeaders = sumBelow (λ x. sumBelow (λ y. sumBelow (λ z. cond (headerGood (bytes x y z)) 1 0) 256) 256) 256
 
--- exactly 48 of them
-abbrev pub FortyEight : Type 0
-FortyEight = goodHeaders ≡ 48
+-- exactly 51 of them
+abbrev pub FiftyOne : Type 0
+FiftyOne = goodHeaders ≡ 51

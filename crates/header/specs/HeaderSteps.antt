@@ -10,7 +10,8 @@ use Rattle.header.specs.declared.HeaderBytes.{HeaderBytes}
 use Rattle.header.specs.declared.Rule.{Rule}
 use Rattle.header.specs.declared.Rule.the-variants.{H2, H3, H4, H5, H6}
 use Rattle.header.specs.declared.Header.{Header}
-use Rattle.header.specs.declared.Header.the-variants.{Data, Bid, PositiveBidResponse, NegativeBidResponse, Confirmation, PacingResponse}
+use Rattle.header.specs.declared.Header.the-variants.{Data, Bid, ErrorDescription}
+use Rattle.header.specs.declared.Header.the-variants.{PositiveBidResponse, NegativeBidResponse, Confirmation, NegativeConfirmation, PacingResponse}
 use Rattle.header.specs.declared.HeaderRead.{HeaderRead}
 use Rattle.header.specs.declared.HeaderRead.the-variants.{Good, Breaks}
 
@@ -25,11 +26,17 @@ dataRead h =
     (Breaks H4))
     (Breaks H3)
 
+abbrev pub errorRead : ℕ → ℕ → HeaderRead
+errorRead b1 b2 = goodOr ((eqb b1 0x90 || eqb b1 0x91) && eqb b2 0x00) (ErrorDescription (on PACING b1)) H2
+
 abbrev pub bidRead : ℕ → ℕ → HeaderRead
 bidRead b1 b2 = goodOr ((eqb b1 0x80 || eqb b1 0x81) && eqb b2 0x80) (Bid (on PACING b1)) H2
 
 abbrev pub responseRead : ℕ → ℕ → HeaderRead
 responseRead b1 b2 = cond (eqb b1 0x20 && eqb b2 0x00) (Good Confirmation) (goodOr (eqb b1 0x01 && eqb b2 0x00) PacingResponse H2)
+
+abbrev pub negativeConfirmationRead : ℕ → ℕ → HeaderRead
+negativeConfirmationRead b1 b2 = goodOr (eqb b1 0x30 && eqb b2 0x00) NegativeConfirmation H2
 
 abbrev pub positiveRead : ℕ → ℕ → HeaderRead
 positiveRead b1 b2 = goodOr (eqb b1 0x80 && eqb b2 0x00) PositiveBidResponse H2

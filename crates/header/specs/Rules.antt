@@ -1,4 +1,4 @@
--- H1 to H6, as document 01 prints them: each of the three bytes of a header.
+-- H1 to H6, as document 01 prints them and document 02's S-9 extends H1 and H2: each of the three bytes of a header.
 -- Assumes nothing.
 use Prim.Native.Nat.{ℕ}
 use mathlib.Core.Bool.{Bool, false, not, cond, _&&_, _||_}
@@ -26,22 +26,26 @@ abbrev pub oneOfHeaders : HeaderBytes → List HeaderBytes → Bool
 oneOfHeaders h [] = false
 oneOfHeaders h (k ∷ ks) = sameHeader h k || oneOfHeaders h ks
 
--- H1: byte 0 is 00, 01, 02, 03, 4B, 83, CB or CF
+-- H1: byte 0 is 00, 01, 02, 03, 0B, 4B, 83, 87, CB or CF
 abbrev pub keepsH1 : HeaderBytes → Bool
-keepsH1 h = oneOf (h .b0) (0x00 ∷ 0x01 ∷ 0x02 ∷ 0x03 ∷ 0x4B ∷ 0x83 ∷ 0xCB ∷ 0xCF ∷ [])
+keepsH1 h = oneOf (h .b0) (0x00 ∷ 0x01 ∷ 0x02 ∷ 0x03 ∷ 0x0B ∷ 0x4B ∷ 0x83 ∷ 0x87 ∷ 0xCB ∷ 0xCF ∷ [])
 
--- H2, of the last four: a bid is 4B 80 80 or 4B 81 80; a grant CB 80 00; a bid refusal CF 90 00; a confirmation 83 20 00; a pacing answer 83 01 00
+-- H2, of the last six: an error header is 0B 90 00 or 0B 91 00; a bid 4B 80 80 or 4B 81 80; a grant CB 80 00; a bid refusal CF 90 00;
+-- a confirmation 83 20 00; a pacing answer 83 01 00; a negative confirmation 87 30 00
 abbrev pub isFixed : HeaderBytes → Bool
-isFixed h = oneOf (h .b0) (0x4B ∷ 0x83 ∷ 0xCB ∷ 0xCF ∷ [])
+isFixed h = oneOf (h .b0) (0x0B ∷ 0x4B ∷ 0x83 ∷ 0x87 ∷ 0xCB ∷ 0xCF ∷ [])
 
 abbrev pub fixedHeaders : List HeaderBytes
 fixedHeaders =
-    bytes 0x4B 0x80 0x80
+    bytes 0x0B 0x90 0x00
+    ∷ bytes 0x0B 0x91 0x00
+    ∷ bytes 0x4B 0x80 0x80
     ∷ bytes 0x4B 0x81 0x80
     ∷ bytes 0xCB 0x80 0x00
     ∷ bytes 0xCF 0x90 0x00
     ∷ bytes 0x83 0x20 0x00
     ∷ bytes 0x83 0x01 0x00
+    ∷ bytes 0x87 0x30 0x00
     ∷ []
 
 abbrev pub keepsH2 : HeaderBytes → Bool

@@ -22,6 +22,7 @@ ghost use mathlib.Core.Path.{_≡_};
 ghost use mathlib.Core.Bool.{cond};
 ghost use Prim.Native.Nat.{_≤_};
 ghost use Rattle.header.specs.Weights.{bit};
+ghost use Rattle.header.specs.Rules.{bytes};
 ghost use Rattle.header.specs.Header.{isFirst, beginsBracket, isLast, confirms, followsOf, turns, endsBracket, dataBytes, headerBytes};
 
 pub fn is_first(b: ChainBegin) -> bool
@@ -107,7 +108,7 @@ fn bit_of(b: bool, weight: u8) -> u8
     if b { weight } else { 0 }
 }
 
-// Byte 1 of data for which no confirmation is requested, and of the negative bid response.
+// Byte 1 of data for which no confirmation is requested, of the error description, and of the negative bid response.
 const EXCEPTION_RESPONSE: u8 = DR1 + EXCEPTION;
 
 fn response_bits(confirm: bool) -> u8
@@ -131,7 +132,8 @@ fn build_data(d: DataHeader) -> HeaderBytes
     }
 }
 
-// Byte 0 of a bid, of its two responses, and of a response to data: the confirmation and the pacing response.
+// Byte 0 of a bid, of its two responses, of a response to data (the confirmation and the pacing response), of the negative
+// confirmation, and of the error description.
 const BID: u8 = FLOW_CONTROL + FORMAT + FIRST + LAST;
 
 const POSITIVE_BID_RESPONSE: u8 = RESPONSE + FLOW_CONTROL + FORMAT + FIRST + LAST;
@@ -140,36 +142,33 @@ const NEGATIVE_BID_RESPONSE: u8 = RESPONSE + FLOW_CONTROL + FORMAT + SENSE + FIR
 
 const DATA_RESPONSE: u8 = RESPONSE + FIRST + LAST;
 
+const NEGATIVE_CONFIRMATION: u8 = RESPONSE + SENSE + FIRST + LAST;
+
+const ERROR_DESCRIPTION: u8 = FORMAT + FIRST + LAST;
+
+// These three bytes as one value.
+fn bytes(b0: u8, b1: u8, b2: u8) -> HeaderBytes
+    ensures { λ r. ⌜ r ≡ bytes b0 b1 b2 ⌝ }
+{
+    HeaderBytes { b0, b1, b2 }
+}
+
 // The three bytes of a header.
 pub fn build_header(h: Header) -> HeaderBytes
     ensures { λ r. ⌜ r ≡ headerBytes h ⌝ }
 {
     match h {
         Header::Data(d) => build_data(d),
-        Header::Bid(pacing) => HeaderBytes {
-            b0: BID,
-            b1: DR1 + bit_of(pacing, PACING),
-            b2: BB,
-        },
-        Header::PositiveBidResponse => HeaderBytes {
-            b0: POSITIVE_BID_RESPONSE,
-            b1: DR1,
-            b2: 0,
-        },
-        Header::NegativeBidResponse => HeaderBytes {
-            b0: NEGATIVE_BID_RESPONSE,
-            b1: EXCEPTION_RESPONSE,
-            b2: 0,
-        },
-        Header::Confirmation => HeaderBytes {
-            b0: DATA_RESPONSE,
-            b1: DR2,
-            b2: 0,
-        },
-        Header::PacingResponse => HeaderBytes {
-            b0: DATA_RESPONSE,
-            b1: PACING,
-            b2: 0,
-        },
+        Header::Bid(pacing) => bytes(BID, DR1 + bit_of(pacing, PACING), BB),
+        Header::ErrorDescription(pacing) => bytes(
+            ERROR_DESCRIPTION,
+            EXCEPTION_RESPONSE + bit_of(pacing, PACING),
+            0,
+        ),
+        Header::PositiveBidResponse => bytes(POSITIVE_BID_RESPONSE, DR1, 0),
+        Header::NegativeBidResponse => bytes(NEGATIVE_BID_RESPONSE, EXCEPTION_RESPONSE, 0),
+        Header::Confirmation => bytes(DATA_RESPONSE, DR2, 0),
+        Header::NegativeConfirmation => bytes(NEGATIVE_CONFIRMATION, DR2 + EXCEPTION, 0),
+        Header::PacingResponse => bytes(DATA_RESPONSE, PACING, 0),
     }
 }

@@ -32,15 +32,18 @@ pub struct DataHeader {
     pub pacing: bool,
 }
 
-// The fields of a header: 48 values, each of them good. No other header can be written down.
-// A bid carries its pacing bit; the positive bid response is document 01's grant, the negative one its bid refusal,
-// the pacing response its pacing answer.
+// The fields of a header: 51 values, each of them good. No other header can be written down.
+// A bid and an error description carry their pacing bit. The positive bid response is document 01's grant, the negative one its
+// bid refusal, the pacing response its pacing answer. The error description, an FM header 7 (document 000), is document 02's
+// error header; the negative confirmation, its 87 30 00, refuses a confirmation that was requested.
 pub enum Header {
     Data(DataHeader),
     Bid(bool),
+    ErrorDescription(bool),
     PositiveBidResponse,
     NegativeBidResponse,
     Confirmation,
+    NegativeConfirmation,
     PacingResponse,
 }
 
@@ -50,7 +53,7 @@ pub struct HeaderBytes {
     pub b2: u8,
 }
 
-// The rules of document 01 for the three bytes of a header.
+// The rules of document 01 for the three bytes of a header, H1 and H2 as document 02 extends them.
 pub enum Rule {
     H1,
     H2,

@@ -18,7 +18,7 @@ ghost use Prim.Native.Nat.{_<_};
 ghost use Rattle.header.specs.Weights.{on};
 ghost use Rattle.header.specs.Rules.{requestsConfirmation, dataH3, dataH4, dataH5, dataH6};
 ghost use Rattle.header.specs.Header.{beginOf, followOf, endOf, dataFields, readHeader};
-ghost use Rattle.header.specs.HeaderSteps.{goodOr, dataRead, bidRead, responseRead, positiveRead, negativeRead};
+ghost use Rattle.header.specs.HeaderSteps.{goodOr, dataRead, errorRead, bidRead, responseRead, negativeConfirmationRead, positiveRead, negativeRead};
 
 // The bit of this weight is on.
 fn has(byte: u8, weight: u8) -> bool
@@ -137,6 +137,17 @@ fn read_data(h: HeaderBytes) -> HeaderRead
 }
 
 // H2, of each kind.
+fn read_error(b1: u8, b2: u8) -> HeaderRead
+    ensures { λ r. ⌜ r ≡ errorRead b1 b2 ⌝ }
+{
+    let pacing = has(b1, PACING);
+    good_or(
+        ((b1 == 0x90) | (b1 == 0x91)) & (b2 == 0x00),
+        Header::ErrorDescription(pacing),
+        Rule::H2,
+    )
+}
+
 fn read_bid(b1: u8, b2: u8) -> HeaderRead
     ensures { λ r. ⌜ r ≡ bidRead b1 b2 ⌝ }
 {
@@ -157,6 +168,16 @@ fn read_response(b1: u8, b2: u8) -> HeaderRead
     good_or(
         (b1 == 0x01) & (b2 == 0x00),
         Header::PacingResponse,
+        Rule::H2,
+    )
+}
+
+fn read_negative_confirmation(b1: u8, b2: u8) -> HeaderRead
+    ensures { λ r. ⌜ r ≡ negativeConfirmationRead b1 b2 ⌝ }
+{
+    good_or(
+        (b1 == 0x30) & (b2 == 0x00),
+        Header::NegativeConfirmation,
         Rule::H2,
     )
 }
@@ -188,8 +209,10 @@ pub fn read_header(h: HeaderBytes) -> HeaderRead
     let b0 = h.b0;
     match b0 {
         0..=3 => read_data(h),
+        0x0B => read_error(h.b1, h.b2),
         0x4B => read_bid(h.b1, h.b2),
         0x83 => read_response(h.b1, h.b2),
+        0x87 => read_negative_confirmation(h.b1, h.b2),
         0xCB => read_positive(h.b1, h.b2),
         0xCF => read_negative(h.b1, h.b2),
         _ => HeaderRead::Breaks(Rule::H1),

@@ -7,6 +7,7 @@ use Rattle.end.specs.declared.ReadDone.{ReadDone}
 use Rattle.end.specs.Allocate.{allocate}
 use Rattle.end.specs.Results.{madeBy, sentBy, takenBy, copiedBy}
 use Rattle.end.specs.Confirmed.{confirmed}
+use Rattle.end.specs.SendError.{sendError}
 use Rattle.end.specs.SendPacingResponse.{sendPacingResponse}
 use Rattle.end.specs.Close.{flush, confirm, prepareToReceive, deallocate}
 use Rattle.end.specs.SendData.{sendData}
@@ -24,6 +25,9 @@ Allocate h x r z = madeBy r (z .0) ≡ allocate h (x .0)
 
 abbrev pub Confirmed : End → In unit.ks → Done → Out unit.ks → Type 0
 Confirmed h x r z = madeBy r (z .0) ≡ confirmed h (x .0)
+
+abbrev pub SendError : End → In unit.ks → Done → Out unit.ks → Type 0
+SendError h x r z = madeBy r (z .0) ≡ sendError h (x .0)
 
 abbrev pub SendPacingResponse : End → In unit.ks → Done → Out unit.ks → Type 0
 SendPacingResponse h x r z = madeBy r (z .0) ≡ sendPacingResponse h (x .0)

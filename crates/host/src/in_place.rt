@@ -1,5 +1,5 @@
-// Document 01's ten calls on a lent record: each calls the method and stores the new record where the old one stood. Defer and
-// withdraw, which are lent no buffer, have none here.
+// Document 01's ten calls and send error on a lent record: each calls the method and stores the new record where the old one stood.
+// Defer and withdraw, which are lent no buffer, have none here.
 use end::Answer;
 use end::End;
 use end::ReadAnswer;
@@ -8,6 +8,7 @@ ghost use Rattle.end.specs.Allocate.{allocate};
 ghost use Rattle.end.specs.SendData.{sendData};
 ghost use Rattle.end.specs.Close.{flush, confirm, prepareToReceive, deallocate};
 ghost use Rattle.end.specs.Confirmed.{confirmed};
+ghost use Rattle.end.specs.SendError.{sendError};
 ghost use Rattle.end.specs.ReceiveUnit.{receiveUnit};
 ghost use Rattle.end.specs.Receive.{receive};
 ghost use Rattle.end.specs.SendPacingResponse.{sendPacingResponse};
@@ -68,6 +69,14 @@ pub fn confirmed(end: &mut End, unit: &mut [u8]) -> Answer
     ensures { λ r. ⌜ madeBy (doneBy r (now (end .exit))) (now (unit .exit)) ≡ confirmed (now (end .entry)) (now (unit .entry)) ⌝ }
 {
     let done = end.confirmed(unit);
+    *end = done.end;
+    done.answer
+}
+
+pub fn send_error(end: &mut End, unit: &mut [u8]) -> Answer
+    ensures { λ r. ⌜ madeBy (doneBy r (now (end .exit))) (now (unit .exit)) ≡ sendError (now (end .entry)) (now (unit .entry)) ⌝ }
+{
+    let done = end.send_error(unit);
     *end = done.end;
     done.answer
 }

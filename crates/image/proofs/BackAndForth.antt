@@ -54,6 +54,7 @@ mark-back mark.End = refl
 mark-back mark.Confirm = refl
 mark-back mark.ConfirmTurn = refl
 mark-back mark.ConfirmEnd = refl
+mark-back mark.Error = refl
 
 pub flag-back : (on : Bool) → leb 1 (flagByte on) ≡ on
 flag-back true = refl
@@ -89,13 +90,14 @@ follows-good Stay = refl
 follows-good ChangeDirection = refl
 follows-good EndBracket = refl
 
-pub mark-good : (m : WhatReceived) → leb (markNumber m) 5 ≡ true
+pub mark-good : (m : WhatReceived) → leb (markNumber m) 6 ≡ true
 mark-good mark.Nothing = refl
 mark-good mark.Turn = refl
 mark-good mark.End = refl
 mark-good mark.Confirm = refl
 mark-good mark.ConfirmTurn = refl
 mark-good mark.ConfirmEnd = refl
+mark-good mark.Error = refl
 
 pub flag-good : (on : Bool) → leb (flagByte on) 1 ≡ true
 flag-good true = refl
@@ -131,14 +133,15 @@ follows-there (suc zero) h = refl
 follows-there (suc (suc zero)) h = refl
 follows-there (suc (suc (suc n))) h = past (suc (suc (suc n))) 2 h (omega arith)
 
-pub mark-there : (n : ℕ) → leb n 5 ≡ true → markNumber (markOf n) ≡ n
+pub mark-there : (n : ℕ) → leb n 6 ≡ true → markNumber (markOf n) ≡ n
 mark-there zero h = refl
 mark-there (suc zero) h = refl
 mark-there (suc (suc zero)) h = refl
 mark-there (suc (suc (suc zero))) h = refl
 mark-there (suc (suc (suc (suc zero)))) h = refl
 mark-there (suc (suc (suc (suc (suc zero))))) h = refl
-mark-there (suc (suc (suc (suc (suc (suc n)))))) h = past (suc (suc (suc (suc (suc (suc n)))))) 5 h (omega arith)
+mark-there (suc (suc (suc (suc (suc (suc zero)))))) h = refl
+mark-there (suc (suc (suc (suc (suc (suc (suc n))))))) h = past (suc (suc (suc (suc (suc (suc (suc n))))))) 6 h (omega arith)
 
 pub flag-there : (n : ℕ) → leb n 1 ≡ true → flagByte (leb 1 n) ≡ n
 flag-there zero h = refl

@@ -1,7 +1,7 @@
 -- A record written is read back as the same record; an image that holds a record is what writing it leaves.
 -- Assumes nothing.
 use mathlib.Core.Path.{_≡_, refl, sym, ap, _∙_}
-use mathlib.Core.Bool.{true}
+use mathlib.Core.Bool.{Bool, true}
 use mathlib.Core.List.{List, [], _∷_, _++_}
 use Prim.Native.Nat.{ℕ, _+_, _<_}
 use lib.Dec.{leb}
@@ -25,6 +25,7 @@ module _ (e : End) (g : firstByte (e .sending .given) < 256) (t : firstByte (e .
         follows-back (e .control .follows),
         mark-back (e .control .mark),
         flag-back (e .control .due),
+        flag-back (e .control .error),
         flag-back (e .control .bid),
         flag-back (e .control .outchain),
         flag-back (e .control .inchain),
@@ -53,6 +54,7 @@ module _ (e : End) (g : firstByte (e .sending .given) < 256) (t : firstByte (e .
         follows-good (e .control .follows),
         mark-good (e .control .mark),
         flag-good (e .control .due),
+        flag-good (e .control .error),
         flag-good (e .control .bid),
         flag-good (e .control .outchain),
         flag-good (e .control .inchain),
@@ -77,6 +79,12 @@ beside : {a a' b b' : List ℕ} → a ≡ a' → b ≡ b' → a ++ b ≡ a' ++ b
 beside {a} {a'} {b} {b'} p q = rw (p, q)
 
 module _ (image : List ℕ) (bytes : (i : ℕ) → byteAt image i < 256) where
+  -- the row of `flagsGood`
+  abbrev flags : List Bool
+  flags =
+      flagGood image 5 ∷ flagGood image 6 ∷ flagGood image 7 ∷ flagGood image 8
+      ∷ flagGood image 11 ∷ flagGood image 23 ∷ flagGood image 42 ∷ []
+
   numbers : (at : ℕ) → numberBytes (numberAt image at) ≡ byteAt image at ∷ byteAt image (at + 1) ∷ []
   numbers at = number-there (byteAt image at) (byteAt image (at + 1)) (bytes at)
 
@@ -91,8 +99,8 @@ module _ (image : List ℕ) (bytes : (i : ℕ) → byteAt image i < 256) where
   controls : formatGood image ≡ true → codesGood image ≡ true → flagsGood image ≡ true → FORMAT ∷ controlBytes (controlIn image) ≡ listed image 0 9
   controls g h f =
       let b = byteAt image in
-      let t = each (leb (b 1) 1 ∷ leb (b 2) 6 ∷ leb (b 3) 2 ∷ leb (b 4) 5 ∷ []) h in
-      let l = each (flagGood image 5 ∷ flagGood image 6 ∷ flagGood image 7 ∷ flagGood image 8 ∷ flagGood image 11 ∷ flagGood image 23 ∷ []) f in
+      let t = each (leb (b 1) 1 ∷ leb (b 2) 6 ∷ leb (b 3) 2 ∷ leb (b 4) 6 ∷ []) h in
+      let l = each flags f in
       rw (
         eqb-true (b 0) FORMAT g,
         role-there (b 1) (t 0),
@@ -109,12 +117,13 @@ module _ (image : List ℕ) (bytes : (i : ℕ) → byteAt image i < 256) where
   unfolding imageGood imageOf recordIn
   whole h =
       let t = each (formatGood image ∷ codesGood image ∷ flagsGood image ∷ placesGood image ∷ []) h in
-      let l = each (flagGood image 5 ∷ flagGood image 6 ∷ flagGood image 7 ∷ flagGood image 8 ∷ flagGood image 11 ∷ flagGood image 23 ∷ []) (t 2) in
+      let l = each flags (t 2) in
       let p = each (placeGood image 18 ∷ placeGood image 32 ∷ placeGood image 35 ∷ []) (t 3) in
       let sending = beside (beside (beside (beside (windows 9 (l 4)) (numbers 12)) (numbers 14)) (numbers 16)) (places 18 (p 0)) in
       let sizes = beside (beside (beside (beside (windows 21 (l 5)) (numbers 24)) (numbers 26)) (numbers 28)) (numbers 30) in
       let receiving = beside (beside sizes (places 32 (p 1))) (places 35 (p 2)) in
-      beside (beside (beside (beside (controls (t 0) (t 1) (t 2)) sending) receiving) (numbers 38)) (numbers 40)
+      let parts = beside (beside (beside (beside (controls (t 0) (t 1) (t 2)) sending) receiving) (numbers 38)) (numbers 40) in
+      beside parts (rw (flag-there (byteAt image 42) (l 6)))
 
   pub read-is-written : (e : End) → imageRead image ≡ Record e → imageOf e ≡ image
   read-is-written e h =

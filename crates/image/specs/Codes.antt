@@ -26,9 +26,9 @@ followsNumber EndBracket = 2
 abbrev pub followsOf : ℕ → Follows
 followsOf n = cond (eqb n 0) Stay (cond (eqb n 1) ChangeDirection EndBracket)
 
--- in the paper's order, from 0: none, turn, end, confirm, confirm-turn, confirm-end
+-- in the papers' order, from 0: none, turn, end, confirm, confirm-turn, confirm-end, error
 abbrev pub markOf : ℕ → WhatReceived
 markOf n =
     cond (eqb n 0) mark.Nothing
     (cond (eqb n 1) mark.Turn
-    (cond (eqb n 2) mark.End (cond (eqb n 3) mark.Confirm (cond (eqb n 4) mark.ConfirmTurn mark.ConfirmEnd))))
+    (cond (eqb n 2) mark.End (cond (eqb n 3) mark.Confirm (cond (eqb n 4) mark.ConfirmTurn (cond (eqb n 5) mark.ConfirmEnd mark.Error)))))

@@ -1,4 +1,4 @@
--- An end's record as an image of 42 bytes, with no padding; a host keeps it in memory of its own.
+-- An end's record as an image of 43 bytes, with no padding; a host keeps it in memory of its own.
 -- Assumes nothing.
 use Prim.Native.Nat.{ℕ}
 use mathlib.Core.Bool.{Bool, cond, _&&_}
@@ -19,16 +19,16 @@ use Rattle.image.specs.declared.ImageRead.the-variants.{Record, Refused}
 
 -- the length of an image
 abbrev pub IMAGE : ℕ
-IMAGE = 42
+IMAGE = 43
 
--- an image's first byte, raised with each change by which an image would be read as another record; a code more does not raise it. Images without it
+-- an image's first byte, raised with each change by which an image would be read as another record; a code more does not raise it. Images without one
 -- began with the role, 0 or 1
 abbrev pub FORMAT : ℕ
-FORMAT = 3
+FORMAT = 4
 
 -- ---- a record written
 
--- bytes 1 to 8
+-- bytes 1 to 8: the finite part but for the error-due flag
 abbrev pub controlBytes : Control → List ℕ
 controlBytes c =
     roleNumber (c .role) ∷ stateNumber (c .state) ∷ followsNumber (c .follows) ∷ markNumber (c .mark)
@@ -44,11 +44,11 @@ receivingBytes r =
     windowBytes (r .window) ++ numberBytes (r .max) ++ numberBytes (r .inbox) ++ numberBytes (r .held) ++ numberBytes (r .number)
     ++ placeBytes (r .taken) ++ placeBytes (r .read)
 
--- the format is byte 0, the bid's number bytes 38 and 39, the number owed bytes 40 and 41
+-- the format is byte 0, the bid's number bytes 38 and 39, the number owed bytes 40 and 41, the error-due flag byte 42
 unfoldable pub imageOf : End → List ℕ
 imageOf e =
     (FORMAT ∷ controlBytes (e .control)) ++ sendingBytes (e .sending) ++ receivingBytes (e .receiving) ++ numberBytes (e .bidding)
-    ++ numberBytes (e .owed)
+    ++ numberBytes (e .owed) ++ (flagByte (e .control .error) ∷ [])
 
 -- written only over cells that are as many as an image has
 unfoldable pub imageWritten : End → List ℕ → List ℕ
@@ -64,6 +64,7 @@ controlIn image =
       follows = followsOf (byteAt image 3);
       mark = markOf (byteAt image 4);
       due = flagAt image 5;
+      error = flagAt image 42;
       bid = flagAt image 6;
       outchain = flagAt image 7;
       inchain = flagAt image 8;
@@ -107,12 +108,12 @@ abbrev pub formatGood : List ℕ → Bool
 formatGood image = eqb (byteAt image 0) FORMAT
 
 abbrev pub codesGood : List ℕ → Bool
-codesGood image = leb (byteAt image 1) 1 && (leb (byteAt image 2) 6 && (leb (byteAt image 3) 2 && leb (byteAt image 4) 5))
+codesGood image = leb (byteAt image 1) 1 && (leb (byteAt image 2) 6 && (leb (byteAt image 3) 2 && leb (byteAt image 4) 6))
 
 abbrev pub flagsGood : List ℕ → Bool
 flagsGood image =
     flagGood image 5
-    && (flagGood image 6 && (flagGood image 7 && (flagGood image 8 && (flagGood image 11 && flagGood image 23))))
+    && (flagGood image 6 && (flagGood image 7 && (flagGood image 8 && (flagGood image 11 && (flagGood image 23 && flagGood image 42)))))
 
 abbrev pub placesGood : List ℕ → Bool
 placesGood image = placeGood image 18 && (placeGood image 32 && placeGood image 35)

@@ -85,7 +85,7 @@ pub fn follows_of(code: u8) -> Follows
     Follows::EndBracket
 }
 
-// Document 01's numbers of the marks, from none 0 to confirm-end 5.
+// The numbers of the marks: document 01's, from none 0 to confirm-end 5, and document 02's error 6.
 pub fn mark_code(mark: WhatReceived) -> u8
     ensures { λ r. ⌜ r ≡ markNumber mark ⌝ }
 {
@@ -96,6 +96,7 @@ pub fn mark_code(mark: WhatReceived) -> u8
         WhatReceived::Confirm => 3,
         WhatReceived::ConfirmTurn => 4,
         WhatReceived::ConfirmEnd => 5,
+        WhatReceived::Error => 6,
     }
 }
 
@@ -117,5 +118,8 @@ pub fn mark_of(code: u8) -> WhatReceived
     if code == 4 {
         return WhatReceived::ConfirmTurn;
     }
-    WhatReceived::ConfirmEnd
+    if code == 5 {
+        return WhatReceived::ConfirmEnd;
+    }
+    WhatReceived::Error
 }

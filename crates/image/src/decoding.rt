@@ -34,7 +34,7 @@ fn codes_good(image: &[u8]) -> bool
     requires { ⌜ length (now image) ≡ IMAGE ⌝ }
     ensures { λ r. ⌜ r ≡ codesGood (now (image .entry)) ⌝ }
 {
-    (image[1] <= 1) & ((image[2] <= 6) & ((image[3] <= 2) & (image[4] <= 5)))
+    (image[1] <= 1) & ((image[2] <= 6) & ((image[3] <= 2) & (image[4] <= 6)))
 }
 
 fn flags_good(image: &[u8]) -> bool
@@ -43,7 +43,8 @@ fn flags_good(image: &[u8]) -> bool
 {
     (image[5] <= 1)
         & ((image[6] <= 1)
-            & ((image[7] <= 1) & ((image[8] <= 1) & ((image[11] <= 1) & (image[23] <= 1)))))
+            & ((image[7] <= 1)
+                & ((image[8] <= 1) & ((image[11] <= 1) & ((image[23] <= 1) & (image[42] <= 1))))))
 }
 
 // The record places are read first, by `read_image`: they are the parts whose reading branches. A window is written out, and not
@@ -84,7 +85,7 @@ fn receiving_in(image: &[u8], taken: Position, read: Position) -> Receiving
     }
 }
 
-// The control is written out here, and not by a function of its own, so that its eight bytes are moved as they are.
+// The control is written out here, and not by a function of its own, so that its nine bytes are moved as they are.
 fn record_in(image: &[u8], given: Position, taken: Position, read: Position) -> End
     requires { ⌜ (length (now image) ≡ IMAGE) × (given ≡ placeAt (now image) 18) × (taken ≡ placeAt (now image) 32) × (read ≡ placeAt (now image) 35) ⌝ }
     ensures { λ r. ⌜ r ≡ recordIn (now (image .entry)) ⌝ }
@@ -96,6 +97,7 @@ fn record_in(image: &[u8], given: Position, taken: Position, read: Position) -> 
             follows: follows_of(image[3]),
             mark: mark_of(image[4]),
             due: image[5] >= 1,
+            error: image[42] >= 1,
             bid: image[6] >= 1,
             outchain: image[7] >= 1,
             inchain: image[8] >= 1,

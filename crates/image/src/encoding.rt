@@ -6,6 +6,7 @@ use crate::codes::follows_code;
 use crate::codes::mark_code;
 use crate::codes::role_code;
 use crate::codes::state_code;
+use crate::image_parts::write_flag;
 use crate::image_parts::write_number;
 use crate::image_parts::write_place;
 use crate::image_parts::write_window;
@@ -18,7 +19,8 @@ ghost use lib.ListN.{length};
 ghost use Rattle.cells.specs.Cells.{written};
 ghost use Rattle.image.specs.Image.{IMAGE, FORMAT, controlBytes, sendingBytes, receivingBytes, imageWritten};
 
-// The format and the control. It is given the whole record, and not the control alone: eight bytes passed on their own would be taken apart bit by bit.
+// The format and the control but for the error-due flag, which is the image's last byte. It is given the whole record, and not the
+// control alone: nine bytes passed on their own would be taken apart bit by bit.
 fn write_control(image: &mut [u8], e: End)
     requires { ⌜ length (now image) ≡ IMAGE ⌝ }
     ensures { λ _. ⌜ now (image .exit) ≡ written 0 (FORMAT ∷ controlBytes (e .control)) (now (image .entry)) ⌝ }
@@ -77,9 +79,11 @@ pub fn write_image(end: End, image: &mut [u8])
     }
     let sending = end.sending;
     let receiving = end.receiving;
+    let error = end.control.error;
     write_control(image, end);
     write_sending(image, sending);
     write_receiving(image, receiving);
     write_number(image, 38, end.bidding);
     write_number(image, 40, end.owed);
+    write_flag(image, 42, error);
 }

@@ -1,16 +1,24 @@
-// The parts of an image that occur more than once: a number of two bytes, a window, a record place. Each is read at the byte
+// The parts of an image that occur more than once: a flag, a number of two bytes, a window, a record place. Each is read at the byte
 // where it starts, and written there. A number is low byte first, as x86-64 keeps it, so that it is moved whole. Here the variants
 // of a record place are named, since its bytes go by them.
 use crate::codes::flag_code;
 use logical_record::Position;
 use pacing::Window;
 ghost use mathlib.Core.Path.{_≡_};
-ghost use Prim.Native.Nat.{_+_, _≤_};
+ghost use Prim.Native.Nat.{_+_, _≤_, _<_};
+ghost use mathlib.Core.List.{[], _∷_};
 ghost use lib.ListN.{length};
 ghost use Rattle.cells.specs.Cells.{written};
 ghost use Rattle.unit.specs.Unit.{numberOf};
-ghost use Rattle.image.specs.ImageParts.{numberBytes, numberAt, windowBytes};
+ghost use Rattle.image.specs.ImageParts.{flagByte, numberBytes, numberAt, windowBytes};
 ghost use Rattle.image.specs.ImageParts.{placeKind, placeValue, placeBytes, placeAt, placeGood};
+
+pub fn write_flag(image: &mut [u8], at: usize, on: bool)
+    requires { ⌜ at < length (now image) ⌝ }
+    ensures { λ _. ⌜ now (image .exit) ≡ written at (flagByte on ∷ []) (now (image .entry)) ⌝ }
+{
+    image[at] = flag_code(on);
+}
 
 fn number_of(low: u8, high: u8) -> u16
     ensures { λ r. ⌜ r ≡ numberOf high low ⌝ }

@@ -2,7 +2,8 @@
 -- Assumes nothing.
 use Rattle.joined.proofs.JoinedWords.{ℕ, eqb, Bool, true, false, cond, List, [], _∷_, _++_, _≡_, refl, sym, subst, never, Header, unitOf}
 use Rattle.joined.proofs.JoinedWords.{isFirstSpeaker, Role, FirstSpeaker, Bidder, End}
-use Rattle.header.specs.declared.Header.the-variants.{Data, Bid, PositiveBidResponse, NegativeBidResponse, Confirmation, PacingResponse}
+use Rattle.header.specs.declared.Header.the-variants.{Data, Bid, ErrorDescription, PositiveBidResponse, NegativeBidResponse, Confirmation}
+use Rattle.header.specs.declared.Header.the-variants.{NegativeConfirmation, PacingResponse}
 use Rattle.joined.proofs.LineAutomaton.{Ran, ok, stuck, ok-is, went}
 use Rattle.joined.proofs.TwoLines.{other, other-other, Automaton, Led, led-moved}
 
@@ -36,9 +37,11 @@ answerMoves Bidder (some k) n = eqb n k
 abbrev pub bidOn : Role → Pending → Header → ℕ → Ran Pending
 bidOn r p (Data d) n = ok p
 bidOn r p (Bid b) n = cond (bidMoves r p) (ok (some n)) stuck
+bidOn r p (ErrorDescription b) n = ok p
 bidOn r p PositiveBidResponse n = cond (answerMoves r p n) (ok none) stuck
 bidOn r p NegativeBidResponse n = cond (answerMoves r p n) (ok none) stuck
 bidOn r p Confirmation n = ok p
+bidOn r p NegativeConfirmation n = ok p
 bidOn r p PacingResponse n = ok p
 
 -- ---- bids that no unit changes
@@ -64,9 +67,11 @@ pub settled-on :
     → bidOn r p h n ≡ ok t → (t ≡ p) × (bidOn r p′ h n ≡ ok p′)
 settled-on r p p′ s (Data d) n t e = (sym (ok-is e), refl)
 settled-on r p p′ s (Bid b) n t e = settled-bid r p s (went (bidMoves r p) (some n) t e .0)
+settled-on r p p′ s (ErrorDescription b) n t e = (sym (ok-is e), refl)
 settled-on r p p′ s PositiveBidResponse n t e = settled-answer r p n s (went (answerMoves r p n) none t e .0)
 settled-on r p p′ s NegativeBidResponse n t e = settled-answer r p n s (went (answerMoves r p n) none t e .0)
 settled-on r p p′ s Confirmation n t e = (sym (ok-is e), refl)
+settled-on r p p′ s NegativeConfirmation n t e = (sym (ok-is e), refl)
 settled-on r p p′ s PacingResponse n t e = (sym (ok-is e), refl)
 
 -- ---- the bids of two joined ends

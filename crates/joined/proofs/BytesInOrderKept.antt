@@ -2,13 +2,15 @@
 -- Assumes nothing.
 use Rattle.joined.proofs.JoinedWords.{ℕ, _-_, eqb, length, take, drop, length-drop, Bool, false, cond, List, [], _∷_, _++_, append-nil, _≡_, refl, sym}
 use Rattle.joined.proofs.JoinedWords.{ap, arith, front, Continues, Last, DataHeader, Follows, Header, fixedRu, bidRu, unitOf, numberIn, paced, bidAnswer}
-use Rattle.joined.proofs.JoinedWords.{beginOf, readRefused, requestReceived, requestMade, nextNumber, bidMade, lastMade, closing, defer-cases}
+use Rattle.joined.proofs.JoinedWords.{beginOf, readRefused, requestReceived, requestMade, nextNumber, bidMade, closing, defer-cases}
 use Rattle.joined.proofs.JoinedWords.{withdraw-cases, bytesRead, headerReceived}
 use Rattle.joined.proofs.JoinedWords.{ruReceived, dataJoined, bidAnswered, creditRaised, dataHeader, heldBytes, bytesKept, bytesSpilled, gone, facts}
 use Rattle.joined.proofs.JoinedWords.{Station, Reply, Verb, allocate-cases, bidNumber, close-cases, confirmed-cases, pacing-response-cases, read-cases}
 use Rattle.joined.proofs.JoinedWords.{send-cases, spilledRu, take-cases, ReadAsked, SendAsked, readCount, spilledUnit, Sort, sortOf, answer-sort, dataOf}
 use Rattle.joined.proofs.JoinedWords.{Lane, normal, acts, takes, onNormal, bytesInSendBuffer, Log, bytesAccepted, bytesInInbox, Acted, Took, took, acted}
-use Rattle.header.specs.declared.Header.the-variants.{Bid, Confirmation, PacingResponse}
+use Rattle.header.specs.declared.Header.the-variants.{Bid, ErrorDescription, Confirmation, NegativeConfirmation, PacingResponse}
+use Rattle.joined.proofs.JoinedWords.{errorMarked, send-error-cases, errorRu, negativeConfirmationRu}
+use Rattle.calls.proofs.RecordStaysGood.{none-held}
 use Rattle.end.specs.Receive.{inboxMoved}
 use Rattle.end.specs.Receive as R
 use Rattle.joined.specs.Histories as H
@@ -58,12 +60,15 @@ module _ (s : Station) (xs : Log) (line : List (List ℕ)) (read inbox : List �
       (carried-sent (nextNumber (e .sending .number)) d (spilledRu s bytes) rest (rw (spilled-parts s bytes) at (carried-kept bytes c)))
 
   pub bytes-acts : (v : Verb) → After v (acts s v)
-  unfolding acts bytesAccepted bytesKept bytesSpilled bytesRead bidMade lastMade requestMade
+  unfolding acts bytesAccepted bytesKept bytesSpilled bytesRead bidMade requestMade
   bytes-acts Verb.allocate =
       allocate-cases (Laned (After Verb.allocate)) s (λ q n. refuses Verb.allocate q [] n) (λ g a w. quiet c)
       (λ g a w k. other (bidNumber (s .end)) (Bid (paced (s .end .sending .window))) bidRu refl)
   bytes-acts Verb.confirmed =
       confirmed-cases (Laned (After Verb.confirmed)) s (λ q n. refuses Verb.confirmed q [] n) (λ g a. other (s .end .owed) Confirmation [] refl)
+  bytes-acts Verb.sendError =
+      send-error-cases (Laned (After Verb.sendError)) s (λ q n. refuses Verb.sendError q [] n)
+      (λ g a. other (s .end .owed) NegativeConfirmation negativeConfirmationRu refl)
   bytes-acts Verb.sendPacingResponse =
       pacing-response-cases (Laned (After Verb.sendPacingResponse)) s (λ q n. refuses Verb.sendPacingResponse q [] n) (λ g a. other 0 PacingResponse [] refl)
   bytes-acts (Verb.sendData bytes) =
@@ -76,6 +81,8 @@ module _ (s : Station) (xs : Log) (line : List (List ℕ)) (read inbox : List �
       (λ a k h. spill bytes a)
   bytes-acts (Verb.close f b) =
       close-cases (Laned (After (Verb.close f b))) s f b (λ q n. refuses (Verb.close f b) q [] n) (λ a n. quiet c)
+      (λ a y k.
+      rw (none-held s (a .good) y) at (other (nextNumber (s .end .sending .number)) (ErrorDescription (paced (s .end .sending .window))) errorRu refl))
       (λ a n k. rw (append-nil (bytesAccepted xs)) (last (closing (s .end) f) b))
   bytes-acts (Verb.defer d) = defer-cases (Laned (After (Verb.defer d))) s d (λ q n. refuses (Verb.defer d) q [] n) (λ a. quiet c)
   bytes-acts Verb.withdraw = withdraw-cases (Laned (After Verb.withdraw)) s (λ q n. refuses Verb.withdraw q [] n) (λ g a. quiet c)
@@ -86,12 +93,12 @@ module _ (s : Station) (xs : Log) (line : List (List ℕ)) (read inbox : List �
   Left u t = Carried (bytesAccepted (took normal u (t .answer) (t .sent) ∷ xs)) (bytesInSendBuffer (t .end)) (line ++ t .sent normal) read inbox
 
   pub bytes-takes : (u : List ℕ) → Left u (takes normal s u)
-  unfolding takes bytesAccepted dataJoined bidAnswered creditRaised
+  unfolding takes bytesAccepted dataJoined errorMarked bidAnswered creditRaised
   bytes-takes u =
       let h = bidAnswer (s .end .control) in
       take-cases (LanedTake (Left u)) s u (λ q w n. rw (append-nil line) c) (λ d a e k. rw (append-nil line) c)
       (λ p a e k m. carried-other (numberIn u) h (fixedRu h) (ap (λ (x : Sort). dataOf x (fixedRu h)) (answer-sort (s .end .control))) c)
-      (λ x a e m. rw (append-nil line) c) (λ a e k. rw (append-nil line) c)
+      (λ p a e k m. rw (append-nil line) c) (λ x a e m. rw (append-nil line) c) (λ a e k. rw (append-nil line) c)
 
 -- ---- as the receiving end
 
@@ -113,12 +120,14 @@ module _ (s : Station) (xs : Log) (acc held : List ℕ) (back : List (List ℕ))
         (carried-read (take k (s .inbox)) (drop k (bytesInInbox s)) (read-parts s buffer) c)
 
     pub bytes-in-acts : (v : Verb) → AfterIn v (acts s v)
-    unfolding acts H.bytesRead bytesKept bytesSpilled bytesRead bidMade lastMade R.markRead
+    unfolding acts H.bytesRead bytesKept bytesSpilled bytesRead bidMade R.markRead
     bytes-in-acts Verb.allocate = allocate-cases (Laned (AfterIn Verb.allocate)) s (λ q n. quiet-in) (λ g a w. quiet-in) (λ g a w k. quiet-in)
     bytes-in-acts Verb.confirmed = confirmed-cases (Laned (AfterIn Verb.confirmed)) s (λ q n. quiet-in) (λ g a. quiet-in)
+    bytes-in-acts Verb.sendError = send-error-cases (Laned (AfterIn Verb.sendError)) s (λ q n. quiet-in) (λ g a. quiet-in)
     bytes-in-acts Verb.sendPacingResponse = pacing-response-cases (Laned (AfterIn Verb.sendPacingResponse)) s (λ q n. quiet-in) (λ g a. quiet-in)
     bytes-in-acts (Verb.sendData bytes) = send-cases (Laned (AfterIn (Verb.sendData bytes))) s bytes (λ q n. quiet-in) (λ a k. quiet-in) (λ a k h. quiet-in)
-    bytes-in-acts (Verb.close f b) = close-cases (Laned (AfterIn (Verb.close f b))) s f b (λ q n. quiet-in) (λ a n. quiet-in) (λ a n k. quiet-in)
+    bytes-in-acts (Verb.close f b) =
+        close-cases (Laned (AfterIn (Verb.close f b))) s f b (λ q n. quiet-in) (λ a n. quiet-in) (λ a y k. quiet-in) (λ a n k. quiet-in)
     bytes-in-acts (Verb.defer d) = defer-cases (Laned (AfterIn (Verb.defer d))) s d (λ q n. quiet-in) (λ a. quiet-in)
     bytes-in-acts Verb.withdraw = withdraw-cases (Laned (AfterIn Verb.withdraw)) s (λ q n. quiet-in) (λ g a. quiet-in)
     bytes-in-acts (Verb.receive buffer) =
@@ -136,8 +145,8 @@ module _ (s : Station) (xs : Log) (acc held : List ℕ) (back : List (List ℕ))
     no-data k e z = rw (z, append-nil (bytesInInbox s)) at (joined-in k e)
 
     pub bytes-in-takes : LeftIn (takes normal s u)
-    unfolding takes H.bytesRead dataJoined bidAnswered creditRaised requestReceived
+    unfolding takes H.bytesRead dataJoined errorMarked bidAnswered creditRaised requestReceived
     bytes-in-takes =
         take-cases (LanedTake LeftIn) s u (λ q w n. rw n c)
         (λ d a e k. rw (written-bytes (s .end .receiving .held) (ruReceived u) (s .inbox) (inbox-room s (a .inbox) (a .good))) (joined-in _ e))
-        (λ p a e k m. no-data _ e refl) (λ x a e m. no-data _ e refl) (λ a e k. no-data _ e refl)
+        (λ p a e k m. no-data _ e refl) (λ p a e k m. no-data _ e refl) (λ x a e m. no-data _ e refl) (λ a e k. no-data _ e refl)

@@ -84,7 +84,7 @@ module _ (r : Role) (v w : ℕ) where
         paces = paces-acts e f us vs (i .paces) c;
         out =
             record {
-              stream = stream-acts e (insideOf f) us (i .out .stream) c;
+              stream = stream-acts e (insideOf f) us (i .out .stream) (i .here .local .whole) c;
               carried = bytes-acts e xs us (bytesRead ys) (bytesInInbox f) (i .out .carried) c;
             };
         into =

@@ -6,7 +6,8 @@ use Rattle.joined.proofs.JoinedWords.{isFirstSpeaker, isBidder, isReset
 use Rattle.joined.proofs.JoinedWords.{State}
 use Rattle.joined.proofs.JoinedWords.{WhatReceived, afterLast, afterOwed, markOf, End}
 use Rattle.header.specs.Header.{confirms}
-use Rattle.header.specs.declared.Header.the-variants.{Data, Bid, PositiveBidResponse, NegativeBidResponse, Confirmation, PacingResponse}
+use Rattle.header.specs.declared.Header.the-variants.{Data, Bid, ErrorDescription, PositiveBidResponse, NegativeBidResponse, Confirmation}
+use Rattle.header.specs.declared.Header.the-variants.{NegativeConfirmation, PacingResponse}
 use Rattle.control.specs.declared.State.the-variants.{Reset, Send, Receive, ConfirmOwed, ConfirmAwaited, DeferTurn, DeferEnd}
 use Rattle.control.specs.declared.WhatReceived.the-variants as mark
 use Rattle.joined.proofs.LineAutomaton.{Ran, ok, stuck, ok-is, went}
@@ -29,6 +30,7 @@ afterMarkFloor mark.End n = reset
 afterMarkFloor mark.Confirm n = confirmOwed Stay n
 afterMarkFloor mark.ConfirmTurn n = confirmOwed ChangeDirection n
 afterMarkFloor mark.ConfirmEnd n = confirmOwed EndBracket n
+afterMarkFloor mark.Error n = receive
 
 -- by state, BB-due, what follows, mark, number owed and last number sent
 abbrev pub floorAt : State → Bool → Follows → WhatReceived → ℕ → ℕ → Floor
@@ -106,9 +108,11 @@ confirmedFloor (confirmAwaited f m) = afterAwaitedFloor f
 abbrev pub floorOn : Role → Floor → Header → ℕ → Ran Floor
 floorOn r x (Data d) n = cond (dataMoves r x (beginsBracket (d .begins))) (ok (afterMarkFloor (markOf (d .ends)) n)) stuck
 floorOn r x (Bid p) n = ok x
+floorOn r x (ErrorDescription p) n = cond (isReceiveFloor x) (ok receive) stuck
 floorOn r x PositiveBidResponse n = cond (positiveResponseMoves r x) (ok send) stuck
 floorOn r x NegativeBidResponse n = ok x
 floorOn r x Confirmation n = cond (awaitsConfirmation x n) (ok (confirmedFloor x)) stuck
+floorOn r x NegativeConfirmation n = cond (awaitsConfirmation x n) (ok receive) stuck
 floorOn r x PacingResponse n = ok x
 
 -- ---- partners
@@ -156,12 +160,17 @@ quiet-on r x x′ q (Data d) n t e =
     quiet-data (isReceiveFloor x) (isResetFloor x && isBidder r) (isAwaitedFloor x) (beginsBracket (d .begins)) q
     (went _ (afterMarkFloor (markOf (d .ends)) n) t e .0)
 quiet-on r x x′ q (Bid p) n t e = (sym (ok-is e), refl)
+quiet-on r x x′ q (ErrorDescription p) n t e =
+    quiet-data (isReceiveFloor x) (isResetFloor x && isBidder r) (isAwaitedFloor x) false q (went (isReceiveFloor x) receive t e .0)
 quiet-on r x x′ q PositiveBidResponse n t e =
     quiet-data (isReceiveFloor x) (isResetFloor x && isBidder r) (isAwaitedFloor x) true q (went (positiveResponseMoves r x) send t e .0)
 quiet-on r x x′ q NegativeBidResponse n t e = (sym (ok-is e), refl)
 quiet-on r x x′ q Confirmation n t e =
     quiet-confirmation (isReceiveFloor x) (isResetFloor x && isBidder r) (isAwaitedFloor x) (eqb n (confirmNumber x)) q
     (went (awaitsConfirmation x n) (confirmedFloor x) t e .0)
+quiet-on r x x′ q NegativeConfirmation n t e =
+    quiet-confirmation (isReceiveFloor x) (isResetFloor x && isBidder r) (isAwaitedFloor x) (eqb n (confirmNumber x)) q
+    (went (awaitsConfirmation x n) receive t e .0)
 quiet-on r x x′ q PacingResponse n t e = (sym (ok-is e), refl)
 
 -- ---- the floors of two joined ends
@@ -266,6 +275,19 @@ pub confirmed-moves :
     (r : Role) (f : Follows) (n : ℕ) (v : Floor) → Partners r (confirmOwed f n) v
     → (w : Floor) × ((floorOn (other r) v Confirmation n ≡ ok w) × Partners r (afterOwedFloor f) w)
 confirmed-moves r f n v p = (afterAwaitedFloor f, (rw (owed-partner r v f n p, eq-eqb n n refl), partners r (confirmed-mirrored f)))
+
+-- so does its refusal, whatever was to follow: the partner receives, and this end sends
+pub denied-moves :
+    (r : Role) (f : Follows) (n : ℕ) (v : Floor) → Partners r (confirmOwed f n) v
+    → (w : Floor) × ((floorOn (other r) v NegativeConfirmation n ≡ ok w) × Partners r send w)
+denied-moves r f n v p = (receive, (rw (owed-partner r v f n p, eq-eqb n n refl), partners r (refl, refl)))
+
+-- an error header finds the partner of an end in Send receiving, and leaves it so
+pub error-moves :
+    (r : Role) (p : Bool) (n : ℕ) (v : Floor) → Partners r send v
+    → (w : Floor) × ((floorOn (other r) v (ErrorDescription p) n ≡ ok w) × Partners r send w)
+error-moves FirstSpeaker p n v e = (receive, (rw e, refl))
+error-moves Bidder p n v e = (receive, (rw (sends-to v e), refl))
 
 -- the floor after `confirmed`, by its state
 pub confirmed-floor :

@@ -1,15 +1,16 @@
 -- The order of a conversation at two joined ends: floors and bids fit, whatever is still under way.
 -- Assumes nothing.
-use Rattle.joined.proofs.JoinedWords.{ℕ, eqb, Bool, true, cond, _&&_, List, [], _∷_, _≡_, refl, sym, ap, _∙_, subst, on, left, beginsBracket, DataHeader}
+use Rattle.joined.proofs.JoinedWords.{ℕ, eqb, Bool, true, false, cond, _&&_, List, [], _∷_, _≡_, refl, sym, ap, _∙_, subst, on, left, beginsBracket, DataHeader}
 use Rattle.joined.proofs.JoinedWords.{Header, numberIn, confirmationFits, isBidder, isReset, isReceive, isConfirmAwaited, isNothing, holdsSend, Role}
 use Rattle.joined.proofs.JoinedWords.{FirstSpeaker}
 use Rattle.joined.proofs.JoinedWords.{Bidder, State, markOf, headerReceived, End, freshEnd}
-use Rattle.header.specs.declared.Header.the-variants.{Data, Bid, PositiveBidResponse, NegativeBidResponse, Confirmation}
+use Rattle.header.specs.declared.Header.the-variants.{Data, Bid, ErrorDescription, PositiveBidResponse, NegativeBidResponse, Confirmation}
+use Rattle.header.specs.declared.Header.the-variants.{NegativeConfirmation}
 use Rattle.control.specs.Questions.{bracketFits, bidFits, stateFits, positiveResponseFits, negativeResponseFits}
 use Rattle.joined.proofs.LineAutomaton.{ok, stuck}
 use Rattle.control.proofs.DataFits.{data-fits}
 use Rattle.joined.proofs.TwoLines.{other, other-other, led-nowhere, led-flip, led-as, led-goes, led-settled}
-use Rattle.joined.proofs.Floor.{Floor, sendBB, send, afterMarkFloor, floorAt, floorOf, isResetFloor, awaitsConfirmation, dataMoves}
+use Rattle.joined.proofs.Floor.{Floor, sendBB, send, receive, afterMarkFloor, floorAt, floorOf, isResetFloor, awaitsConfirmation, dataMoves}
 use Rattle.joined.proofs.Floor.{positiveResponseMoves, confirmedFloor, Floors, quiet-sending, not-both-send, isReceiveFloor, unmarked-floor}
 use Rattle.joined.proofs.Floor.{holding-floor}
 use Rattle.joined.proofs.Bids.{Pending, none, some, bidOf, bidMoves, answerMoves, bidOn, Bids, bid-speaker, answer-flag}
@@ -69,6 +70,13 @@ module _ {r : Role} {e f : End} {u : List ℕ} {line back : List (List ℕ)} (i 
       → (awaitsConfirmation (floorOf e) (numberIn u) ≡ true) × Floors r (confirmedFloor (floorOf e)) (floorOf f) line back
   confirmation-moves h = led-goes (awaitsConfirmation (floorOf e) (numberIn u)) (confirmedFloor (floorOf e)) h refl (i .floors)
 
+  pub error-moves : (b : Bool) → headerReceived u ≡ ErrorDescription b → (isReceiveFloor (floorOf e) ≡ true) × Floors r receive (floorOf f) line back
+  error-moves b h = led-goes (isReceiveFloor (floorOf e)) receive h refl (i .floors)
+
+  pub denial-moves :
+      headerReceived u ≡ NegativeConfirmation → (awaitsConfirmation (floorOf e) (numberIn u) ≡ true) × Floors r receive (floorOf f) line back
+  denial-moves h = led-goes (awaitsConfirmation (floorOf e) (numberIn u)) receive h refl (i .floors)
+
   -- what the floor tells of the state, no mark standing
   unmarked : isNothing (e .control .mark) ≡ true
       → (isResetFloor (floorOf e) ≡ isReset (e .control .state)) × (isReceiveFloor (floorOf e) ≡ isReceive (e .control .state))
@@ -94,6 +102,17 @@ module _ {r : Role} {e f : End} {u : List ℕ} {line back : List (List ℕ)} (i 
       let x = unmarked m in
       data-fits (c .role) (c .state) (beginsBracket (d .begins)) (rw (i .role, ← x .0, ← x .1) (data-moves d h .0))
 
+  pub error-receives : (b : Bool) → isNothing (e .control .mark) ≡ true → headerReceived u ≡ ErrorDescription b → isReceive (e .control .state) ≡ true
+  error-receives b m h = sym (unmarked m .1) ∙ error-moves b h .0
+
+  -- 25 and 26, of an error header
+  pub order-fits-error :
+      (b : Bool) → isNothing (e .control .mark) ≡ true → headerReceived u ≡ ErrorDescription b
+      → (bracketFits false (e .control) ≡ true) × (stateFits false (e .control) ≡ true)
+  order-fits-error b m h =
+      let c = e .control in
+      data-fits (c .role) (c .state) false (error-receives b m h)
+
   -- 25, of a bid
   pub order-fits-bid : (b : Bool) → headerReceived u ≡ Bid b → bidFits (e .control) ≡ true
   order-fits-bid b h = rw (i .role) (bid-speaker r (bidOf e) (bid-moves b h .0))
@@ -111,6 +130,11 @@ module _ {r : Role} {e f : End} {u : List ℕ} {line back : List (List ℕ)} (i 
   pub order-fits-confirmation :
       isNothing (e .control .mark) ≡ true → headerReceived u ≡ Confirmation → confirmationFits (e .control) && eqb (numberIn u) (e .sending .number) ≡ true
   order-fits-confirmation m h = sym (unmarked m .2) ∙ confirmation-moves h .0
+
+  pub order-fits-denial :
+      isNothing (e .control .mark) ≡ true → headerReceived u ≡ NegativeConfirmation
+      → confirmationFits (e .control) && eqb (numberIn u) (e .sending .number) ≡ true
+  order-fits-denial m h = sym (unmarked m .2) ∙ denial-moves h .0
 
 -- ---- never both in send state
 

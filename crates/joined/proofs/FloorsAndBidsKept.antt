@@ -4,13 +4,16 @@ use Rattle.joined.proofs.JoinedWords.{ℕ, eq-eqb, eqb, Bool, true, fal
 use Rattle.joined.proofs.JoinedWords.{left, or-right, beginsBracket, ChainEnd, Continues, Last, Follows, Header, fixedRu, bidRu, unitOf, numberIn, paced}
 use Rattle.joined.proofs.JoinedWords.{confirmationFits, isFirstSpeaker, isBidder, isReset, isReceive, isNothing, holdsSend, Control, Role, FirstSpeaker}
 use Rattle.joined.proofs.JoinedWords.{Bidder, WhatReceived, send-is, sending-holds, closing, deferred, withdrawn, defer-cases, withdraw-cases}
-use Rattle.joined.proofs.JoinedWords.{afterLast, afterOwed, markOf, beginOf, closed, spilled, confirmationMade}
+use Rattle.joined.proofs.JoinedWords.{afterLast, afterOwed, markOf, beginOf, closed, spilled, confirmationMade, confirmationDenied, errorMade}
+use Rattle.joined.proofs.JoinedWords.{errorReceived, negativeConfirmationReceived, errorMarked, send-error-cases, sentEnd, errorRu, negativeConfirmationRu}
+use Rattle.joined.proofs.JoinedWords.{sending-clear}
 use Rattle.joined.proofs.JoinedWords.{dataReceived, requestReceived, requestMade, nextNumber, bidMade, lastMade, bytesRead, headerReceived, ruReceived}
 use Rattle.joined.proofs.JoinedWords.{dataJoined, bidAnswered, creditRaised, recordGood, dataHeader, heldBytes, bytesKept, bytesSpilled, End, facts}
 use Rattle.joined.proofs.JoinedWords.{Station, Reply, Verb, allocate-cases, bidNumber, close-cases, confirmed-cases, pacing-response-cases, read-cases}
 use Rattle.joined.proofs.JoinedWords.{send-cases, spilledRu, TakeAsked, Lane, normal, acts, takes, Acted, Took}
 use Rattle.unit.specs.Ru.{positiveRu, negativeRu}
-use Rattle.header.specs.declared.Header.the-variants.{Data, Bid, PositiveBidResponse, NegativeBidResponse, Confirmation, PacingResponse}
+use Rattle.header.specs.declared.Header.the-variants.{Data, Bid, ErrorDescription, PositiveBidResponse, NegativeBidResponse, Confirmation}
+use Rattle.header.specs.declared.Header.the-variants.{NegativeConfirmation, PacingResponse}
 use Rattle.control.specs.Questions.{mayAllocate}
 use Rattle.control.specs.FieldChanged.{setState, setBid, setMark}
 use Rattle.transitions.specs.Transitions.{allocated, afterMark, markAnswered, bidReceived, positiveResponseReceived, negativeResponseReceived}
@@ -23,16 +26,17 @@ use Rattle.joined.proofs.LineAutomaton.{ok, goes}
 use Rattle.bools.proofs.Tests.{right, not-true}
 use Rattle.control.proofs.States.{state-is, nothing-is, bidder-not-first, holding-not-receive, in-defer}
 use Rattle.transitions.proofs.KeptWithin.{deferred-defers}
-use Rattle.control.proofs.Within.{due-outside-send, due-at-bidder, unmarked-outside-receive}
+use Rattle.control.proofs.Within.{due-outside-send, due-at-bidder, error-in-send, unmarked-outside-receive}
 use Rattle.joined.proofs.TwoLines.{other, led-as, led-past, led-took, led-moved, led-still}
 use Rattle.joined.proofs.Floor.{Floor, reset, sendBB, send, receive, afterMarkFloor, floorAt, floorOf, isResetFloor, dataMoves, afterAwaitedFloor}
 use Rattle.joined.proofs.Floor.{confirmedFloor, Floors, sentFloor, quiet-sending, sent-moves, sent-partners, afterOwedFloor, confirmed-moves}
-use Rattle.joined.proofs.Floor.{confirmed-floor, last-floor, mark-floor}
+use Rattle.joined.proofs.Floor.{confirmed-floor, last-floor, mark-floor, denied-moves, error-moves}
 use Rattle.joined.proofs.Bids.{Pending, none, some, bidAt, bidOf, bidMoves, bidOn, Bids, bids-moved, bid-speaker, bid-off}
 use Rattle.calls.proofs.CallCases.{kind-cases, tookKind}
 use Rattle.joined.proofs.CallsOnLanes.{Laned, LanedTake}
 use Rattle.joined.proofs.FloorsAndBids.{Order, floor-in, floor-holding, data-moves, bid-moves, positive-response-moves, bid-answered, confirmation-moves}
 use Rattle.joined.proofs.FloorsAndBids.{order-fits-confirmation}
+use Rattle.joined.proofs.FloorsAndBids as taken
 
 -- an end after a call, its role and its partner as they were
 order-with : {r : Role} {e e′ f : End} {line line′ back back′ : List (List ℕ)} → e′ .control .role ≡ e .control .role
@@ -66,15 +70,16 @@ bid-bids Bidder n k b ru s i = bids-moved n (Bid b) ru (some n) refl refl i
 -- ---- a mark is read: the floor has counted it already
 
 mark-read :
-    (c : Control) (m : WhatReceived) (owed sent : ℕ) → not (isNothing m) ≡ true → c .due ≡ false
+    (c : Control) (m : WhatReceived) (owed sent : ℕ) → not (isNothing m) ≡ true → c .due ≡ false → c .state ≡ Receive
     → let k = setMark mark.Nothing (afterMark m c) in
     (floorAt (k .state) (k .due) (k .follows) (k .mark) owed sent ≡ afterMarkFloor m owed) × (k .role ≡ c .role) × (k .bid ≡ c .bid)
-mark-read c mark.Nothing owed sent n d = never n
-mark-read c mark.Turn owed sent n d = (rw d, refl, refl)
-mark-read c mark.End owed sent n d = (refl, refl, refl)
-mark-read c mark.Confirm owed sent n d = (refl, refl, refl)
-mark-read c mark.ConfirmTurn owed sent n d = (refl, refl, refl)
-mark-read c mark.ConfirmEnd owed sent n d = (refl, refl, refl)
+mark-read c mark.Nothing owed sent n d p = never n
+mark-read c mark.Turn owed sent n d p = (rw d, refl, refl)
+mark-read c mark.End owed sent n d p = (refl, refl, refl)
+mark-read c mark.Confirm owed sent n d p = (refl, refl, refl)
+mark-read c mark.ConfirmTurn owed sent n d p = (refl, refl, refl)
+mark-read c mark.ConfirmEnd owed sent n d p = (refl, refl, refl)
+mark-read c mark.Error owed sent n d p = (rw p, refl, refl)
 
 -- ---- the finite part and the number sent after a last unit
 
@@ -150,8 +155,28 @@ module _ (r : Role) (s : Station) (f : End) (line back : List (List ℕ)) (i : O
       let e = s .end in
       order-same (floor-holding (withControl c e) h ∙ ap (λ (x : Bool). cond x sendBB send) p ∙ sym (floor-holding e g)) (same-bid e c q b) q i
 
+  -- the error header goes, and the floor is that of Send before and after
+  erred : recordGood (s .end) ≡ true → s .end .control .error ≡ true
+      → (let e = s .end in
+      Order r (sentEnd e (errorMade (e .control))) f
+      (line ++ (unitOf (nextNumber (e .sending .number)) (ErrorDescription (paced (e .sending .window))) errorRu ∷ [])) back)
+  unfolding errorMade requestMade
+  erred g y =
+      let e = s .end in
+      let c = e .control in
+      let n = nextNumber (e .sending .number) in
+      let h = ErrorDescription (paced (e .sending .window)) in
+      let p = error-in-send c (facts e g .control) y in
+      let q = send-is (c .state) (p .0) in
+      let e′ = sentEnd e (errorMade c) in
+      order-with refl
+      (led-as (ap (λ (x : Bool). cond x sendBB send) (sym (p .1)) ∙ sym (floor-in e′ Send q))
+      (led-moved n h errorRu send refl (error-moves r (paced (e .sending .window)) n)
+      (led-as (floor-in e Send q ∙ ap (λ (x : Bool). cond x sendBB send) (p .1)) (i .floors))))
+      (led-past n h errorRu (λ v. refl) (i .bids)) i
+
   pub order-acts : (v : Verb) → After (acts s v)
-  unfolding acts bytesKept bytesSpilled spilled lastMade requestMade confirmationMade bytesRead markAnswered deferred withdrawn
+  unfolding acts bytesKept bytesSpilled spilled requestMade confirmationMade confirmationDenied bytesRead markAnswered deferred withdrawn
   order-acts Verb.allocate =
       allocate-cases (Laned After) s (λ q n. rw append-nil i) (λ g a w. rw append-nil (spoke g a w)) (λ g a w k. bid a w)
   order-acts Verb.confirmed =
@@ -169,6 +194,17 @@ module _ (r : Role) (s : Station) (f : End) (line back : List (List ℕ)) (i : O
       (led-moved (e .owed) Confirmation [] (afterOwedFloor (c .follows)) refl (confirmed-moves r (c .follows) (e .owed))
       (led-as (floor-in e ConfirmOwed p) (i .floors))))
       (led-past (e .owed) Confirmation [] (λ v. refl) (i .bids)) i)
+  order-acts Verb.sendError =
+      send-error-cases (Laned After) s (λ q n. rw append-nil i)
+      (λ g a.
+      let e = s .end in
+      let c = e .control in
+      let p = state-is (c .state) .2 a in
+      order-with refl
+      (led-as (ap (λ (b : Bool). cond b sendBB send) (sym (due-outside-send c (facts e g .control) (rw p))))
+      (led-moved (e .owed) NegativeConfirmation negativeConfirmationRu send refl (denied-moves r (c .follows) (e .owed))
+      (led-as (floor-in e ConfirmOwed p) (i .floors))))
+      (led-past (e .owed) NegativeConfirmation negativeConfirmationRu (λ v. refl) (i .bids)) i)
   order-acts Verb.sendPacingResponse =
       pacing-response-cases (Laned After) s (λ q n. rw append-nil i)
       (λ g a. order-with refl (led-past 0 PacingResponse [] (λ v. refl) (i .floors)) (led-past 0 PacingResponse [] (λ v. refl) (i .bids)) i)
@@ -176,23 +212,24 @@ module _ (r : Role) (s : Station) (f : End) (line back : List (List ℕ)) (i : O
       send-cases (Laned After) s bytes (λ q n. rw append-nil i) (λ a k. rw append-nil (order-same refl refl refl i))
       (λ a k h.
       sent (bytesSpilled (s .end) bytes (s .send) .end) Continues (nextNumber (s .end .sending .number)) (spilledRu s bytes) (a .good)
-      (sending-holds (s .end .control .state) (a .sending))
-      (floor-in (bytesSpilled (s .end) bytes (s .send) .end) Send (send-is (s .end .control .state) (a .sending))) refl refl)
+      (sending-holds (s .end .control .state) (sending-clear (s .end .control) (a .sending) .0))
+      (floor-in (bytesSpilled (s .end) bytes (s .send) .end) Send (send-is (s .end .control .state) (sending-clear (s .end .control) (a .sending) .0))) refl refl)
   order-acts (Verb.close x c) =
-      close-cases (Laned After) s x c (λ q n. rw append-nil i) (λ a n. rw append-nil i)
+      close-cases (Laned After) s x c (λ q n. rw append-nil i) (λ a n. rw append-nil i) (λ a y k. erred (a .good) y)
       (λ a n k.
       let e = s .end in
       let y = closing e x in
       let m = nextNumber (e .sending .number) in
       let u = unmarked-outside-receive (e .control) (facts e (a .good) .control) (holding-not-receive (e .control .state) (a .holding)) in
       let q = last-control (e .control) y c (e .owed) m u in
-      sent (lastMade e y c (s .send) .end) (Last y c) m (heldBytes e (s .send)) (a .good) (a .holding) (q .0)
+      sent (sentEnd e (closed y c (e .control))) (Last y c) m (heldBytes e (s .send)) (a .good) (a .holding) (q .0)
       (same-bid e (closed y c (e .control)) (q .1) (q .2)) (q .1))
   order-acts (Verb.defer d) =
       defer-cases (Laned After) s d (λ q n. rw append-nil i)
       (λ a.
       let c = s .end .control in
-      rw append-nil (held (deferred d c) refl refl refl (in-defer (deferred d c .state) (deferred-defers d c) .holds) (sending-holds (c .state) (a .sending))))
+      rw append-nil (held (deferred d c) refl refl refl (in-defer (deferred d c .state) (deferred-defers d c) .holds)
+      (sending-holds (c .state) (sending-clear c (a .sending) .0))))
   order-acts Verb.withdraw =
       withdraw-cases (Laned After) s (λ q n. rw append-nil i)
       (λ g a. rw append-nil (held (withdrawn (s .end .control)) refl refl refl refl (in-defer (s .end .control .state) a .holds)))
@@ -202,7 +239,7 @@ module _ (r : Role) (s : Station) (f : End) (line back : List (List ℕ)) (i : O
       let e = s .end in
       let c = e .control in
       let p = state-is (c .state) .1 (or-right (isNothing (c .mark)) (isReceive (c .state)) (facts e (a .good) .control .mark) (not-true _ m)) in
-      let k = mark-read c (c .mark) (e .owed) (e .sending .number) m (due-outside-send c (facts e (a .good) .control) (rw p)) in
+      let k = mark-read c (c .mark) (e .owed) (e .sending .number) m (due-outside-send c (facts e (a .good) .control) (rw p)) p in
       rw append-nil (order-same (k .0 ∙ sym (floor-in e Receive p)) (same-bid e (markAnswered c) (k .1) (k .2)) (k .1) i))
 
 -- ---- takes
@@ -251,7 +288,7 @@ module _ (r : Role) (s : Station) (f : End) (u : List ℕ) (line back : List (Li
       (answered-bids r (bidOf e) n NegativeBidResponse negativeRu (goes (eqb n n) none (eq-eqb n n refl)) (bid-moves i b h)) i
 
   took-kind : (h : Header) → headerReceived u ≡ h → TakeAsked s u → LanedTake Left (tookKind s h (numberIn u) (ruReceived u))
-  unfolding dataJoined dataReceived bidAnswered bidReceived creditRaised positiveResponseReceived negativeResponseReceived confirmationReceived
+  unfolding dataJoined dataReceived errorMarked errorReceived bidAnswered bidReceived creditRaised positiveResponseReceived negativeResponseReceived confirmationReceived negativeConfirmationReceived
   took-kind (Data d) h a =
       let e = s .end in
       rw append-nil
@@ -259,6 +296,12 @@ module _ (r : Role) (s : Station) (f : End) (u : List ℕ) (line back : List (Li
   took-kind (Bid b) h a =
       let e = s .end in
       took-bid (isReset (e .control .state)) b (requestReceived (e .receiving .held) (e .receiving .taken) (e .receiving)) refl (a .unmarked) h
+  took-kind (ErrorDescription b) h a =
+      let e = s .end in
+      let c = e .control in
+      let p = state-is (c .state) .1 (taken.error-receives i b (a .unmarked) h) in
+      rw append-nil
+      (order-with refl (led-as (sym (floor-in (errorMarked e .end) Receive p)) (taken.error-moves i b h .1)) (led-took (bidOf e) h refl (i .bids)) i)
   took-kind PositiveBidResponse h a =
       let e = s .end in
       let p = positive-response-moves i h in
@@ -282,6 +325,11 @@ module _ (r : Role) (s : Station) (f : End) (u : List ℕ) (line back : List (Li
       ∙ last-floor (c .follows) (c .follows) (c .mark) (e .owed) (e .sending .number) (unmarked-outside-receive c k (rw p)) in
       rw append-nil
       (order-with refl (led-as (ap confirmedFloor (floor-in e ConfirmAwaited p) ∙ sym after) (confirmation-moves i h .1))
+      (led-took (bidOf e) h refl (i .bids)) i)
+  took-kind NegativeConfirmation h a =
+      let e = s .end in
+      rw append-nil
+      (order-with refl (led-as (ap (λ (m : WhatReceived). afterMarkFloor m (e .owed)) (sym (nothing-is (e .control .mark) (a .unmarked)))) (taken.denial-moves i h .1))
       (led-took (bidOf e) h refl (i .bids)) i)
   took-kind PacingResponse h a =
       rw append-nil (order-with refl (led-took (floorOf (s .end)) h refl (i .floors)) (led-took (bidOf (s .end)) h refl (i .bids)) i)

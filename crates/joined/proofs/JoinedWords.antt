@@ -20,27 +20,28 @@ pub use Rattle.header.specs.{declared.ChainBegin.the-variants.First, declared.C
 pub use Rattle.header.specs.{declared.ChainEnd.the-variants.Continues, declared.ChainEnd.the-variants.Last, declared.DataHeader.DataHeader}
 pub use Rattle.header.specs.{declared.Follows.Follows, declared.Follows.the-variants.Stay, declared.Follows.the-variants.ChangeDirection}
 pub use Rattle.header.specs.{declared.Follows.the-variants.EndBracket, declared.Header.Header}
-pub use Rattle.unit.specs.{Ru.marks, Ru.fixedRu, Ru.bidRu, Unit.RU-START, Unit.unitOf, Unit.numberIn, Unit.headerIn, Sequence.nextNumber}
+pub use Rattle.unit.specs.{Ru.marks, Ru.fixedRu, Ru.bidRu, Ru.errorRu, Ru.negativeConfirmationRu, Unit.RU-START, Unit.unitOf, Unit.numberIn, Unit.headerIn, Sequence.nextNumber}
 unfoldable pub use Rattle.unit.specs.{Ru.ruGood}
 pub use Rattle.unit.proofs.{UnitLaws.unit-number}
 pub use Rattle.pacing.specs.{Pacing.hasCredit, Pacing.paced}
 unfoldable pub use Rattle.pacing.specs.{Pacing.advanced, Pacing.answered, Pacing.credit}
-pub use Rattle.control.specs.{Questions.confirmationFits, StateTests.agree, StateTests.isFirstSpeaker, StateTests.isBidder, StateTests.isReset}
+pub use Rattle.control.specs.{Questions.confirmationFits, Questions.maySend, StateTests.agree, StateTests.isFirstSpeaker, StateTests.isBidder, StateTests.isReset}
 pub use Rattle.control.specs.{StateTests.isReceive, StateTests.isConfirmAwaited, StateTests.isNothing, StateTests.isSend, StateTests.holdsSend}
 pub use Rattle.control.specs.{declared.Control.Control}
 pub use Rattle.control.specs.{declared.Role.Role, declared.Role.the-variants.FirstSpeaker, declared.Role.the-variants.Bidder, declared.State.State}
 pub use Rattle.control.specs.{declared.WhatReceived.WhatReceived}
-pub use Rattle.control.proofs.{States.send-is, States.sending-holds}
+pub use Rattle.control.proofs.{States.send-is, States.sending-holds, States.sending-clear}
 pub use Rattle.transitions.specs.{Transitions.bidAnswer, Transitions.afterLast, Transitions.afterOwed, Transitions.markOf, Transitions.beginOf}
 unfoldable pub use Rattle.transitions.specs.{Transitions.closed, Transitions.spilled, Transitions.confirmationMade, Transitions.dataReceived}
-unfoldable pub use Rattle.transitions.specs.{Transitions.deferred, Transitions.withdrawn}
+unfoldable pub use Rattle.transitions.specs.{Transitions.deferred, Transitions.withdrawn, Transitions.confirmationDenied, Transitions.errorMade}
+unfoldable pub use Rattle.transitions.specs.{Transitions.errorReceived, Transitions.negativeConfirmationReceived}
 pub use Rattle.answers.specs.{Answers.readRefused, Answers.accepted}
 unfoldable pub use Rattle.receiving.specs.{Receiving.requestReceived}
 pub use Rattle.receiving.specs.{BytesRead.restBytes}
 unfoldable pub use Rattle.sending.specs.{Sending.requestMade}
 pub use Rattle.session.specs.{declared.Session.Session, Opening.freshEnd}
 unfoldable pub use Rattle.end.specs.{Allocate.bidMade, Close.lastMade, Receive.bytesRead, Receive.copyCount, ReceiveUnit.dataJoined}
-unfoldable pub use Rattle.end.specs.{ReceiveUnit.bidAnswered, ReceiveUnit.creditRaised, ReceiveUnit.receiveUnitRefusal, Requests.dataHeader}
+unfoldable pub use Rattle.end.specs.{ReceiveUnit.bidAnswered, ReceiveUnit.errorMarked, ReceiveUnit.creditRaised, ReceiveUnit.receiveUnitRefusal, Requests.dataHeader}
 unfoldable pub use Rattle.end.specs.{SendData.bytesKept, SendData.bytesSpilled}
 pub use Rattle.end.specs.{Close.closing, Receive.recordRest, ReceiveUnit.headerReceived, ReceiveUnit.ruReceived, ReceiveUnit.ruleNamed, Record.recordGood}
 pub use Rattle.end.specs.{SendData.heldBytes}
@@ -49,7 +50,7 @@ pub use Rattle.end.proofs.{RecordGood.facts}
 pub use Rattle.calls.specs.{Calls.Station, Calls.Reply, Calls.Verb, UnitCounts.count, UnitCounts.isPacingResponse}
 unfoldable pub use Rattle.calls.specs.{UnitCounts.requestsAmong}
 pub use Rattle.calls.proofs.{CallCases.allocate-cases, CallCases.bidNumber, CallCases.close-cases, CallCases.confirmed-cases}
-pub use Rattle.calls.proofs.{CallCases.defer-cases, CallCases.withdraw-cases}
+pub use Rattle.calls.proofs.{CallCases.defer-cases, CallCases.withdraw-cases, CallCases.send-error-cases, CallCases.sentEnd}
 pub use Rattle.calls.proofs.{CallCases.pacing-response-cases, CallCases.read-cases, CallCases.send-cases, CallCases.spilledRu, CallCases.take-cases}
 pub use Rattle.calls.proofs.{CallCases.ReadAsked, CallCases.SendAsked, CallCases.readCount, CallCases.spilledUnit, CallCases.control-within}
 pub use Rattle.calls.proofs.{CallCases.TakeAsked, ControlMoved.allocate-moves, ControlMoved.mark-moves, RecordStaysGood.opened-is, UnitsByHeader.Sort}

@@ -19,3 +19,6 @@ pub mod NoBreach
 pub mod OneEndKept
 pub mod ClaimProved
 pub mod AlwaysGood
+pub mod Announced
+pub mod AnnouncedKept
+pub mod DenialsProved

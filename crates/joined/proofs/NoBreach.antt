@@ -3,7 +3,8 @@
 use Rattle.joined.proofs.JoinedWords.{ℕ, eqb, leb, length, Bool, true, false, not, _&&_, List, _∷_, _≡_, refl, ap, _∙_, left, both, isFirst, headerGood}
 use Rattle.joined.proofs.JoinedWords.{Header, ruGood, RU-START, numberIn, headerIn, hasCredit, paced, agree, isNothing, Role, nextNumber, headerReceived}
 use Rattle.joined.proofs.JoinedWords.{ruReceived, receiveUnitRefusal, recordGood, facts, Station, sortOf, isPacing, bitOf, isBreach}
-use Rattle.header.specs.declared.Header.the-variants.{Data, Bid, PositiveBidResponse, NegativeBidResponse, Confirmation, PacingResponse}
+use Rattle.header.specs.declared.Header.the-variants.{Data, Bid, ErrorDescription, PositiveBidResponse, NegativeBidResponse, Confirmation}
+use Rattle.header.specs.declared.Header.the-variants.{NegativeConfirmation, PacingResponse}
 use Rattle.answers.specs.FirstNo.{firstNo}
 use Rattle.end.specs.Record.{inboxLent, unitLent}
 use Rattle.receiving.specs.Receiving.{pacingFits}
@@ -11,7 +12,8 @@ use Rattle.end.specs.ReceiveUnit.{kindQuestions}
 use Rattle.bools.proofs.Tests.{join}
 use Rattle.pacing.proofs.Windows.{credit-there}
 use Rattle.joined.proofs.FloorsAndBids.{Order, order-fits-data, order-fits-bid, order-fits-positive-response, order-fits-negative-response}
-use Rattle.joined.proofs.FloorsAndBids.{order-fits-confirmation}
+use Rattle.joined.proofs.FloorsAndBids.{order-fits-confirmation, order-fits-denial, order-fits-error}
+use Rattle.joined.proofs.JoinedWords.{isWhole}
 use Rattle.control.proofs.Agree.{agrees}
 use Rattle.joined.proofs.PacingFlags.{paces-owed, paces-unanswered}
 use Rattle.joined.proofs.PacingFlagsKept.{PacesOf}
@@ -50,11 +52,22 @@ module _ (r : Role) (s f : Station) (o : Outside) (u : List ℕ) (line back : Li
       let t1 = both (agree p (eqb (r .window .position) 0)) _ (t0 .1) in
       let t2 = both (eqb n (nextNumber (r .number))) (agree true (not (s .end .control .inchain))) (t1 .1) in
       rw (t0 .0, pacing-yes p (ap (λ (h : Header). bitOf (sortOf h)) e) g (t1 .0), t2 .0, t2 .1, order-fits-bid order p e)
+  kind-yes (ErrorDescription p) e g m t =
+      let r = s .end .receiving in
+      let n = numberIn u in
+      let t0 = both (ruGood (r .max) (ErrorDescription p) (ruReceived u)) _ t in
+      let t1 = both (agree p (eqb (r .window .position) 0)) _ (t0 .1) in
+      let t2 = both (eqb n (nextNumber (r .number))) _ (t1 .1) in
+      let t3 = both (agree true (not (s .end .control .inchain))) (isWhole (r .taken)) (t2 .1) in
+      let fit = order-fits-error order p m e in
+      rw (t0 .0, pacing-yes p (ap (λ (h : Header). bitOf (sortOf h)) e) g (t1 .0), t2 .0, t3 .0, fit .0, fit .1, t3 .1)
   kind-yes PositiveBidResponse e g m t =
       rw (left (ruGood (s .end .receiving .max) PositiveBidResponse (ruReceived u)) true t, order-fits-positive-response order m e)
   kind-yes NegativeBidResponse e g m t =
       rw (left (ruGood (s .end .receiving .max) NegativeBidResponse (ruReceived u)) true t, order-fits-negative-response order e)
   kind-yes Confirmation e g m t = rw (left (ruGood (s .end .receiving .max) Confirmation (ruReceived u)) true t, order-fits-confirmation order m e)
+  kind-yes NegativeConfirmation e g m t =
+      rw (left (ruGood (s .end .receiving .max) NegativeConfirmation (ruReceived u)) true t, order-fits-denial order m e)
   kind-yes PacingResponse e g m t =
       let t0 = both (ruGood (s .end .receiving .max) PacingResponse (ruReceived u)) (eqb (numberIn u) 0) t in
       rw (t0 .0, paces-unanswered flags (ap (λ (h : Header). isPacing (sortOf h)) e), t0 .1)

@@ -2,7 +2,7 @@
 -- Assumes nothing.
 use Rattle.joined.proofs.JoinedWords.{ℕ, _+_, _*_, _≤_, _<_, eqb, take, Bool, true, false, _&&_, List, [], _∷_, _++_, append-nil, _≡_, refl, sym, ap}
 use Rattle.joined.proofs.JoinedWords.{_∙_, arith, isWhole, ended, thenWalk, walk, Position, Walked, walk-append, walk-prefix, Through, same-position}
-use Rattle.joined.proofs.JoinedWords.{credit, isSend, WhatReceived, readRefused, accepted, Station, Reply, Verb, count, isPacingResponse}
+use Rattle.joined.proofs.JoinedWords.{credit, maySend, WhatReceived, readRefused, accepted, Station, Reply, Verb, count, isPacingResponse}
 use Rattle.joined.proofs.JoinedWords.{requestsAmong, Lane, normal, onNormal, Log, bytesAccepted, bytesInInbox, requestsMade, pacingResponsesTaken}
 use Rattle.joined.proofs.JoinedWords.{breaches, badReads, CompleteIsRight, MoreIsRight, NoneCrosses, isBreach, took, acted, Lines}
 use native.Mathlib.Nat.{zero-add}
@@ -32,7 +32,7 @@ pub record Values : Type 0 where
 abbrev pub valuesOf : Station → Values
 valuesOf s =
     record {
-      sends = isSend (s .end .control .state);
+      sends = maySend (s .end .control);
       given = s .end .sending .given;
       credit = credit (s .end .sending .window);
       inner =
@@ -91,6 +91,7 @@ local-act {v} {xs} verb a m buffer us w l g h r c b =
 refused-gives : (verb : Verb) (q : ℕ) → eqb q 0 ≡ false → given verb q ≡ []
 refused-gives Verb.allocate q e = refl
 refused-gives Verb.confirmed q e = refl
+refused-gives Verb.sendError q e = refl
 refused-gives Verb.sendPacingResponse q e = refl
 refused-gives Verb.withdraw q e = refl
 refused-gives (Verb.sendData bytes) q e = rw e

@@ -4,7 +4,7 @@ use Rattle.joined.proofs.JoinedWords.{ℕ, _+_, _*_, _≤_, _<_, eqb, l
 use Rattle.joined.proofs.JoinedWords.{refl, sym, ap, _∙_, arith, front, ended, thenWalk, walk, placeOr, Position, Walked, walk-append, walk-prefix}
 use Rattle.joined.proofs.JoinedWords.{Through, Continues, Last, Follows, fixedRu, bidRu, RU-START, unitOf, numberIn, paced, advanced, answered, credit}
 use Rattle.joined.proofs.JoinedWords.{bidAnswer, spilled, dataReceived, readRefused, accepted, requestReceived, requestMade, nextNumber, restBytes}
-use Rattle.joined.proofs.JoinedWords.{bidMade, lastMade, closing, deferred, withdrawn, defer-cases, withdraw-cases, bytesRead, recordRest, copyCount}
+use Rattle.joined.proofs.JoinedWords.{bidMade, closing, deferred, withdrawn, defer-cases, withdraw-cases, bytesRead, recordRest, copyCount}
 use Rattle.joined.proofs.JoinedWords.{headerReceived, ruReceived, ruleNamed, dataJoined, bidAnswered}
 use Rattle.joined.proofs.JoinedWords.{creditRaised, receiveUnitRefusal, dataHeader, heldBytes, bytesKept, bytesSpilled, facts, Station, Reply, Verb}
 use Rattle.joined.proofs.JoinedWords.{count, isPacingResponse, requestsAmong, allocate-cases, bidNumber, close-cases, confirmed-cases}
@@ -17,16 +17,19 @@ use Rattle.logical_record.proofs.Rests.{rest-some, rest-walks, rest-inside, Res
 use Rattle.logical_record.specs.declared.Walked.the-variants.{At, BadLength}
 use Rattle.logical_record.specs.declared.Rest.{Rest}
 use Rattle.logical_record.specs.declared.Rest.the-variants as restIs
-use Rattle.header.specs.declared.Header.the-variants.{Bid, Confirmation, PacingResponse}
+use Rattle.header.specs.declared.Header.the-variants.{Bid, ErrorDescription, Confirmation, NegativeConfirmation, PacingResponse}
+use Rattle.joined.proofs.JoinedWords.{confirmationDenied, errorMade, errorMarked, send-error-cases, sentEnd, errorRu, negativeConfirmationRu, maySend}
 use Rattle.control.specs.declared.WhatReceived.the-variants as mark
-use Rattle.control.proofs.States.{not-holding}
+use Rattle.control.proofs.States.{not-holding, in-defer}
+use mathlib.Core.Bool.{and-false}
+use Rattle.joined.proofs.JoinedWords.{isSend}
 use Rattle.end.specs.Receive.{someHeld, receiveQuestions, receiveRefusal, markRead}
 use Rattle.receiving.specs.BytesRead.{restGood}
 use Rattle.joined.specs.Histories as H
 use mathlib.Core.Bool.{true≢false as never}
 use Rattle.calls.proofs.Credit.{data-asks, none-made, once, other-made, request-made}
 use Rattle.calls.proofs.Refusals.{not-first}
-use Rattle.calls.proofs.ControlMoved.{confirmed-moves}
+use Rattle.calls.proofs.ControlMoved.{confirmed-moves, denied-moves}
 use Rattle.calls.proofs.UnitsByHeader.{pacing-taken}
 use Rattle.joined.proofs.CallsOnLanes.{Laned, LanedTake}
 use Rattle.pacing.proofs.Windows.{response-raises}
@@ -49,18 +52,23 @@ module _ (s : Station) (xs : Log) (l : Local (valuesOf s) xs) where
   refuses v b q n = local-refused v q [] n (b q) l
 
   closes : (f : Follows) (c : Bool) → After (Verb.close f c) (acts s (Verb.close f c))
-  unfolding acts lastMade requestMade advanced
+  unfolding acts requestMade advanced errorMade
   closes f c =
       let v = Verb.close f c in
       let x = closing (s .end) f in
       close-cases (Laned (After v)) s f c (refuses v (λ q. refl))
       (λ a n. local-act v (accepted 0) mark.Nothing [] (onNormal []) (valuesOf s) l here (l .whole) refl
       (none-made (credit (s .end .sending .window))) refl)
+      (λ a y k.
+      let h = ErrorDescription (paced (s .end .sending .window)) in
+      let n = nextNumber (s .end .sending .number) in
+      local-act v (accepted 12) mark.Nothing [] (onNormal (unitOf n h errorRu ∷ [])) _ l here
+      (λ z. l .whole (rw y (and-false (isSend (s .end .control .state))))) refl (request-made s n h errorRu refl (a .good) k) refl)
       (λ a n k.
       let h = dataHeader (s .end) (Last x c) in
       let ru = heldBytes (s .end) (s .send) in
       let u = unitOf (nextNumber (s .end .sending .number)) h ru in
-      local-act v (accepted (RU-START + length ru)) mark.Nothing [] (onNormal (u ∷ [])) _ l here (closed-whole x c (s .end .control) _ (a .whole)) refl
+      local-act v (accepted (RU-START + length ru)) mark.Nothing [] (onNormal (u ∷ [])) _ l here (closed-whole x c (s .end .control) _ (n .clear) (a .whole)) refl
       (request-made s (nextNumber (s .end .sending .number)) h ru (data-asks s (Last x c)) (a .good) k) refl)
 
   at-place : (g p : Position) (w : Walked) → w ≡ At p → w ≡ At (placeOr g w)
@@ -148,6 +156,12 @@ module _ (s : Station) (xs : Log) (l : Local (valuesOf s) xs) where
       local-act Verb.confirmed (accepted 5) mark.Nothing [] (onNormal (unitOf (s .end .owed) Confirmation [] ∷ [])) _ l here
       (λ n. l .whole (confirmed-moves (s .end .control) (control-within (s .end) g) a .send n)) refl
       (other-made (s .end .owed) (credit (s .end .sending .window)) Confirmation [] refl) refl)
+  local-acts Verb.sendError =
+      send-error-cases (Laned (After Verb.sendError)) s (refuses Verb.sendError (λ q. refl))
+      (λ g a.
+      local-act Verb.sendError (accepted 9) mark.Nothing [] (onNormal (unitOf (s .end .owed) NegativeConfirmation negativeConfirmationRu ∷ [])) _ l here
+      (λ n. l .whole (denied-moves (s .end .control) (control-within (s .end) g) a .send n)) refl
+      (other-made (s .end .owed) (credit (s .end .sending .window)) NegativeConfirmation negativeConfirmationRu refl) refl)
   local-acts Verb.sendPacingResponse =
       pacing-response-cases (Laned (After Verb.sendPacingResponse)) s (refuses Verb.sendPacingResponse (λ q. refl))
       (λ g a.
@@ -173,7 +187,7 @@ module _ (s : Station) (xs : Log) (l : Local (valuesOf s) xs) where
   local-acts Verb.withdraw =
       withdraw-cases (Laned (After Verb.withdraw)) s (refuses Verb.withdraw (λ q. refl))
       (λ g a.
-      local-act Verb.withdraw (accepted 0) mark.Nothing [] (onNormal []) _ l here (λ n. absurd (never n)) refl
+      local-act Verb.withdraw (accepted 0) mark.Nothing [] (onNormal []) _ l here (λ n. l .whole (rw (in-defer (s .end .control .state) a .not-send))) refl
       (none-made (credit (s .end .sending .window))) refl)
   local-acts (Verb.receive buffer) = reads buffer
 
@@ -191,7 +205,7 @@ module _ (s : Station) (xs : Log) (u : List ℕ) (l : Local (valuesOf s) xs) whe
 
   pub local-takes : ((q : ℕ) → q ≡ receiveUnitRefusal (s .end) u (length (s .inbox)) (length (s .unit)) → isBreach q ≡ false)
       → Left (takes normal s u)
-  unfolding takes dataJoined bidAnswered creditRaised requestReceived dataReceived answered
+  unfolding takes dataJoined errorMarked bidAnswered creditRaised requestReceived dataReceived answered
   local-takes nb =
       let h = bidAnswer (s .end .control) in
       let ru = ruReceived u in
@@ -200,7 +214,7 @@ module _ (s : Station) (xs : Log) (u : List ℕ) (l : Local (valuesOf s) xs) whe
       let same = no-rise (credit w) (w .size) in
       take-cases (LanedTake Left) s u (λ q x n. local-take-refused normal u (ruleNamed u) q n (nb q x) l)
       (λ d a e k.
-      local-took normal u (accepted 0) (onNormal []) false _ l (counts-pacing _ e a) refl refl (λ m. l .whole (not-holding (s .end .control .state) (k .away))) refl
+      local-took normal u (accepted 0) (onNormal []) false _ l (counts-pacing _ e a) refl refl (λ m. l .whole (rw (not-holding (s .end .control .state) (k .away)))) refl
       (ap (walk (r .read)) (written-bytes (r .held) ru (s .inbox) (inbox-room s (a .inbox) (a .good)))
       ∙ walk-append (r .read) (bytesInInbox s) ru ∙ ap (λ (x : Walked). thenWalk x ru) (l .inbox) ∙ k .walked) refl same)
       (λ p a e k m.
@@ -209,6 +223,8 @@ module _ (s : Station) (xs : Log) (u : List ℕ) (l : Local (valuesOf s) xs) whe
       (λ n. l .whole (m .send n)) refl (l .inbox) refl
       (other-made (numberIn u) (credit w) h (fixedRu h) (ap isAsking (answer-sort (s .end .control)))
       ∙ (let y : credit w ≡ credit w + w .size * 0 = omega arith in y)))
+      (λ p a e k m.
+      local-took normal u (accepted 0) (onNormal []) false _ l (counts-pacing _ e a) refl refl (λ n. l .whole (m .send n)) refl (l .inbox) refl same)
       (λ c a e m.
       local-took normal u (accepted 0) (onNormal []) false _ l (counts-pacing _ e a) refl refl (λ n. l .whole (m .send n)) refl (l .inbox) refl same)
       (λ a e k.

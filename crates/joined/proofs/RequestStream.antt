@@ -2,20 +2,20 @@
 -- taken, led on by the units on the line, is what the sending end has made.
 -- Assumes nothing.
 use Rattle.joined.proofs.JoinedWords.{ℕ, le-leb, eq-eqb, eqb, leb, length, Bool, true, false, not, cond, _&&_, _||_, List, [], _∷_, _++_, _≡_, refl, sym}
-use Rattle.joined.proofs.JoinedWords.{ap, _∙_, subst, arith, never, isWhole, thenWalk, walk, placeOr, Position, Walked, walk-append, walk-prefix}
+use Rattle.joined.proofs.JoinedWords.{ap, _∙_, subst, arith, never, isWhole, thenWalk, walk, placeOr, Position, Walked, walk-append, walk-prefix, same-position}
 use Rattle.joined.proofs.JoinedWords.{Through, isFirst, headerGood, ChainEnd, DataHeader, Header, marks, fixedRu, ruGood, RU-START, unitOf, numberIn}
 use Rattle.joined.proofs.JoinedWords.{headerIn, unit-number, agree, nextNumber, headerReceived, ruReceived, Station, Sort, sortOf, isAsking}
 use Rattle.joined.proofs.JoinedWords.{taken-header, bytesInSendBuffer}
 use Rattle.logical_record.specs.declared.Walked.the-variants.{At}
 use Rattle.header.specs.Header.{isLast}
 use Rattle.cells.specs.Equal.{sameBytes}
-use Rattle.header.specs.declared.Header.the-variants.{Data, Bid}
+use Rattle.header.specs.declared.Header.the-variants.{Data, Bid, ErrorDescription}
 use Rattle.header.proofs.RoundTrip.{built-good}
 use Rattle.unit.proofs.UnitLaws.{unit-length, unit-header, unit-ru}
 use Rattle.pacing.specs.Pacing.{nextPosition}
 use Rattle.control.proofs.Agree.{agree-same}
 use Rattle.receiving.specs.Receiving.{recordsFit}
-use Rattle.calls.proofs.UnitsByHeader.{brings, asks, answers, paces, fixed-ru}
+use Rattle.calls.proofs.UnitsByHeader.{brings, asks, tells, answers, paces, fixed-ru}
 use Rattle.joined.proofs.LineAutomaton.{Ran, ok, stuck, stuck≢ok, ok-is, Leads, leads-nowhere, leads-more, Parted, parted}
 
 -- ---- what is kept in step
@@ -32,6 +32,8 @@ follows b (brings d) n ru =
     agree (d .pacing) (eqb (b .position) 0)
     && (eqb n (nextNumber (b .number)) && (agree (isFirst (d .begins)) (not (b .chain)) && recordsFit (d .ends) (walk (b .place) ru)))
 follows b (asks p) n ru = agree p (eqb (b .position) 0) && (eqb n (nextNumber (b .number)) && agree true (not (b .chain)))
+follows b (tells p) n ru =
+    agree p (eqb (b .position) 0) && (eqb n (nextNumber (b .number)) && (agree true (not (b .chain)) && isWhole (b .place)))
 follows b answers n ru = true
 follows b paces n ru = eqb n 0
 
@@ -39,7 +41,11 @@ follows b paces n ru = eqb n 0
 abbrev pub fits : ℕ → Books → Header → ℕ → List ℕ → Bool
 fits m b h n ru = ruGood m h ru && follows b (sortOf h) n ru
 
--- the books after it, with w the window
+-- the books after a request that brings no bytes, with w the window
+abbrev pub passed : ℕ → Books → Books
+passed w b = record { number = nextNumber (b .number); position = nextPosition (b .position) w; chain = b .chain; place = b .place }
+
+-- the books after a unit
 abbrev pub next : ℕ → Books → Sort → List ℕ → Books
 next w b (brings d) ru =
     record {
@@ -48,7 +54,8 @@ next w b (brings d) ru =
       chain = not (isLast (d .ends));
       place = placeOr (b .place) (walk (b .place) ru);
     }
-next w b (asks p) ru = record { number = nextNumber (b .number); position = nextPosition (b .position) w; chain = b .chain; place = b .place }
+next w b (asks p) ru = passed w b
+next w b (tells p) ru = passed w b
 next w b answers ru = b
 next w b paces ru = b
 
@@ -216,10 +223,36 @@ stream-bid {o} {i} {line} p s pacing chain =
       held = s .held;
     }
 
+-- an error header goes out, with nothing held and the record whole
+pub stream-error : {o : Outside} {i : Inside} {line : List (List ℕ)} (p : Bool)
+    → Stream o i line
+    → p ≡ eqb (o .position) 0
+    → o .chain ≡ false
+    → o .held ≡ []
+    → isWhole (o .given) ≡ true
+    → Stream (requestOut o (o .chain) []) i (line ++ (unitOf (nextNumber (o .number)) (ErrorDescription p) (fixedRu (ErrorDescription p)) ∷ []))
+unfolding ruGood sameBytes thenWalk
+stream-error {o} {i} {line} p s pacing chain none whole =
+    let h = ErrorDescription p in
+    let b : Books = booksOut o (s .place) in
+    let n = nextNumber (o .number) in
+    let still : walk (s .place) [] ≡ At (o .given) = rw none at (s .held) in
+    let place : s .place ≡ o .given = same-position (s .place) (o .given) still in
+    let f : fits (i .max) b h n (fixedRu h) ≡ true = rw (agree-same _ _ pacing, eq-eqb n n refl, chain, place) whole in
+    let e : next (i .window) b (tells p) (fixedRu h) ≡ booksOut (requestOut o (o .chain) []) (s .place) = rw (s .window) in
+    record {
+      window = s .window;
+      max = s .max;
+      place = s .place;
+      leads = leads-more (s .leads) (stream-unit (i .window) (i .max) b n h (fixedRu h) f ∙ ap ok e);
+      held = still;
+    }
+
 -- a response goes out, a pacing response under the number 0
 abbrev pub mayAnswer : Sort → ℕ → Bool
 mayAnswer (brings d) n = false
 mayAnswer (asks p) n = false
+mayAnswer (tells p) n = false
 mayAnswer answers n = true
 mayAnswer paces n = eqb n 0
 
@@ -227,6 +260,7 @@ answer-fits : (b : Books) (k : Sort) (w n : ℕ) (ru : List ℕ) → mayAnswer k
     → (isAsking k ≡ false) × (follows b k n ru ≡ true) × (next w b k ru ≡ b)
 answer-fits b (brings d) w n ru e = never e
 answer-fits b (asks p) w n ru e = never e
+answer-fits b (tells p) w n ru e = never e
 answer-fits b answers w n ru e = (refl, refl, refl)
 answer-fits b paces w n ru e = (refl, e, refl)
 

@@ -99,7 +99,7 @@ pub record ReadsRight (x : JoinedEnd) : Type 0 where
   pub apart : NoneCrosses (x .log)
   -- no read is refused with 8
   pub never-8 : badReads (x .log) ≡ 0
-  -- outside Send, in Defer too, nothing given is unfinished, neither a record nor a table
+  -- outside Send, in Defer too, and while an error is due, nothing given is unfinished, neither a record nor a table
   pub whole : maySend (x .end .end .control) ≡ false → isWhole (x .end .end .sending .given) ≡ true
 
 pub record Records (p : Pair) : Type 0 where

@@ -14,7 +14,7 @@ use Rattle.answers.specs.Answers.{BAD-LL}
 use Rattle.calls.specs.UnitCounts.{count, dataRu, requestsAmong, isPacingResponse}
 use Rattle.joined.specs.Joined.{Event, acted, took}
 use Rattle.joined.specs.Ends.{Lane, normal}
-use Rattle.calls.specs.Calls.{Reply, Station, Verb, allocate, close, confirmed, defer, sendPacingResponse, receive, refusalIn, sendData, withdraw}
+use Rattle.calls.specs.Calls.{Reply, Station, Verb, allocate, close, confirmed, defer, sendError, sendPacingResponse, receive, refusalIn, sendData, withdraw}
 
 abbrev pub Log : Type 0
 Log = List (Event Lane Verb Reply (List ℕ))
@@ -25,6 +25,7 @@ Log = List (Event Lane Verb Reply (List ℕ))
 abbrev pub given : Verb → ℕ → List ℕ
 given allocate q = []
 given confirmed q = []
+given sendError q = []
 given sendPacingResponse q = []
 given withdraw q = []
 given (sendData bytes) q = cond (eqb q 0) bytes []
@@ -94,6 +95,7 @@ refusedWith n (took l u r us ∷ es) = count (eqb (refusalIn r) n) + refusedWith
 abbrev pub isBadRead : Verb → ℕ → Bool
 isBadRead allocate q = false
 isBadRead confirmed q = false
+isBadRead sendError q = false
 isBadRead sendPacingResponse q = false
 isBadRead withdraw q = false
 isBadRead (sendData bytes) q = false

@@ -3,3 +3,4 @@ pub mod Joined
 pub mod Ends
 pub mod Histories
 pub mod Claim
+pub mod Denials

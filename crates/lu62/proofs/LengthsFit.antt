@@ -15,6 +15,7 @@ use Rattle.end.specs.SendData.{sendData}
 use Rattle.end.specs.Close.{close}
 use Rattle.end.specs.Defer.{defer, withdraw}
 use Rattle.end.specs.Confirmed.{confirmed}
+use Rattle.end.specs.SendError.{sendError}
 use Rattle.end.specs.SendPacingResponse.{sendPacingResponse}
 use Rattle.end.specs.ReceiveUnit.{receiveUnit}
 use Rattle.end.specs.Receive.{bytesRead, markRead, receive}
@@ -52,6 +53,10 @@ pub confirmed-small : (e : End) (unit : List ℕ) → confirmed e unit .done .an
 unfolding called
 confirmed-small e unit = word _ _ (acts-fit (at e [] unit []) Verb.confirmed)
 
+pub error-small : (e : End) (unit : List ℕ) → sendError e unit .done .answer .unit < WORD
+unfolding called
+error-small e unit = word _ _ (acts-fit (at e [] unit []) Verb.sendError)
+
 pub pacing-response-small : (e : End) (unit : List ℕ) → sendPacingResponse e unit .done .answer .unit < WORD
 unfolding called
 pacing-response-small e unit = word _ _ (acts-fit (at e [] unit []) Verb.sendPacingResponse)
@@ -88,6 +93,6 @@ module _ (e : End) (inbox buffer : List ℕ) where
       read-cases (λ (m : Called). m .answer .answer .copied < WORD) (at e [] [] inbox) buffer
       (λ q w n. omega arith) (λ a k. omega (arith, count-held (at e [] [] inbox) buffer, h)) (λ a k m. omega arith)
 
-pub ruleset small = (allocate-small, confirmed-small, pacing-response-small, close-small, send-small, take-small, read-small, count-small)
+pub ruleset small = (allocate-small, confirmed-small, error-small, pacing-response-small, close-small, send-small, take-small, read-small, count-small)
 
 pub ruleset small-alone = (defer-small, withdraw-small)

@@ -13,6 +13,7 @@ use Rattle.end.specs.SendData.{sendData}
 use Rattle.end.specs.Close.{close}
 use Rattle.end.specs.Defer.{defer, withdraw}
 use Rattle.end.specs.Confirmed.{confirmed}
+use Rattle.end.specs.SendError.{sendError}
 use Rattle.end.specs.SendPacingResponse.{sendPacingResponse}
 use Rattle.end.specs.ReceiveUnit.{receiveUnit}
 use Rattle.end.specs.Receive.{receive}
@@ -93,6 +94,7 @@ refused-changes-nothing =
       defer = λ what image b. on-image-alone image _ b (λ e. done-refused e (Verb.defer what) (defer what e) refl);
       withdraw = λ image b. on-image-alone image _ b (λ e. done-refused e Verb.withdraw (withdraw e) refl);
       confirmed = λ image unit b. on-image image unit _ b (λ e. made-refused e [] unit Verb.confirmed (confirmed e unit) refl);
+      sendError = λ image unit b. on-image image unit _ b (λ e. made-refused e [] unit Verb.sendError (sendError e unit) refl);
       sendPacingResponse = λ image unit b. on-image image unit _ b (λ e. made-refused e [] unit Verb.sendPacingResponse (sendPacingResponse e unit) refl);
       receiveUnit = λ taken image inbox unit b. on-image image (inbox, unit) _ b (λ e. take-refused e taken inbox unit);
       receive = λ image inbox buffer b. on-image image (inbox, buffer) _ b (λ e. read-refused e inbox buffer);

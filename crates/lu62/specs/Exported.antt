@@ -1,4 +1,4 @@
--- Opening and the twelve calls on an image: each is the end's own definition at the record that the image holds.
+-- Opening and the thirteen calls on an image: each is the end's own definition at the record that the image holds.
 -- Assumes nothing.
 use Prim.Native.Nat.{ℕ}
 use mathlib.Core.Bool.{Bool, true, false, cond}
@@ -16,6 +16,7 @@ use Rattle.end.specs.SendData.{sendData}
 use Rattle.end.specs.Close.{close}
 use Rattle.end.specs.Defer.{defer, withdraw}
 use Rattle.end.specs.Confirmed.{confirmed}
+use Rattle.end.specs.SendError.{sendError}
 use Rattle.end.specs.SendPacingResponse.{sendPacingResponse}
 use Rattle.end.specs.ReceiveUnit.{receiveUnit}
 use Rattle.end.specs.Receive.{receive}
@@ -86,6 +87,10 @@ withdrawOn image = onImageAlone image (λ e. doneOut (withdraw e))
 
 abbrev pub confirmedOn : List ℕ → List ℕ → Left (List ℕ)
 confirmedOn image unit = onImage image unit (λ e. madeOut (confirmed e unit))
+
+-- document 02: no confirmation, with a cause
+abbrev pub sendErrorOn : List ℕ → List ℕ → Left (List ℕ)
+sendErrorOn image unit = onImage image unit (λ e. madeOut (sendError e unit))
 
 abbrev pub sendPacingResponseOn : List ℕ → List ℕ → Left (List ℕ)
 sendPacingResponseOn image unit = onImage image unit (λ e. madeOut (sendPacingResponse e unit))

@@ -9,7 +9,7 @@ use Rattle.control.specs.declared.Deferred.{Deferred}
 use Rattle.image.specs.ImageParts.{byteAt}
 use Rattle.lu62.specs.Handing.{Handed, Left}
 use Rattle.lu62.specs.Exported.{allocateOn, sendDataOn, flushOn, confirmOn, prepareToReceiveOn, deallocateOn, deferOn, withdrawOn}
-use Rattle.lu62.specs.Exported.{confirmedOn, sendPacingResponseOn, receiveUnitOn, receiveOn}
+use Rattle.lu62.specs.Exported.{confirmedOn, sendErrorOn, sendPacingResponseOn, receiveUnitOn, receiveOn}
 
 -- an image's values are bytes, which is always so of the code's u8
 abbrev pub Bytes : List ℕ → Type 0
@@ -34,6 +34,7 @@ pub record RefusedChangesNothing : Type 0 where
   pub defer : (what : Deferred) (image : List ℕ) → Bytes image → ImageUntouched image (deferOn what image)
   pub withdraw : (image : List ℕ) → Bytes image → ImageUntouched image (withdrawOn image)
   pub confirmed : (image unit : List ℕ) → Bytes image → Untouched image unit (confirmedOn image unit)
+  pub sendError : (image unit : List ℕ) → Bytes image → Untouched image unit (sendErrorOn image unit)
   pub sendPacingResponse : (image unit : List ℕ) → Bytes image → Untouched image unit (sendPacingResponseOn image unit)
   pub receiveUnit : (taken image inbox unit : List ℕ) → Bytes image → Untouched image (inbox, unit) (receiveUnitOn taken image inbox unit)
   pub receive : (image inbox buffer : List ℕ) → Bytes image → Untouched image (inbox, buffer) (receiveOn image inbox buffer)

@@ -29,7 +29,8 @@ fn close_on(
     }
 }
 
-// Sends the bytes held, if there are any. A turn or an end that is prepared is carried out, without confirmation.
+// Sends the bytes held, if there are any. A turn or an end that is prepared is carried out, without confirmation. While an error is
+// due it makes the error header.
 #[no_mangle]
 pub extern "C" fn lu62_flush(
     image: &mut [u8],

@@ -1,5 +1,5 @@
 // What each exported call hands out: the answer as eight numbers, and the new record over the image. The numbers are: refusal,
-// sense, rule, length of the unit made, bytes copied, complete (0 or 1), more (0 or 1), mark (0 to 5).
+// sense, rule, length of the unit made, bytes copied, complete (0 or 1), more (0 or 1), mark (0 to 6).
 use end::Answer;
 use end::Done;
 use end::ReadAnswer;

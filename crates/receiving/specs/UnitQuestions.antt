@@ -1,9 +1,10 @@
 -- A unit that is taken: the walk over it, and what is asked of it by its kind, its number and its RU.
 -- Assumes nothing.
 use Prim.Native.Nat.{ℕ}
-use mathlib.Core.Bool.{Bool, true}
+use mathlib.Core.Bool.{Bool, true, false}
 use mathlib.Core.List.{List, [], _∷_}
 use lib.Dec.{eqb}
+use Rattle.logical_record.specs.Positions.{isWhole}
 use Rattle.logical_record.specs.Walk.{walk}
 use Rattle.logical_record.specs.declared.Position.{Position}
 use Rattle.logical_record.specs.declared.Walked.{Walked}
@@ -12,7 +13,8 @@ use Rattle.header.specs.Header.{isFirst, beginsBracket}
 use Rattle.unit.specs.Ru.{ruGood}
 use Rattle.header.specs.declared.DataHeader.{DataHeader}
 use Rattle.header.specs.declared.Header.{Header}
-use Rattle.header.specs.declared.Header.the-variants.{Data, Bid, PositiveBidResponse, NegativeBidResponse, Confirmation, PacingResponse}
+use Rattle.header.specs.declared.Header.the-variants.{Data, Bid, ErrorDescription, PositiveBidResponse, NegativeBidResponse, Confirmation}
+use Rattle.header.specs.declared.Header.the-variants.{NegativeConfirmation, PacingResponse}
 use Rattle.control.specs.Questions.{chainFits, bracketFits, bidFits, stateFits}
 use Rattle.control.specs.declared.Control.{Control}
 use Rattle.answers.specs.Answers.{BAD-RU, BAD-NUMBER, BAD-CHAIN, BAD-BRACKET, BAD-STATE, BAD-PACING, BAD-RESPONSE, BAD-RECORDS}
@@ -23,9 +25,11 @@ use Rattle.receiving.specs.declared.Receiving.{Receiving}
 abbrev pub walkedFor : Header → Position → List ℕ → Walked
 walkedFor (Data d) p ru = walk p ru
 walkedFor (Bid b) p ru = At p
+walkedFor (ErrorDescription b) p ru = At p
 walkedFor PositiveBidResponse p ru = At p
 walkedFor NegativeBidResponse p ru = At p
 walkedFor Confirmation p ru = At p
+walkedFor NegativeConfirmation p ru = At p
 walkedFor PacingResponse p ru = At p
 
 -- of data
@@ -50,7 +54,19 @@ bidQuestions c r p n ru =
     ∷ (bidFits c, BAD-BRACKET)
     ∷ []
 
--- of a grant, a bid refusal and a confirmation: `fits` says that one of its number is expected
+-- of an error header: as of data that is first and last in its chain and has BB off; 29 asks only that the record is whole
+abbrev pub errorQuestions : Control → Receiving → Bool → ℕ → List ℕ → List (Bool × ℕ)
+errorQuestions c r p n ru =
+    (ruGood (r .max) (ErrorDescription p) ru, BAD-RU)
+    ∷ (pacingFits r p, BAD-PACING)
+    ∷ (isNext r n, BAD-NUMBER)
+    ∷ (chainFits true c, BAD-CHAIN)
+    ∷ (bracketFits false c, BAD-BRACKET)
+    ∷ (stateFits false c, BAD-STATE)
+    ∷ (isWhole (r .taken), BAD-RECORDS)
+    ∷ []
+
+-- of a grant, a bid refusal, a confirmation and its refusal: `fits` says that one of its number is expected
 abbrev pub responseQuestions : ℕ → Header → Bool → List ℕ → List (Bool × ℕ)
 responseQuestions max h fits ru = (ruGood max h ru, BAD-RU) ∷ (fits, BAD-RESPONSE) ∷ []
 

@@ -34,7 +34,7 @@ ghost use Rattle.cells.specs.Cells.{written};
 ghost use Rattle.logical_record.specs.Walk.{walk, placeOr};
 ghost use Rattle.answers.specs.FirstNo.{firstNo};
 ghost use Rattle.receiving.specs.Receiving.{pacingFits, isNext, recordsFit, requestReceived};
-ghost use Rattle.receiving.specs.UnitQuestions.{walkedFor, dataQuestions, bidQuestions, responseQuestions, pacingQuestions};
+ghost use Rattle.receiving.specs.UnitQuestions.{walkedFor, dataQuestions, bidQuestions, errorQuestions, responseQuestions, pacingQuestions};
 
 // The walk over an RU, which question 29 and the inbox share. Only data is made of records.
 pub fn walk_data(header: Header, r: Receiving, ru: &[u8]) -> Walked
@@ -44,9 +44,11 @@ pub fn walk_data(header: Header, r: Receiving, ru: &[u8]) -> Walked
     match header {
         Header::Data(_) => walk_over(from, ru),
         Header::Bid(_) => Walked::At(from),
+        Header::ErrorDescription(_) => Walked::At(from),
         Header::PositiveBidResponse => Walked::At(from),
         Header::NegativeBidResponse => Walked::At(from),
         Header::Confirmation => Walked::At(from),
+        Header::NegativeConfirmation => Walked::At(from),
         Header::PacingResponse => Walked::At(from),
     }
 }
@@ -113,7 +115,22 @@ pub fn bid_refusal(c: Control, r: Receiving, bit: bool, number: u16, ru: &[u8]) 
     then_ask(q, c.bid_fits(), BAD_BRACKET)
 }
 
-// Of a grant, a bid refusal and a confirmation: `fits` says that one of this number is expected now.
+// Of an error header, a chain of its own that begins no bracket. Nothing of it is walked.
+pub fn error_refusal(c: Control, r: Receiving, bit: bool, number: u16, ru: &[u8]) -> u8
+    ensures { λ q. ⌜ q ≡ firstNo (errorQuestions c r bit number (now (ru .entry))) ⌝ }
+{
+    let max = r.max as usize;
+    let place = r.taken;
+    let q = then_ask(0, ru_good(max, Header::ErrorDescription(bit), ru), BAD_RU);
+    let q = then_ask(q, pacing_fits(r, bit), BAD_PACING);
+    let q = then_ask(q, is_next(r, number), BAD_NUMBER);
+    let q = then_ask(q, c.chain_fits(true), BAD_CHAIN);
+    let q = then_ask(q, c.bracket_fits(false), BAD_BRACKET);
+    let q = then_ask(q, c.state_fits(false), BAD_STATE);
+    then_ask(q, is_whole(place), BAD_RECORDS)
+}
+
+// Of a grant, a bid refusal, a confirmation and its refusal: `fits` says that one of this number is expected now.
 pub fn response_refusal(max: u16, header: Header, fits: bool, ru: &[u8]) -> u8
     ensures { λ r. ⌜ r ≡ firstNo (responseQuestions max header fits (now (ru .entry))) ⌝ }
 {

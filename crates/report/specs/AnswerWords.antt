@@ -32,6 +32,7 @@ deferWords deferred.End = ascii "prepare end"
 abbrev pub verbWords : Verb → List ℕ
 verbWords verb.Allocate = ascii "allocate"
 verbWords verb.Confirmed = ascii "confirmed"
+verbWords verb.SendError = ascii "deny"
 verbWords verb.SendPacingResponse = ascii "pace"
 verbWords verb.SendData = ascii "send"
 verbWords (verb.Close follows confirm) = closingWords follows confirm
@@ -52,6 +53,7 @@ markWord mark.End = ascii "end"
 markWord mark.Confirm = ascii "confirm"
 markWord mark.ConfirmTurn = ascii "confirm-turn"
 markWord mark.ConfirmEnd = ascii "confirm-end"
+markWord mark.Error = ascii "error"
 
 abbrev pub stateWord : State → List ℕ
 stateWord state.Reset = ascii "Reset"

@@ -44,6 +44,9 @@ aRecord = 0x00 ∷ 0x01 ∷ 0x03 ∷ 0x91 ∷ 0x81 ∷ 0x00 ∷ 0x05 ∷ 0x41 �
 aGrant : List ℕ
 aGrant = 0x00 ∷ 0x01 ∷ 0xCB ∷ 0x80 ∷ 0x00 ∷ 0x04 ∷ []
 
+aDenial : List ℕ
+aDenial = 0x00 ∷ 0x07 ∷ 0x87 ∷ 0x30 ∷ 0x00 ∷ 0x08 ∷ 0x46 ∷ 0x00 ∷ 0x00 ∷ []
+
 -- ---- the example
 
 bids : accepted true (Call verb.Allocate) aBid ≡ ascii "2 allocate 0 unit 00014B81800400060000\n"
@@ -94,6 +97,19 @@ defers : (endText false state.DeferTurn mark.Nothing 5 0 3 3 1 ≡ ascii "1 Defe
     × (endText true state.DeferEnd mark.Nothing 0 0 2 2 0 ≡ ascii "2 Defer-end mark none send 0 inbox 0 credit 2 open 2 waiting 0\n")
 unfolding decimalIn decimalOf stateText countText countsText endText
 defers = (refl, refl)
+
+-- a confirmation refused, and the mark of the error header that says why
+denies : (accepted true (Call verb.SendError) aDenial ≡ ascii "2 deny 0 unit 000787300008460000\n")
+    × (refused false (Call verb.SendError) 7 0 0 ≡ ascii "1 deny 7\n")
+    × (fullText false (Call verb.SendError) ≡ ascii "1 deny full\n")
+    × (read [] false false mark.Error ≡ ascii "2 read 0 mark error\n")
+unfolding aDenial decimalIn decimalOf hexOf hexWordOf callText senseText ruleText refusalText bytesText flagText markText readText answerText fullText
+denies = (refl, refl, refl, refl)
+
+-- the last line of an end at which that mark stands, bytes before it unread
+waits-marked : endText false state.Receive mark.Error 0 3 2 1 0 ≡ ascii "1 Receive mark error send 0 inbox 3 credit 2 open 1 waiting 0\n"
+unfolding decimalIn decimalOf stateText countText countsText endText
+waits-marked = refl
 
 -- a sense from 20 on, and a rule with 21 only
 breaches : (refused false Offer 20 0x40050000 0 ≡ ascii "1 take 20 40050000\n")

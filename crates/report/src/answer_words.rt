@@ -65,6 +65,7 @@ fn verb_word(verb: Verb) -> Word
     match verb {
         Verb::Allocate => Word(*b"allocate    ", 8),
         Verb::Confirmed => Word(*b"confirmed   ", 9),
+        Verb::SendError => Word(*b"deny        ", 4),
         Verb::SendPacingResponse => Word(*b"pace        ", 4),
         Verb::SendData => Word(*b"send        ", 4),
         Verb::Close(follows, confirm) => closing_word(follows, confirm),
@@ -94,6 +95,7 @@ pub(crate) fn mark_word(mark: WhatReceived) -> Word
         WhatReceived::Confirm => Word(*b"confirm     ", 7),
         WhatReceived::ConfirmTurn => Word(*b"confirm-turn", 12),
         WhatReceived::ConfirmEnd => Word(*b"confirm-end ", 11),
+        WhatReceived::Error => Word(*b"error       ", 5),
     }
 }
 

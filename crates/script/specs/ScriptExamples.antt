@@ -14,7 +14,7 @@ use Rattle.script.specs.WordsAsked.{noBytes, plain, givenOf, offerOf, re
 use Rattle.script.specs.CallLine.{requestOf, callOf}
 use Rattle.script.specs.declared.FirstLine.the-variants as first
 use Rattle.control.specs.declared.Deferred.the-variants.{Turn, End}
-use Rattle.script.specs.declared.Verb.the-variants.{Allocate, SendData, Defer, Withdraw, Receive}
+use Rattle.script.specs.declared.Verb.the-variants.{Allocate, SendError, SendData, Defer, Withdraw, Receive}
 use Rattle.script.specs.Closing.{prepareToReceive, deallocate}
 use Rattle.script.specs.declared.Request.the-variants.{Call, Take, Offer}
 use Rattle.script.specs.declared.Parsed.the-variants as parsed
@@ -93,6 +93,11 @@ withdraws : callOf (0x31 ∷ 0x20 ∷ 0x77 ∷ 0x69 ∷ 0x74 ∷ 0x68 ∷ 0x64 �
 unfolding callOf requestOf begins sameBytes givenOf offerOf readOf bytesRead arePairs bytesOf numberOf readOn
 withdraws = refl
 
+-- `2 deny`
+denies : callOf (0x32 ∷ 0x20 ∷ 0x64 ∷ 0x65 ∷ 0x6E ∷ 0x79 ∷ []) 2048 ≡ noBytes (plain true (Call SendError) 0)
+unfolding callOf requestOf begins sameBytes givenOf offerOf readOf bytesRead arePairs bytesOf numberOf readOn
+denies = refl
+
 -- `2 take`
 takes : callOf (0x32 ∷ 0x20 ∷ 0x74 ∷ 0x61 ∷ 0x6B ∷ 0x65 ∷ []) 2048 ≡ noBytes (plain true Take 0)
 unfolding callOf requestOf begins sameBytes givenOf offerOf readOf bytesRead arePairs bytesOf numberOf readOn
@@ -145,6 +150,11 @@ prepares-with-confirm = refl
 withdraws-turn : callOf (0x31 ∷ 0x20 ∷ 0x77 ∷ 0x69 ∷ 0x74 ∷ 0x68 ∷ 0x64 ∷ 0x72 ∷ 0x61 ∷ 0x77 ∷ 0x20 ∷ 0x74 ∷ 0x75 ∷ 0x72 ∷ 0x6E ∷ []) 2048 ≡ noBytes parsed.Bad
 unfolding callOf requestOf begins sameBytes givenOf offerOf readOf bytesRead arePairs bytesOf numberOf readOn
 withdraws-turn = refl
+
+-- `2 deny 0889`: a cause is not given
+denies-with-cause : callOf (0x32 ∷ 0x20 ∷ 0x64 ∷ 0x65 ∷ 0x6E ∷ 0x79 ∷ 0x20 ∷ 0x30 ∷ 0x38 ∷ 0x38 ∷ 0x39 ∷ []) 2048 ≡ noBytes parsed.Bad
+unfolding callOf requestOf begins sameBytes givenOf offerOf readOf bytesRead arePairs bytesOf numberOf readOn
+denies-with-cause = refl
 
 -- `1 send ` with its blank and no byte
 send-blank : callOf (0x31 ∷ 0x20 ∷ 0x73 ∷ 0x65 ∷ 0x6E ∷ 0x64 ∷ 0x20 ∷ []) 2048 ≡ noBytes parsed.Bad

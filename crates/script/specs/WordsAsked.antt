@@ -14,7 +14,7 @@ use Rattle.digits.specs.declared.Number.the-variants as number
 use Rattle.digits.specs.declared.Hex.{Hex}
 use Rattle.digits.specs.declared.Hex.the-variants as hex
 use Rattle.control.specs.declared.Deferred.the-variants.{Turn, End}
-use Rattle.script.specs.declared.Verb.the-variants.{Allocate, Confirmed, SendPacingResponse, SendData, Defer, Withdraw, Receive}
+use Rattle.script.specs.declared.Verb.the-variants.{Allocate, Confirmed, SendError, SendPacingResponse, SendData, Defer, Withdraw, Receive}
 use Rattle.script.specs.Closing.{flush, confirm, prepareToReceive, deallocate}
 use Rattle.script.specs.declared.Request.{Request}
 use Rattle.script.specs.declared.Request.the-variants.{Call, Take, Offer}
@@ -64,6 +64,8 @@ wordRows =
     ∷ (0x70 ∷ 0x72 ∷ 0x65 ∷ 0x70 ∷ 0x61 ∷ 0x72 ∷ 0x65 ∷ 0x20 ∷ 0x65 ∷ 0x6E ∷ 0x64 ∷ [], Call (Defer End))
     -- withdraw
     ∷ (0x77 ∷ 0x69 ∷ 0x74 ∷ 0x68 ∷ 0x64 ∷ 0x72 ∷ 0x61 ∷ 0x77 ∷ [], Call Withdraw)
+    -- deny
+    ∷ (0x64 ∷ 0x65 ∷ 0x6E ∷ 0x79 ∷ [], Call SendError)
     -- take
     ∷ (0x74 ∷ 0x61 ∷ 0x6B ∷ 0x65 ∷ [], Take)
     -- pace

@@ -12,6 +12,8 @@ use header::Follows;
 pub enum Verb {
     Allocate,
     Confirmed,
+    // Document 02: deny, which refuses the confirmation that is owed.
+    SendError,
     // Document 01: pace.
     SendPacingResponse,
     SendData,

@@ -28,7 +28,7 @@ fn plain(second: bool, request: Request, count: usize) -> Parsed
     })
 }
 
-// The words that stand alone, in four parts: rows 0 to 3, 4 to 7, 8 to 10 and 11 to 13.
+// The words that stand alone, in four parts: rows 0 to 3, 4 to 7, 8 to 11 and 12 to 14.
 pub(crate) fn words_alone(second: bool, words: &[u8]) -> Parsed
     ensures { λ r. ⌜ r ≡ rowOf second (now (words .entry)) wordRows ⌝ }
 {
@@ -78,10 +78,10 @@ fn turn_or_end(second: bool, words: &[u8]) -> Parsed
             0,
         );
     }
-    prepare_or_withdraw(second, words)
+    prepare_withdraw_deny(second, words)
 }
 
-fn prepare_or_withdraw(second: bool, words: &[u8]) -> Parsed
+fn prepare_withdraw_deny(second: bool, words: &[u8]) -> Parsed
     ensures { λ r. ⌜ r ≡ rowOf second (now (words .entry)) (drop 8 wordRows) ⌝ }
 {
     if same(words, b"prepare turn") {
@@ -93,11 +93,14 @@ fn prepare_or_withdraw(second: bool, words: &[u8]) -> Parsed
     if same(words, b"withdraw") {
         return plain(second, Request::Call(Verb::Withdraw), 0);
     }
+    if same(words, b"deny") {
+        return plain(second, Request::Call(Verb::SendError), 0);
+    }
     take_pace_send(second, words)
 }
 
 fn take_pace_send(second: bool, words: &[u8]) -> Parsed
-    ensures { λ r. ⌜ r ≡ rowOf second (now (words .entry)) (drop 11 wordRows) ⌝ }
+    ensures { λ r. ⌜ r ≡ rowOf second (now (words .entry)) (drop 12 wordRows) ⌝ }
 {
     if same(words, b"take") {
         return plain(second, Request::Take, 0);

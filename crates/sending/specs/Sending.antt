@@ -6,15 +6,15 @@ use lib.Dec.{eqb, leb}
 use Rattle.logical_record.specs.Positions.{isPosition, start}
 use Rattle.logical_record.specs.declared.Position.{Position}
 use Rattle.pacing.specs.Pacing.{windowGood, advanced, answered, freshWindow}
-use Rattle.control.specs.StateTests.{holdsSend}
+use Rattle.control.specs.Within.{mayHold}
 use Rattle.control.specs.declared.Control.{Control}
 use Rattle.unit.specs.Maximum.{maxGood}
 use Rattle.unit.specs.Sequence.{nextNumber}
 use Rattle.sending.specs.declared.Sending.{Sending}
 
--- send-held is 0 to M, at least 1 while the sending chain is open; outside Send and Defer it is 0
+-- send-held is 0 to M, at least 1 while the sending chain is open; outside Send and Defer it is 0, and while an error is due
 abbrev pub heldGood : Control → Sending → Bool
-heldGood c s = leb (s .held) (s .max) && ((not (c .outchain) || leb 1 (s .held)) && (holdsSend (c .state) || eqb (s .held) 0))
+heldGood c s = leb (s .held) (s .max) && ((not (c .outchain) || leb 1 (s .held)) && (mayHold c || eqb (s .held) 0))
 
 unfoldable pub sendingGood : Control → Sending → Bool
 sendingGood c s = windowGood (s .window) && (maxGood (s .max) && (heldGood c s && isPosition (s .given)))

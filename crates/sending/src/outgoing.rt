@@ -2,7 +2,6 @@
 // has come.
 use crate::Sending;
 use control::Control;
-use control::state_tests::holds_send;
 use header::ChainEnd;
 use logical_record::Position;
 use logical_record::Walked;
@@ -22,13 +21,11 @@ ghost use Rattle.logical_record.specs.Walk.{placeOr};
 ghost use Rattle.unit.specs.Ru.{marks};
 ghost use Rattle.sending.specs.Sending.{heldGood, sendingGood, freshSending, requestMade, creditAnswered};
 
-// Send-held is 0 to M, at least 1 while the sending chain is open, and 0 outside Send and
-// Defer.
+// Send-held is 0 to M, at least 1 while the sending chain is open, and 0 outside Send and Defer and while an error is due.
 fn held_good(c: Control, s: Sending) -> bool
     ensures { λ r. ⌜ r ≡ heldGood c s ⌝ }
 {
-    let state = c.state;
-    (s.held <= s.max) & ((!c.outchain | (1 <= s.held)) & (holds_send(state) | (s.held == 0)))
+    (s.held <= s.max) & ((!c.outchain | (1 <= s.held)) & (c.may_hold() | (s.held == 0)))
 }
 
 pub fn sending_good(c: Control, s: Sending) -> bool
@@ -68,11 +65,11 @@ pub fn given_whole(s: Sending) -> bool
     is_whole(given)
 }
 
-// A unit that says nothing to follow goes only to carry bytes: a flush of none makes no unit.
-pub fn nothing_goes(held: u16, ends: ChainEnd) -> bool
-    ensures { λ r. ⌜ r ≡ not (marks ends) && eqb held 0 ⌝ }
+// A unit that says nothing to follow goes only to carry bytes or the error that is due: any other flush of none makes no unit.
+pub fn nothing_goes(held: u16, error: bool, ends: ChainEnd) -> bool
+    ensures { λ r. ⌜ r ≡ not (marks ends) && (eqb held 0 && not error) ⌝ }
 {
-    !marks(ends) & (held == 0)
+    !marks(ends) & ((held == 0) & !error)
 }
 
 // A request has gone out: the next number, one credit less. The bytes held and the record place given are then these.

@@ -10,7 +10,7 @@ use Rattle.header.specs.declared.ChainEnd.{ChainEnd}
 use Rattle.header.specs.declared.ChainEnd.the-variants.{Continues, Last}
 use Rattle.header.specs.declared.Header.{Header}
 use Rattle.header.specs.declared.Header.the-variants.{PositiveBidResponse, NegativeBidResponse}
-use Rattle.control.specs.FieldChanged.{setState, setFollows, setMark, setDue, setBid, setOutchain, setInchain}
+use Rattle.control.specs.FieldChanged.{setState, setFollows, setMark, setDue, setError, setBid, setOutchain, setInchain}
 use Rattle.control.specs.StateTests.{isFirstSpeaker, isReset}
 use Rattle.control.specs.declared.Role.{Role}
 use Rattle.control.specs.declared.State.{State}
@@ -26,7 +26,7 @@ use Rattle.control.specs.declared.Control.{Control}
 -- Reset, stay, no mark, flags off, chains closed
 abbrev pub fresh : Role → Control
 fresh r =
-    record { role = r; state = Reset; follows = Stay; mark = mark.Nothing; due = false; bid = false; outchain = false; inchain = false }
+    record { role = r; state = Reset; follows = Stay; mark = mark.Nothing; due = false; error = false; bid = false; outchain = false; inchain = false }
 
 -- ---- calls
 
@@ -89,7 +89,15 @@ afterOwed EndBracket = Reset
 unfoldable pub confirmationMade : Control → Control
 confirmationMade c = setState (afterOwed (c .follows)) c
 
--- a mark read: turn gives Send, end Reset, the others Owes, noting what follows
+-- send error: Send, whatever was to follow, and the error header is due
+unfoldable pub confirmationDenied : Control → Control
+confirmationDenied c = setError true (setState Send c)
+
+-- the error header has gone out, which is a chain of its own
+unfoldable pub errorMade : Control → Control
+errorMade c = setError false c
+
+-- a mark read: turn gives Send, end Reset, error stays in Receive, the others Owes, noting what follows
 abbrev pub afterMark : WhatReceived → Control → Control
 afterMark mark.Nothing c = c
 afterMark mark.Turn c = setState Send c
@@ -97,6 +105,7 @@ afterMark mark.End c = setState Reset c
 afterMark mark.Confirm c = setState ConfirmOwed (setFollows Stay c)
 afterMark mark.ConfirmTurn c = setState ConfirmOwed (setFollows ChangeDirection c)
 afterMark mark.ConfirmEnd c = setState ConfirmOwed (setFollows EndBracket c)
+afterMark mark.Error c = c
 
 unfoldable pub markAnswered : Control → Control
 markAnswered c = setMark mark.Nothing (afterMark (c .mark) c)
@@ -117,6 +126,10 @@ markOf (Last f confirm) = markOfLast f confirm
 unfoldable pub dataReceived : ChainEnd → Control → Control
 dataReceived ends c = setInchain (not (isLast ends)) (setMark (markOf ends) (setState Receive c))
 
+-- an error header: the mark is left, and no chain is open, as before
+unfoldable pub errorReceived : Control → Control
+errorReceived c = setMark mark.Error c
+
 -- a bid: in Reset it makes a grant and becomes Receive, in any other state it makes a bid refusal
 unfoldable pub bidReceived : Control → Control
 bidReceived c = cond (isReset (c .state)) (setState Receive c) c
@@ -135,3 +148,7 @@ negativeResponseReceived c = setBid false c
 -- a confirmation: stay gives Send, turn Receive, end Reset
 unfoldable pub confirmationReceived : Control → Control
 confirmationReceived c = setState (afterLast (c .follows)) c
+
+-- the refusal of a confirmation: Receive, whatever was to follow
+unfoldable pub negativeConfirmationReceived : Control → Control
+negativeConfirmationReceived c = setState Receive c

@@ -16,6 +16,7 @@ ghost use Rattle.transitions.specs.Transitions.{fresh, allocated, beginO
 ghost use Rattle.transitions.specs.Transitions.{afterMark, markAnswered, markOfLast, markOf, dataReceived, bidReceived, bidAnswer};
 ghost use Rattle.transitions.specs.Transitions.{deferring, deferred, withdrawn, prepared, carriedOut};
 ghost use Rattle.transitions.specs.Transitions.{positiveResponseReceived, negativeResponseReceived, confirmationReceived};
+ghost use Rattle.transitions.specs.Transitions.{confirmationDenied, errorMade, errorReceived, negativeConfirmationReceived};
 
 fn choose(ok: bool, a: Control, b: Control) -> Control
     ensures { λ r. ⌜ r ≡ cond ok a b ⌝ }
@@ -84,6 +85,7 @@ pub fn fresh(role: Role) -> Control
         follows: Follows::Stay,
         mark: WhatReceived::Nothing,
         due: false,
+        error: false,
         bid: false,
         outchain: false,
         inchain: false,
@@ -189,6 +191,20 @@ pub fn confirmation_made(c: Control) -> Control
     c.with_state(state)
 }
 
+// The confirmation that was owed is denied: this end sends, whatever was to follow, and first of all the error header.
+pub fn confirmation_denied(c: Control) -> Control
+    ensures { λ r. ⌜ r ≡ confirmationDenied c ⌝ }
+{
+    c.with_state(State::Send).with_error(true)
+}
+
+// The error header has gone out.
+pub fn error_made(c: Control) -> Control
+    ensures { λ r. ⌜ r ≡ errorMade c ⌝ }
+{
+    c.with_error(false)
+}
+
 fn after_mark(c: Control, mark: WhatReceived) -> Control
     ensures { λ r. ⌜ r ≡ afterMark mark c ⌝ }
 {
@@ -201,6 +217,7 @@ fn after_mark(c: Control, mark: WhatReceived) -> Control
             .with_state(State::ConfirmOwed),
         WhatReceived::ConfirmEnd => c.with_follows(Follows::EndBracket)
             .with_state(State::ConfirmOwed),
+        WhatReceived::Error => c,
     }
 }
 
@@ -221,6 +238,13 @@ pub fn data_received(c: Control, ends: ChainEnd) -> Control
     c.with_state(State::Receive)
         .with_mark(mark)
         .with_inchain(!last)
+}
+
+// An error header was taken.
+pub fn error_received(c: Control) -> Control
+    ensures { λ r. ⌜ r ≡ errorReceived c ⌝ }
+{
+    c.with_mark(WhatReceived::Error)
 }
 
 // A bid was taken, and granted in Reset.
@@ -264,4 +288,11 @@ pub fn confirmation_received(c: Control) -> Control
     let follows = c.follows;
     let state = after_last(follows);
     c.with_state(state)
+}
+
+// The confirmation that was awaited was denied.
+pub fn negative_confirmation_received(c: Control) -> Control
+    ensures { λ r. ⌜ r ≡ negativeConfirmationReceived c ⌝ }
+{
+    c.with_state(State::Receive)
 }

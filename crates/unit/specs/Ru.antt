@@ -10,11 +10,16 @@ use Rattle.header.specs.Header.{confirms, followsOf, turns, endsBracket}
 use Rattle.header.specs.declared.ChainEnd.{ChainEnd}
 use Rattle.header.specs.declared.DataHeader.{DataHeader}
 use Rattle.header.specs.declared.Header.{Header}
-use Rattle.header.specs.declared.Header.the-variants.{Data, Bid, PositiveBidResponse, NegativeBidResponse, Confirmation, PacingResponse}
+use Rattle.header.specs.declared.Header.the-variants.{Data, Bid, ErrorDescription}
+use Rattle.header.specs.declared.Header.the-variants.{PositiveBidResponse, NegativeBidResponse, Confirmation, NegativeConfirmation, PacingResponse}
 
 -- a bid is LUSTAT 04 00 06 00 00
 abbrev pub bidRu : List ℕ
 bidRu = 0x04 ∷ 0x00 ∷ 0x06 ∷ 0x00 ∷ 0x00 ∷ []
+
+-- an error header is an FM header 7: 07 07 08 89 00 00 00
+abbrev pub errorRu : List ℕ
+errorRu = 0x07 ∷ 0x07 ∷ 0x08 ∷ 0x89 ∷ 0x00 ∷ 0x00 ∷ 0x00 ∷ []
 
 -- a grant 04
 abbrev pub positiveRu : List ℕ
@@ -24,13 +29,19 @@ positiveRu = 0x04 ∷ []
 abbrev pub negativeRu : List ℕ
 negativeRu = 0x08 ∷ 0x13 ∷ 0x00 ∷ 0x00 ∷ 0x04 ∷ []
 
+-- a negative confirmation 08 46 00 00, the sense data that announce an error header
+abbrev pub negativeConfirmationRu : List ℕ
+negativeConfirmationRu = 0x08 ∷ 0x46 ∷ 0x00 ∷ 0x00 ∷ []
+
 -- the RU of a header that is always the same; confirmation and pacing answer have none, and neither has data of no byte
 abbrev pub fixedRu : Header → List ℕ
 fixedRu (Data d) = []
 fixedRu (Bid p) = bidRu
+fixedRu (ErrorDescription p) = errorRu
 fixedRu PositiveBidResponse = positiveRu
 fixedRu NegativeBidResponse = negativeRu
 fixedRu Confirmation = []
+fixedRu NegativeConfirmation = negativeConfirmationRu
 fixedRu PacingResponse = []
 
 -- a last unit with CD, CEB or a confirmation request: the units that leave a mark
@@ -45,7 +56,9 @@ dataRuGood max d n = leb n max && (leb 1 n || marks (d .ends))
 unfoldable pub ruGood : ℕ → Header → List ℕ → Bool
 ruGood max (Data d) ru = dataRuGood max d (length ru)
 ruGood max (Bid p) ru = sameBytes ru bidRu
+ruGood max (ErrorDescription p) ru = sameBytes ru errorRu
 ruGood max PositiveBidResponse ru = sameBytes ru positiveRu
 ruGood max NegativeBidResponse ru = sameBytes ru negativeRu
 ruGood max Confirmation ru = sameBytes ru []
+ruGood max NegativeConfirmation ru = sameBytes ru negativeConfirmationRu
 ruGood max PacingResponse ru = sameBytes ru []

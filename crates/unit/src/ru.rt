@@ -30,30 +30,39 @@ pub fn data_ru_good(max: usize, d: DataHeader, n: usize) -> bool
 
 // The RU of a kind that has a fixed one: the first len of these bytes. The rest fill the array.
 pub(crate) struct FixedRu {
-    pub bytes: [u8; 5],
+    pub bytes: [u8; 7],
     pub len: usize,
 }
 
-// The fixed byte strings: a bid is LUSTAT 04 00 06 00 00, a grant 04, a bid refusal 08 13 00 00 04.
+// The fixed byte strings: a bid is LUSTAT 04 00 06 00 00, an error header 07 07 08 89 00 00 00, a grant 04, a bid refusal
+// 08 13 00 00 04, a negative confirmation 08 46 00 00.
 // Data has no fixed RU and gets the empty one, as a confirmation and a pacing response do.
 pub(crate) fn fixed_ru(h: Header) -> FixedRu
     ensures { λ r. ⌜ (take (r .len) (r .bytes) ≡ fixedRu h) × (r .len ≤ length (r .bytes)) ⌝ }
 {
     match h {
         Header::Bid(_) => FixedRu {
-            bytes: *b"\x04\x00\x06\x00\x00",
+            bytes: *b"\x04\x00\x06\x00\x00\x00\x00",
             len: 5,
         },
+        Header::ErrorDescription(_) => FixedRu {
+            bytes: *b"\x07\x07\x08\x89\x00\x00\x00",
+            len: 7,
+        },
         Header::PositiveBidResponse => FixedRu {
-            bytes: *b"\x04\x00\x00\x00\x00",
+            bytes: *b"\x04\x00\x00\x00\x00\x00\x00",
             len: 1,
         },
         Header::NegativeBidResponse => FixedRu {
-            bytes: *b"\x08\x13\x00\x00\x04",
+            bytes: *b"\x08\x13\x00\x00\x04\x00\x00",
             len: 5,
         },
+        Header::NegativeConfirmation => FixedRu {
+            bytes: *b"\x08\x46\x00\x00\x00\x00\x00",
+            len: 4,
+        },
         Header::Data(_) | Header::Confirmation | Header::PacingResponse => FixedRu {
-            bytes: *b"\x00\x00\x00\x00\x00",
+            bytes: *b"\x00\x00\x00\x00\x00\x00\x00",
             len: 0,
         },
     }

@@ -59,9 +59,11 @@ pub fn fixed_length(header: Header) -> usize
     match header {
         Header::Data(_) => RU_START,
         Header::Bid(_) => RU_START + 5,
+        Header::ErrorDescription(_) => RU_START + 7,
         Header::PositiveBidResponse => RU_START + 1,
         Header::NegativeBidResponse => RU_START + 5,
         Header::Confirmation => RU_START,
+        Header::NegativeConfirmation => RU_START + 4,
         Header::PacingResponse => RU_START,
     }
 }

@@ -12,6 +12,7 @@ use Rattle.pacing.specs.Pacing.{credit, advanced, answered}
 use Rattle.control.specs.Within.{controlGood}
 use Rattle.transitions.specs.Transitions.{allocated, spilled, closed, deferred, withdrawn, confirmationMade, markAnswered, dataReceived, bidReceived}
 use Rattle.transitions.specs.Transitions.{positiveResponseReceived, negativeResponseReceived, confirmationReceived}
+use Rattle.transitions.specs.Transitions.{confirmationDenied, errorMade, errorReceived, negativeConfirmationReceived}
 use Rattle.sending.specs.Sending.{sendingGood, requestMade}
 use Rattle.receiving.specs.Receiving.{receivingGood, requestReceived}
 use Rattle.session.specs.OpeningQuestions.{openingRefusal}
@@ -23,14 +24,16 @@ use Rattle.end.specs.SendData.{sendRefusal, bytesKept, bytesSpilled, sendDecisi
 use Rattle.end.specs.Close.{closeRefusal, lastMade, closeDecision, close}
 use Rattle.end.specs.Defer.{deferRefusal, deferDecision, defer, withdrawRefusal, withdrawDecision, withdraw}
 use Rattle.end.specs.Confirmed.{confirmedRefusal, confirmedDecision, confirmed}
-use Rattle.end.specs.ReceiveUnit.{receiveUnitRefusal, dataJoined, bidAnswered, creditRaised, receiveUnitDecision, inboxCells, receiveUnit}
+use Rattle.end.specs.SendError.{sendErrorDecision, sendError}
+use Rattle.end.specs.ReceiveUnit.{receiveUnitRefusal, dataJoined, errorMarked, bidAnswered, creditRaised, receiveUnitDecision, inboxCells, receiveUnit}
 use Rattle.end.specs.Receive.{receiveRefusal, copyCount, bytesRead, markRead, receiveDecision, inboxMoved, receive}
 use Rattle.end.specs.SendPacingResponse.{sendPacingResponseRefusal, sendPacingResponseDecision, sendPacingResponse}
 use Rattle.calls.specs.Calls.{called, taken}
 use Rattle.calls.specs.UnitCounts.{requestsAmong}
 use Rattle.joined.specs.Ends.{acts, takes}
 use Rattle.joined.specs.Histories as H
+use Rattle.joined.specs.Denials.{unitsMade, unitsTaken, announced, AsAnnounced}
 
 unfoldable pub computed : Unit {0}
-unfolding front written sameBytes thenWalk groupsFrom keeps lowestBroken headerGood headerBytes fieldsOf ruGood unitBytes unitOf credit advanced answered controlGood allocated spilled closed deferred withdrawn confirmationMade markAnswered dataReceived bidReceived positiveResponseReceived negativeResponseReceived confirmationReceived sendingGood requestMade receivingGood requestReceived openingRefusal opened recordGood dataHeader allocateRefusal bidMade allocateDecision allocate sendRefusal bytesKept bytesSpilled sendDecision sendCells sendData closeRefusal lastMade closeDecision close deferRefusal deferDecision defer withdrawRefusal withdrawDecision withdraw confirmedRefusal confirmedDecision confirmed receiveUnitRefusal dataJoined bidAnswered creditRaised receiveUnitDecision inboxCells receiveUnit receiveRefusal copyCount bytesRead markRead receiveDecision inboxMoved receive sendPacingResponseRefusal sendPacingResponseDecision sendPacingResponse called taken acts takes H.bytesAccepted H.bytesRead H.bytesOnLine H.pacingResponsesTaken H.requestsMade requestsAmong
+unfolding front written sameBytes thenWalk groupsFrom keeps lowestBroken headerGood headerBytes fieldsOf ruGood unitBytes unitOf credit advanced answered controlGood allocated spilled closed deferred withdrawn confirmationMade markAnswered dataReceived bidReceived positiveResponseReceived negativeResponseReceived confirmationReceived confirmationDenied errorMade errorReceived negativeConfirmationReceived sendingGood requestMade receivingGood requestReceived openingRefusal opened recordGood dataHeader allocateRefusal bidMade allocateDecision allocate sendRefusal bytesKept bytesSpilled sendDecision sendCells sendData closeRefusal lastMade closeDecision close deferRefusal deferDecision defer withdrawRefusal withdrawDecision withdraw confirmedRefusal confirmedDecision confirmed sendErrorDecision sendError receiveUnitRefusal dataJoined errorMarked bidAnswered creditRaised receiveUnitDecision inboxCells receiveUnit receiveRefusal copyCount bytesRead markRead receiveDecision inboxMoved receive sendPacingResponseRefusal sendPacingResponseDecision sendPacingResponse called taken acts takes H.bytesAccepted H.bytesRead H.bytesOnLine H.pacingResponsesTaken H.requestsMade requestsAmong unitsMade unitsTaken announced AsAnnounced
 computed = tt

@@ -14,6 +14,7 @@ use Rattle.worked_examples.specs.Breaches.{Breaches, MarkFirst, breached
 use Rattle.worked_examples.specs.RulesNamed.{RulesNamed, rules-named}
 use Rattle.worked_examples.specs.Parts.{Parts, parts}
 use Rattle.worked_examples.specs.Prepared.{Prepared, all-prepared}
+use Rattle.worked_examples.specs.Denied.{Denied, all-denied}
 use Rattle.calls.specs.Calls.{Station, Verb}
 
 -- ---- "Last sequence number sent and last taken, from 0; the number after 65,535 is 0."
@@ -154,6 +155,7 @@ pub record FurtherRows : Type 0 where
   pub rules : RulesNamed
   pub parts : Parts
   pub prepared : Prepared
+  pub denied : Denied
 
 numbered : Numbers
 unfolding computed
@@ -240,4 +242,5 @@ further =
       rules = rules-named;
       parts = parts;
       prepared = all-prepared;
+      denied = all-denied;
     }

@@ -6,4 +6,5 @@ pub mod RulesNamed
 pub mod Conversations
 pub mod Parts
 pub mod Prepared
+pub mod Denied
 pub mod Further

@@ -71,6 +71,7 @@ pub mod at {
     pub const READ: usize = 35;
     pub const BID_NUMBER: usize = 38;
     pub const OWED_NUMBER: usize = 40;
+    pub const ERROR: usize = 42;
 }
 
 pub fn word(image: &[u8], at: usize) -> usize {

@@ -37,9 +37,11 @@ after-mark-spec =
     (search needs)
     (search needs)
     (search needs)
+    (search needs)
     (λ c. search needs)
     returns-2
     returns-3
     returns-4
     returns-5
-    returns-6)
+    returns-6
+    (λ c. search needs))

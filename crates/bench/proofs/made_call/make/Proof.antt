@@ -29,34 +29,41 @@ unfolding called
 returns-3 c =
     let a = c .before .before .before .before .before .before .before .before .before .args in
     rw (c .before .before .before .before .enum-told3 .given .1)
-    (λ n inbox buffer. ap (makes (stationOf (a .end) (now (a .send)) (now (a .unit)) inbox)) (c .before .before .send-pacing-response .ensures))
+    (λ n inbox buffer. ap (makes (stationOf (a .end) (now (a .send)) (now (a .unit)) inbox)) (c .before .before .send-error .ensures))
 
 returns-4 : tie.Need-returns-4
 unfolding called
 returns-4 c =
-    let a = c .before .before .before .before .before .before .before .before .before .before .before .before .args in
-    rw (c .before .before .before .before .before .before .before .enum-told4 .given .1)
-    (λ n inbox buffer. ap (sends (stationOf (a .end) (now (a .send)) (now (a .unit)) inbox)) (c .before .before .before .before .send-data .ensures))
+    let a = c .before .before .before .before .before .before .before .before .before .args in
+    rw (c .before .before .before .before .enum-told4 .given .1)
+    (λ n inbox buffer. ap (makes (stationOf (a .end) (now (a .send)) (now (a .unit)) inbox)) (c .before .before .send-pacing-response .ensures))
 
 returns-5 : tie.Need-returns-5
 unfolding called
 returns-5 c =
-    let a = c .before .before .before .before .before .before .before .before .before .before .before .args in
-    rw (c .before .before .before .before .before .before .verb .given .1)
-    (λ n inbox buffer. ap (makes (stationOf (a .end) (now (a .send)) (now (a .unit)) inbox)) (c .before .before .close .ensures))
+    let a = c .before .before .before .before .before .before .before .before .before .before .before .before .args in
+    rw (c .before .before .before .before .before .before .before .enum-told5 .given .1)
+    (λ n inbox buffer. ap (sends (stationOf (a .end) (now (a .send)) (now (a .unit)) inbox)) (c .before .before .before .before .send-data .ensures))
 
 returns-6 : tie.Need-returns-6
 unfolding called
 returns-6 c =
-    let a = c .before .before .before .before .before .before .before .args in
-    rw (c .before .before .verb2 .given .1)
-    (λ n inbox buffer. deferred-left (stationOf (a .end) (now (a .send)) (now (a .unit)) inbox) _ (c .defer .result) buffer (c .defer .ensures))
+    let a = c .before .before .before .before .before .before .before .before .before .before .before .args in
+    rw (c .before .before .before .before .before .before .verb .given .1)
+    (λ n inbox buffer. ap (makes (stationOf (a .end) (now (a .send)) (now (a .unit)) inbox)) (c .before .before .close .ensures))
 
 returns-7 : tie.Need-returns-7
 unfolding called
 returns-7 c =
+    let a = c .before .before .before .before .before .before .before .args in
+    rw (c .before .before .verb2 .given .1)
+    (λ n inbox buffer. deferred-left (stationOf (a .end) (now (a .send)) (now (a .unit)) inbox) _ (c .defer .result) buffer (c .defer .ensures))
+
+returns-8 : tie.Need-returns-8
+unfolding called
+returns-8 c =
     let a = c .before .before .before .before .before .before .args in
-    rw (c .before .enum-told5 .given .1)
+    rw (c .before .enum-told6 .given .1)
     (λ n inbox buffer. withdrawn-left (stationOf (a .end) (now (a .send)) (now (a .unit)) inbox) (c .withdraw .result) buffer (c .withdraw .ensures))
 
 pub make-spec : {M : Type 1} → statement M
@@ -65,11 +72,12 @@ make-spec =
     (tie.spec
     (search needs) (search needs) (search needs) (search needs) (search needs) (search needs) (search needs)
     (search needs) (search needs) (search needs) (search needs) (search needs) (search needs) (search needs)
-    (search needs) (search needs) (search needs) returns
+    (search needs) (search needs) (search needs) (search needs) (search needs) returns
     (search needs) returns-2
     (search needs) returns-3
-    (search needs) (search needs) returns-4
+    (search needs) returns-4
     (search needs) (search needs) returns-5
-    returns-6
+    (search needs) (search needs) returns-6
     returns-7
-    (λ c. rw (c .before .enum-told6 .given .1) (λ n inbox buffer. absurd (false≢true (sym n)))))
+    returns-8
+    (λ c. rw (c .before .enum-told7 .given .1) (λ n inbox buffer. absurd (false≢true (sym n)))))

@@ -19,16 +19,52 @@ returns-2 : tie.Need-returns-2
 returns-2 c = rw (c .answer-bid .ensures, c .before .enum-told .given .1)
 
 returns-3 : tie.Need-returns-3
-returns-3 c = rw (c .settle .ensures, c .before .positive-response-received .ensures, c .before .before .enum-told2 .given .1)
+returns-3 c = rw (c .mark-error .ensures, c .before .enum-told2 .given .1)
 
 returns-4 : tie.Need-returns-4
-returns-4 c = rw (c .settle2 .ensures, c .before .negative-response-received .ensures, c .before .before .enum-told3 .given .1)
+returns-4 c = rw (c .settle .ensures, c .before .positive-response-received .ensures, c .before .before .enum-told3 .given .1)
 
 returns-5 : tie.Need-returns-5
-returns-5 c = rw (c .settle3 .ensures, c .before .confirmation-received .ensures, c .before .before .enum-told4 .given .1)
+returns-5 c = rw (c .settle2 .ensures, c .before .negative-response-received .ensures, c .before .before .enum-told4 .given .1)
 
 returns-6 : tie.Need-returns-6
-returns-6 c = rw (c .raise-credit .ensures, c .before .enum-told5 .given .1)
+returns-6 c = rw (c .settle3 .ensures, c .before .confirmation-received .ensures, c .before .before .enum-told5 .given .1)
+
+returns-7 : tie.Need-returns-7
+returns-7 c = rw (c .settle4 .ensures, c .before .negative-confirmation-received .ensures, c .before .before .enum-told6 .given .1)
+
+returns-8 : tie.Need-returns-8
+returns-8 c = rw (c .raise-credit .ensures, c .before .enum-told7 .given .1)
 
 pub receive-kind-spec : {M : Type 1} → statement M
-receive-kind-spec = tie.close (tie.spec (search needs) join-data-requires (search needs) (search needs) (search needs) (search needs) (search needs) (search needs) (search needs) (search needs) (search needs) (search needs) (search needs) (search needs) (search needs) returns returns-2 returns-3 returns-4 returns-5 returns-6)
+receive-kind-spec =
+    tie.close
+    (tie.spec
+    (search needs)
+    join-data-requires
+    (search needs)
+    (search needs)
+    (search needs)
+    (search needs)
+    (search needs)
+    (search needs)
+    (search needs)
+    (search needs)
+    (search needs)
+    (search needs)
+    (search needs)
+    (search needs)
+    (search needs)
+    (search needs)
+    (search needs)
+    (search needs)
+    (search needs)
+    (search needs)
+    returns
+    returns-2
+    returns-3
+    returns-4
+    returns-5
+    returns-6
+    returns-7
+    returns-8)

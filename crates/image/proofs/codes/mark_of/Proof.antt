@@ -13,4 +13,5 @@ mark-of-spec =
     (λ c. search (eq-eqb, ne-eqb))
     (λ c. search (eq-eqb, ne-eqb))
     (λ c. search (eq-eqb, ne-eqb))
+    (λ c. search (eq-eqb, ne-eqb))
     (λ c. search ne-eqb))

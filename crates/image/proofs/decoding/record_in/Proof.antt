@@ -7,10 +7,10 @@ use Rattle.image.proofs.decoding.record_in.Statement.{statement}
 use Rattle.image.proofs.decoding.record_in.Tie as tie
 
 number-at-requires : tie.Need-number-at-requires
-number-at-requires c κs = let h = c .before .before .before .before .before .before .before .before .before .before .before .before .before .before .before .pre .0 in omega arith
+number-at-requires c κs = let h = c .before .before .before .before .before .before .before .before .before .before .before .before .before .before .before .before .pre .0 in omega arith
 
 number-at-requires-2 : tie.Need-number-at-requires-2
-number-at-requires-2 c κs = let h = c .before .before .before .before .before .before .before .before .before .before .before .before .before .before .before .before .pre .0 in omega arith
+number-at-requires-2 c κs = let h = c .before .before .before .before .before .before .before .before .before .before .before .before .before .before .before .before .before .pre .0 in omega arith
 
 returns : tie.Need-returns
 unfolding recordIn
@@ -19,16 +19,17 @@ returns c = rw (
   c .before .number-at .ensures,
   c .before .before .receiving-in .ensures,
   c .before .before .before .sending-in .ensures,
-  c .before .before .before .before .before .before .before .before .mark-of .ensures,
-  c .before .before .before .before .before .before .before .before .before .before .follows-of .ensures,
-  c .before .before .before .before .before .before .before .before .before .before .before .before .state-of .ensures,
-  c .before .before .before .before .before .before .before .before .before .before .before .before .before .before .role-of .ensures,
+  c .before .before .before .before .before .before .before .before .before .mark-of .ensures,
+  c .before .before .before .before .before .before .before .before .before .before .before .follows-of .ensures,
+  c .before .before .before .before .before .before .before .before .before .before .before .before .before .state-of .ensures,
+  c .before .before .before .before .before .before .before .before .before .before .before .before .before .before .before .role-of .ensures,
 )
 
 pub record-in-spec : {M : Type 1} → statement M
 record-in-spec =
     tie.close
     (tie.spec
+    (search needs)
     (search needs)
     (search needs)
     (search needs)

@@ -1,5 +1,6 @@
 -- `report::answer_words::mark_word` meets its contract. Each word is computed from its letters.
 -- Assumes nothing.
+use mathlib.Core.Path.{refl}
 use native.Mathlib.Omega.{arith}
 use borrow.Author.Needs.{needs}
 use Rattle.report.proofs.answer_words.mark_word.Statement.{statement}
@@ -9,10 +10,11 @@ pub mark-word-spec : {M : Type 1} → statement M
 mark-word-spec =
     tie.close
     (tie.spec
-    (search needs) (search needs) (search needs) (search needs) (search needs) (search needs)
+    (search needs) (search needs) (search needs) (search needs) (search needs) (search needs) (search needs)
     (λ c. (rw (c .before .before .enum-told .given .1), omega arith))
     (λ c. (rw (c .before .before .enum-told2 .given .1), omega arith))
     (λ c. (rw (c .before .before .enum-told3 .given .1), omega arith))
     (λ c. (rw (c .before .before .enum-told4 .given .1), omega arith))
     (λ c. (rw (c .before .before .enum-told5 .given .1), omega arith))
-    (λ c. (rw (c .before .before .enum-told6 .given .1), omega arith)))
+    (λ c. (rw (c .before .before .enum-told6 .given .1), omega arith))
+    (λ c. (rw (c .before .before .enum-told7 .given .1) refl, omega arith)))

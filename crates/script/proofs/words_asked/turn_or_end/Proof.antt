@@ -42,7 +42,7 @@ returns-4 c =
 returns-5 : tie.Need-returns-5
 returns-5 c =
     rw (
-      c .prepare-or-withdraw .ensures,
+      c .prepare-withdraw-deny .ensures,
       sym (c .before .before .before .before .before .before .before .before .before .before .before .same .ensures) ∙ c .before .before .before .before .before .before .before .before .before .before .if1 .left,
       sym (c .before .before .before .before .before .before .before .before .same2 .ensures) ∙ c .before .before .before .before .before .before .before .if2 .left,
       sym (c .before .before .before .before .before .same3 .ensures) ∙ c .before .before .before .before .if3 .left,

@@ -6,9 +6,21 @@ use borrow.Author.Needs.{needs}
 use Rattle.unit.proofs.ru.fixed_ru.Statement.{statement}
 use Rattle.unit.proofs.ru.fixed_ru.Tie as tie
 
-returns-4 : tie.Need-returns-4
-returns-4 c = (empty-ru (c .before .before .before .args .h) (c .before .before .match .keys4), omega arith)
+returns-6 : tie.Need-returns-6
+returns-6 c = (empty-ru (c .before .before .before .args .h) (c .before .before .match .keys6), omega arith)
 
 pub fixed-ru-spec : {M : Type 1} → statement M
 fixed-ru-spec =
-    tie.close (tie.spec (search needs) (search needs) (search needs) (λ c. search needs) (λ c. search needs) (λ c. search needs) returns-4)
+    tie.close
+    (tie.spec
+    (search needs)
+    (search needs)
+    (search needs)
+    (search needs)
+    (search needs)
+    (λ c. search needs)
+    (λ c. search needs)
+    (λ c. search needs)
+    (λ c. search needs)
+    (λ c. search needs)
+    returns-6)

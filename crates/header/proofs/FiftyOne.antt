@@ -1,4 +1,4 @@
--- Exactly 48 headers are good. The sum over all of them is computed only where each byte is one of those that a good header has;
+-- Exactly 51 headers are good. The sum over all of them is computed only where each byte is one of those that a good header has;
 -- elsewhere it is nothing.
 -- Assumes nothing.
 use mathlib.Core.Path.{_≡_, refl, sym, ap, _∙_}
@@ -7,7 +7,7 @@ use mathlib.Core.List.{[], _∷_}
 use Prim.Native.Nat.{ℕ, zero, suc, _+_}
 use lib.Dec.{leb}
 use Rattle.header.specs.Rules.{bytes, oneOf, dataH3, headerGood}
-use Rattle.header.specs.HeaderClaims.{sumBelow, goodHeaders, FortyEight}
+use Rattle.header.specs.HeaderClaims.{sumBelow, goodHeaders, FiftyOne}
 use Rattle.header.specs.declared.HeaderBytes.{HeaderBytes}
 use Rattle.header.proofs.Candidates.{allCandidates, good-at}
 use Rattle.bools.proofs.Cases.{never}
@@ -31,10 +31,10 @@ guarded false s e = e refl
 -- ---- the bytes of a good header
 
 head : ℕ → Bool
-head x = oneOf x (0x00 ∷ 0x01 ∷ 0x02 ∷ 0x03 ∷ 0x4B ∷ 0x83 ∷ 0xCB ∷ 0xCF ∷ [])
+head x = oneOf x (0x00 ∷ 0x01 ∷ 0x02 ∷ 0x03 ∷ 0x0B ∷ 0x4B ∷ 0x83 ∷ 0x87 ∷ 0xCB ∷ 0xCF ∷ [])
 
 answer : ℕ → ℕ → Bool
-answer x y = cond (leb x 0x03) (dataH3 y) (oneOf y (0x01 ∷ 0x20 ∷ 0x80 ∷ 0x81 ∷ 0x90 ∷ []))
+answer x y = cond (leb x 0x03) (dataH3 y) (oneOf y (0x01 ∷ 0x20 ∷ 0x30 ∷ 0x80 ∷ 0x81 ∷ 0x90 ∷ 0x91 ∷ []))
 
 bracket : ℕ → Bool
 bracket z = oneOf z (0x00 ∷ 0x01 ∷ 0x20 ∷ 0x80 ∷ 0x81 ∷ 0xA0 ∷ [])
@@ -113,10 +113,10 @@ module _ (k : ℕ) where
   unfolding below guardedBelow
   below-is = same-sums (λ x. sumBelow (λ y. sumBelow (λ z. one x y z) k) k) (λ x. cond (head x) (second k x) 0) second-is k
 
-counted : guardedBelow 256 ≡ 48
+counted : guardedBelow 256 ≡ 51
 unfolding guardedBelow second third head answer bracket one headerGood
 counted = refl
 
-pub forty-eight : FortyEight
+pub fifty-one : FiftyOne
 unfolding goodHeaders below one
-forty-eight = below-is 256 ∙ counted
+fifty-one = below-is 256 ∙ counted

@@ -1,9 +1,9 @@
--- `script::words_asked::prepare_or_withdraw` meets its contract. Each return is one row of the table.
+-- `script::words_asked::prepare_withdraw_deny` meets its contract. Each return is one row of the table.
 -- Assumes nothing.
 use mathlib.Core.Path.{sym, _∙_}
 use borrow.Author.Needs.{needs}
-use Rattle.script.proofs.words_asked.prepare_or_withdraw.Statement.{statement}
-use Rattle.script.proofs.words_asked.prepare_or_withdraw.Tie as tie
+use Rattle.script.proofs.words_asked.prepare_withdraw_deny.Statement.{statement}
+use Rattle.script.proofs.words_asked.prepare_withdraw_deny.Tie as tie
 
 returns : tie.Need-returns
 returns c = rw (sym (c .before .before .same .ensures) ∙ c .before .if1 .taken) (c .plain .ensures)
@@ -32,21 +32,38 @@ returns-3 c =
 
 returns-4 : tie.Need-returns-4
 returns-4 c =
-    let r = c .before in
+    let q = c .before in
+    let r = q .before .before .before in
     let t = r .before .before .before in
     let s = t .before .before .before in
     rw (
       sym (s .before .same .ensures) ∙ s .if1 .left,
       sym (t .before .same2 .ensures) ∙ t .if2 .left,
       sym (r .before .same3 .ensures) ∙ r .if3 .left,
+      sym (q .before .same4 .ensures) ∙ q .if4 .taken,
+    )
+    (c .plain4 .ensures)
+
+returns-5 : tie.Need-returns-5
+returns-5 c =
+    let q = c .before in
+    let r = q .before .before .before in
+    let t = r .before .before .before in
+    let s = t .before .before .before in
+    rw (
+      sym (s .before .same .ensures) ∙ s .if1 .left,
+      sym (t .before .same2 .ensures) ∙ t .if2 .left,
+      sym (r .before .same3 .ensures) ∙ r .if3 .left,
+      sym (q .before .same4 .ensures) ∙ q .if4 .left,
     )
     (c .take-pace-send .ensures)
 
-pub prepare-or-withdraw-spec : {M : Type 1} → statement M
-prepare-or-withdraw-spec =
+pub prepare-withdraw-deny-spec : {M : Type 1} → statement M
+prepare-withdraw-deny-spec =
     tie.close
     (tie.spec
     (search needs) (search needs) (search needs) returns
     (search needs) (search needs) (search needs) returns-2
     (search needs) (search needs) (search needs) returns-3
-    (search needs) returns-4)
+    (search needs) (search needs) (search needs) returns-4
+    (search needs) returns-5)
