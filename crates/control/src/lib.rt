@@ -41,17 +41,17 @@ pub enum WhatReceived {
     Error,
 }
 
-// `follows` is what follows a confirmation; `due` is BB-due: the next data unit begins the bracket; `error` is error-due: the next
-// request is the error header; `bid` is the flag bid: a bid is unanswered; `outchain` and `inchain` say whether the sending and
-// the receiving chain is open.
+// `follows` is what follows a confirmation; `due` is BB-due: the next data unit begins the bracket; `bid` is the flag bid: a bid is
+// unanswered; `outchain` and `inchain` say whether the sending and the receiving chain is open; `error` is error-due: the next
+// request is the error header. It stands last, so that the eight before it are moved at once.
 pub struct Control {
     pub role: Role,
     pub state: State,
     pub follows: header::Follows,
     pub mark: WhatReceived,
     pub due: bool,
-    pub error: bool,
     pub bid: bool,
     pub outchain: bool,
     pub inchain: bool,
+    pub error: bool,
 }

@@ -85,7 +85,7 @@ fn receiving_in(image: &[u8], taken: Position, read: Position) -> Receiving
     }
 }
 
-// The control is written out here, and not by a function of its own, so that its nine bytes are moved as they are.
+// The control is written out here, and not by a function of its own, so that its first eight bytes are moved as they are.
 fn record_in(image: &[u8], given: Position, taken: Position, read: Position) -> End
     requires { ⌜ (length (now image) ≡ IMAGE) × (given ≡ placeAt (now image) 18) × (taken ≡ placeAt (now image) 32) × (read ≡ placeAt (now image) 35) ⌝ }
     ensures { λ r. ⌜ r ≡ recordIn (now (image .entry)) ⌝ }
@@ -97,10 +97,10 @@ fn record_in(image: &[u8], given: Position, taken: Position, read: Position) -> 
             follows: follows_of(image[3]),
             mark: mark_of(image[4]),
             due: image[5] >= 1,
-            error: image[42] >= 1,
             bid: image[6] >= 1,
             outchain: image[7] >= 1,
             inchain: image[8] >= 1,
+            error: image[42] >= 1,
         },
         sending: sending_in(image, given),
         receiving: receiving_in(image, taken, read),

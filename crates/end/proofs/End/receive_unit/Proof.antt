@@ -1,3 +1,5 @@
+-- `End::receive_unit` meets its contract: the RU joins the inbox, and a bid's answer is written, as the decision says.
+-- Assumes nothing.
 use mathlib.Core.Path.{ap, _∙_}
 use lib.ListN.{length}
 use denote.Ref.{now}
