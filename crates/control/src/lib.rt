@@ -43,7 +43,7 @@ pub enum WhatReceived {
 
 // `follows` is what follows a confirmation; `due` is BB-due: the next data unit begins the bracket; `bid` is the flag bid: a bid is
 // unanswered; `outchain` and `inchain` say whether the sending and the receiving chain is open; `error` is error-due: the next
-// request is the error header. It stands last, so that the eight before it are moved at once.
+// request is the error header. It stands last, where it costs least (docs/BENCHMARK.md).
 pub struct Control {
     pub role: Role,
     pub state: State,
