@@ -587,15 +587,20 @@ impl End {
         made(0)
     }
 
-    pub fn confirmed(&mut self, unit: &mut [u8]) -> Answer {
+    /// What refuses both a confirmation and a denial.
+    fn owes_nothing(&self, unit: &[u8]) -> Option<Answer> {
         if !self.unit_fits(unit) {
-            return refused(4);
+            return Some(refused(4));
         }
         if !self.good() {
-            return refused(5);
+            return Some(refused(5));
         }
-        if self.state != State::Owes {
-            return refused(7);
+        (self.state != State::Owes).then(|| refused(7))
+    }
+
+    pub fn confirmed(&mut self, unit: &mut [u8]) -> Answer {
+        if let Some(no) = self.owes_nothing(unit) {
+            return no;
         }
         self.state = match self.follow {
             Follow::Stay => State::Receive,
@@ -607,14 +612,8 @@ impl End {
 
     /// Document 02's denial of what is to be confirmed.
     pub fn send_error(&mut self, unit: &mut [u8]) -> Answer {
-        if !self.unit_fits(unit) {
-            return refused(4);
-        }
-        if !self.good() {
-            return refused(5);
-        }
-        if self.state != State::Owes {
-            return refused(7);
+        if let Some(no) = self.owes_nothing(unit) {
+            return no;
         }
         self.state = State::Send;
         self.error = true;
