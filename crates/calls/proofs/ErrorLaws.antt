@@ -1,6 +1,6 @@
 -- The laws of an error that is due.
 -- Assumes nothing.
-use Rattle.calls.proofs.CallWords.{ℕ, eqb, length, Bool, true, false, cond, not, _&&_, _||_, [], _∷_, _≡_, refl, sym, ap, _∙_, left, confirmationDenied}
+use Rattle.calls.proofs.CallWords.{eqb, length, Bool, true, false, not, _&&_, _||_, [], _∷_, _≡_, refl, sym, ap, _∙_, left, confirmationDenied}
 use Rattle.calls.proofs.CallWords.{errorMade, errorRu, negativeConfirmationRu, unitOf, nextNumber, paced, hasCredit, isSend, holdsSend, closeRefusal, closing}
 use Rattle.calls.proofs.CallWords.{recordGood, facts, Called, Station, Verb, refusalIn, called, firstNo}
 use lib.Dec.{T, leb}

@@ -1,10 +1,9 @@
 -- The laws of an error that is due, at any record and cells, forged ones too: what is left by an accepted send error, what flush then makes, and what is not
 -- allowed until that has gone.
 -- Assumes nothing.
-use Prim.Native.Nat.{ℕ}
 use mathlib.Core.Path.{_≡_}
 use mathlib.Core.Bool.{Bool, true, false}
-use mathlib.Core.List.{List, [], _∷_}
+use mathlib.Core.List.{[], _∷_}
 use Rattle.header.specs.declared.Follows.the-variants.{Stay, ChangeDirection, EndBracket}
 use Rattle.header.specs.declared.Header.the-variants.{ErrorDescription, NegativeConfirmation}
 use Rattle.unit.specs.Ru.{errorRu, negativeConfirmationRu}
@@ -13,7 +12,7 @@ use Rattle.unit.specs.Unit.{unitOf}
 use Rattle.pacing.specs.Pacing.{paced}
 use Rattle.control.specs.declared.State.the-variants.{Send}
 use Rattle.answers.specs.FirstNo.{firstNo}
-use Rattle.answers.specs.Answers.{BAD-BUFFER, BAD-RECORD, WRONG-STATE, NO-CREDIT}
+use Rattle.answers.specs.Answers.{BAD-BUFFER, WRONG-STATE, NO-CREDIT}
 use Rattle.end.specs.Record.{recordGood}
 use Rattle.calls.specs.Calls.{Station, Verb, allocate, confirmed, sendError, sendPacingResponse, withdraw, sendData, close, defer, receive}
 use Rattle.calls.specs.Calls.{flush, refusalIn, called}

@@ -1,6 +1,5 @@
 -- What holds of each call by itself, at any record, cells and unit, forged ones too: what a refusal is and leaves, question 5, and what a request and a
--- pacing response cost. Those of Defer are in DeferLaws, those of
--- an error that is due in ErrorLaws.
+-- pacing response cost. Those of Defer are in DeferLaws, those of an error that is due in ErrorLaws.
 -- Assumes nothing.
 use Prim.Native.Nat.{ℕ, _+_, _*_, _≤_, _<_}
 use mathlib.Core.Path.{_≡_}

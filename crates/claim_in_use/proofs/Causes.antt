@@ -2,7 +2,7 @@
 -- Assumes nothing.
 use Prim.Native.Nat.{ℕ}
 use mathlib.Core.Path.{_≡_, refl, sym, ap, _∙_, subst}
-use mathlib.Core.Bool.{Bool, true, false, not, cond, _&&_, _||_}
+use mathlib.Core.Bool.{Bool, true, false, not, cond, _||_}
 use mathlib.Core.List.{List, [], _∷_, _++_, append-nil}
 use native.Mathlib.Omega.{arith}
 use lib.Dec.{eqb}
@@ -19,12 +19,12 @@ use Rattle.unit.specs.Ru.{errorRu}
 use Rattle.unit.specs.Unit.{RU-START, headerIn}
 use Rattle.control.proofs.States.{state-is, nothing-is}
 use Rattle.joined.specs.Joined.{acted, took}
-use Rattle.joined.specs.Ends.{Lane, normal}
+use Rattle.joined.specs.Ends.{normal}
 use Rattle.joined.specs.Histories.{Log}
 use Rattle.joined.specs.Denials.{unitsMade, unitsTaken, announcedBehind, announced, AsAnnounced, Denials}
 use Rattle.joined.proofs.Announced.{as-announced-split, announced-split}
-use Rattle.calls.specs.UnitCounts.{isRequest, isNegativeConfirmation, isErrorHeader}
-use Rattle.claim_in_use.specs.OtherWords.{Seen, story, each, made, request, tookUnit, numberOf, Denies, IsCause, CauseNext, Causes, OneEnd}
+use Rattle.calls.specs.UnitCounts.{isNegativeConfirmation, isErrorHeader}
+use Rattle.claim_in_use.specs.OtherWords.{story, each, made, request, tookUnit, numberOf, Denies, IsCause, CauseNext, Causes, OneEnd}
 use Rattle.claim_in_use.proofs.Stories.{goes-on}
 
 -- ---- units, oldest first

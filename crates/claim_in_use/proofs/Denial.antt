@@ -1,7 +1,6 @@
 -- The claims and the laws of an error that is due read off the conversation where its bidder does not confirm.
 -- Assumes nothing.
-use Prim.Native.Nat.{ℕ}
-use mathlib.Core.Path.{_≡_, refl}
+use mathlib.Core.Path.{refl}
 use Rattle.joined.specs.Claim.{Claim, TheRecords}
 use Rattle.joined.specs.Denials.{TheDenials}
 use Rattle.calls.specs.Calls.{Verb, confirm, flush}

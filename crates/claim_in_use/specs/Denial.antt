@@ -3,7 +3,7 @@
 -- Assumes nothing.
 use Prim.Native.Nat.{ℕ}
 use mathlib.Core.Path.{_≡_}
-use mathlib.Core.Bool.{Bool, true, false, not, _&&_}
+use mathlib.Core.Bool.{true, false, not, _&&_}
 use mathlib.Core.List.{List, [], _∷_, _++_}
 use Rattle.logical_record.specs.Positions.{isWhole}
 use Rattle.logical_record.specs.declared.Position.the-variants.{Between}
@@ -14,11 +14,10 @@ use Rattle.joined.specs.Joined.{At, run}
 use Rattle.joined.specs.Ends.{Lane, normal, sameLane, acts, takes}
 use Rattle.joined.specs.Denials.{unitsMade, unitsTaken, announced}
 use Rattle.joined.specs.Claim.{Pair}
-use Rattle.calls.specs.Calls.{Station, Verb, confirm, flush, refusalIn, called}
-use Rattle.calls.specs.DeferLaws.{isOneOf}
+use Rattle.calls.specs.Calls.{Verb, confirm, flush, refusalIn, called}
 use Rattle.calls.specs.UnitCounts.{isErrorHeader}
 use Rattle.worked_examples.specs.Stations.{aBid, aPacingAnswer}
-use Rattle.claim_in_use.specs.Conversation.{ends, early, meanwhile, asking, denying, telling, calls, talked, reply3}
+use Rattle.claim_in_use.specs.Conversation.{ends, early, meanwhile, asking, denying, telling, talked, reply3}
 
 -- ---- the units
 

@@ -4,7 +4,7 @@ use Rattle.joined.proofs.JoinedWords.{ℕ, Bool, true, false, cond, _&&
 use Rattle.joined.proofs.JoinedWords.{sortOf, isAsking}
 use Rattle.cells.specs.Equal.{sameBytes}
 use Rattle.unit.specs.Ru.{errorRu}
-use Rattle.calls.specs.UnitCounts.{isRequest, isNegativeConfirmation, isErrorHeader}
+use Rattle.calls.specs.UnitCounts.{isRequest, isErrorHeader}
 use Rattle.calls.proofs.UnitsByHeader.{isTelling, isDenial, unit-says}
 use Rattle.joined.specs.Denials.{announcedBehind, announced, AsAnnounced}
 

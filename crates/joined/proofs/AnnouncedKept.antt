@@ -1,18 +1,18 @@
 -- Every call makes units as announced; and an end that was told of an error header waits for it in Receive with no mark.
 -- Assumes nothing.
-use Rattle.joined.proofs.JoinedWords.{ℕ, eqb, Bool, true, false, not, cond, List, [], _∷_, _++_, _≡_, refl, sym, ap, _∙_, never, cases, left}
+use Rattle.joined.proofs.JoinedWords.{ℕ, Bool, true, false, not, cond, List, [], _∷_, _++_, _≡_, refl, sym, ap, _∙_, never, cases, left}
 use Rattle.joined.proofs.JoinedWords.{Continues, Last, Follows, Header, fixedRu, bidRu, errorRu, negativeConfirmationRu, numberIn, paced, nextNumber, unitOf}
 use Rattle.joined.proofs.JoinedWords.{isFirstSpeaker, isReset, isReceive, isNothing, holdsSend, maySend, Control, WhatReceived, State, sending-clear, sending-holds}
 use Rattle.joined.proofs.JoinedWords.{closed, spilled, confirmationMade, confirmationDenied, errorMade, dataReceived, errorReceived, deferred, withdrawn}
 use Rattle.joined.proofs.JoinedWords.{negativeConfirmationReceived, requestMade, bidMade, bytesRead, headerReceived, ruReceived, dataJoined, bidAnswered}
-use Rattle.joined.proofs.JoinedWords.{errorMarked, creditRaised, recordGood, dataHeader, heldBytes, bytesKept, bytesSpilled, facts, closing}
+use Rattle.joined.proofs.JoinedWords.{errorMarked, creditRaised, dataHeader, heldBytes, bytesKept, bytesSpilled, facts, closing}
 use Rattle.joined.proofs.JoinedWords.{Station, Reply, Verb, allocate-cases, bidNumber, close-cases, confirmed-cases, send-error-cases}
-use Rattle.joined.proofs.JoinedWords.{pacing-response-cases, read-cases, send-cases, defer-cases, withdraw-cases, spilledRu, sortOf, isAsking, answer-sort}
+use Rattle.joined.proofs.JoinedWords.{pacing-response-cases, read-cases, send-cases, defer-cases, withdraw-cases, spilledRu, sortOf, isAsking}
 use Rattle.joined.proofs.JoinedWords.{TakeAsked, Lane, normal, acts, takes, Acted, Took}
 use Rattle.header.specs.declared.Header.the-variants.{Data, Bid, ErrorDescription, PositiveBidResponse, NegativeBidResponse, Confirmation}
 use Rattle.header.specs.declared.Header.the-variants.{NegativeConfirmation, PacingResponse}
 use Rattle.cells.specs.Equal.{sameBytes}
-use Rattle.control.specs.Questions.{mayAllocate, positiveResponseFits, confirmationFits}
+use Rattle.control.specs.Questions.{positiveResponseFits}
 use Rattle.control.specs.StateTests.{isConfirmAwaited}
 use Rattle.control.specs.declared.State.the-variants.{Reset, Receive, ConfirmOwed, ConfirmAwaited}
 use Rattle.control.specs.declared.WhatReceived.the-variants as mark
@@ -23,7 +23,7 @@ use Rattle.transitions.specs.Transitions.{confirmationReceived}
 use Rattle.answers.specs.FirstNo.{firstNo}
 use Rattle.answers.proofs.Rows.{yes}
 use Rattle.end.specs.ReceiveUnit.{kindQuestions}
-use Rattle.calls.specs.UnitCounts.{isRequest, isNegativeConfirmation}
+use Rattle.calls.specs.UnitCounts.{isNegativeConfirmation}
 use Rattle.calls.proofs.CallCases.{kind-cases, tookKind}
 use Rattle.calls.proofs.UnitsByHeader.{isDenial, request-received, denial-received}
 use Rattle.joined.specs.Denials.{announcedBehind}

@@ -6,7 +6,7 @@ use Rattle.joined.proofs.JoinedWords.{openedBoth, Log, Lines, acted, to
 use mathlib.Core.List.{append-assoc}
 use Rattle.joined.specs.Denials.{unitsMade, unitsTaken, announcedBehind, announced, AsAnnounced, Denials, TheDenials}
 use Rattle.joined.specs.Claim.{JoinedEnd}
-use Rattle.joined.proofs.EveryList.{Fact, Keeps, AfterAct, AfterTake, Ways, run-ways}
+use Rattle.joined.proofs.EveryList.{Fact, Keeps, AfterAct, AfterTake, run-ways}
 use Rattle.joined.proofs.Announced.{Tells, tells-fresh, announced-split, as-announced-split}
 use Rattle.joined.proofs.AnnouncedKept.{Awaits, tells-acts, tells-takes, awaits-acts, awaits-takes}
 

@@ -7,7 +7,7 @@ use Rattle.joined.proofs.JoinedWords.{Bidder, WhatReceived, send-is, se
 use Rattle.joined.proofs.JoinedWords.{afterLast, afterOwed, markOf, beginOf, closed, spilled, confirmationMade, confirmationDenied, errorMade}
 use Rattle.joined.proofs.JoinedWords.{errorReceived, negativeConfirmationReceived, errorMarked, send-error-cases, sentEnd, errorRu, negativeConfirmationRu}
 use Rattle.joined.proofs.JoinedWords.{sending-clear}
-use Rattle.joined.proofs.JoinedWords.{dataReceived, requestReceived, requestMade, nextNumber, bidMade, lastMade, bytesRead, headerReceived, ruReceived}
+use Rattle.joined.proofs.JoinedWords.{dataReceived, requestReceived, requestMade, nextNumber, bidMade, bytesRead, headerReceived, ruReceived}
 use Rattle.joined.proofs.JoinedWords.{dataJoined, bidAnswered, creditRaised, recordGood, dataHeader, heldBytes, bytesKept, bytesSpilled, End, facts}
 use Rattle.joined.proofs.JoinedWords.{Station, Reply, Verb, allocate-cases, bidNumber, close-cases, confirmed-cases, pacing-response-cases, read-cases}
 use Rattle.joined.proofs.JoinedWords.{send-cases, spilledRu, TakeAsked, Lane, normal, acts, takes, Acted, Took}

@@ -40,7 +40,7 @@ unfoldable pub use Rattle.receiving.specs.{Receiving.requestReceived}
 pub use Rattle.receiving.specs.{BytesRead.restBytes}
 unfoldable pub use Rattle.sending.specs.{Sending.requestMade}
 pub use Rattle.session.specs.{declared.Session.Session, Opening.freshEnd}
-unfoldable pub use Rattle.end.specs.{Allocate.bidMade, Close.lastMade, Receive.bytesRead, Receive.copyCount, ReceiveUnit.dataJoined}
+unfoldable pub use Rattle.end.specs.{Allocate.bidMade, Receive.bytesRead, Receive.copyCount, ReceiveUnit.dataJoined}
 unfoldable pub use Rattle.end.specs.{ReceiveUnit.bidAnswered, ReceiveUnit.errorMarked, ReceiveUnit.creditRaised, ReceiveUnit.receiveUnitRefusal, Requests.dataHeader}
 unfoldable pub use Rattle.end.specs.{SendData.bytesKept, SendData.bytesSpilled}
 pub use Rattle.end.specs.{Close.closing, Receive.recordRest, ReceiveUnit.headerReceived, ReceiveUnit.ruReceived, ReceiveUnit.ruleNamed, Record.recordGood}

@@ -18,7 +18,7 @@ use Rattle.logical_record.specs.declared.Walked.the-variants.{At, BadLength}
 use Rattle.logical_record.specs.declared.Rest.{Rest}
 use Rattle.logical_record.specs.declared.Rest.the-variants as restIs
 use Rattle.header.specs.declared.Header.the-variants.{Bid, ErrorDescription, Confirmation, NegativeConfirmation, PacingResponse}
-use Rattle.joined.proofs.JoinedWords.{confirmationDenied, errorMade, errorMarked, send-error-cases, sentEnd, errorRu, negativeConfirmationRu, maySend}
+use Rattle.joined.proofs.JoinedWords.{errorMade, errorMarked, send-error-cases, errorRu, negativeConfirmationRu}
 use Rattle.control.specs.declared.WhatReceived.the-variants as mark
 use Rattle.control.proofs.States.{not-holding, in-defer}
 use mathlib.Core.Bool.{and-false}

@@ -9,7 +9,7 @@ use Rattle.joined.proofs.JoinedWords.{confirmed-cases, pacing-response-
 use Rattle.joined.proofs.JoinedWords.{bitOf, answer-sort, Lane, normal, acts, takes, Acted, Took}
 use mathlib.Core.Bool.{or-false}
 use Rattle.header.specs.declared.Header.the-variants.{Bid, ErrorDescription, Confirmation, NegativeConfirmation, PacingResponse}
-use Rattle.joined.proofs.JoinedWords.{errorMarked, send-error-cases, sentEnd, errorRu, negativeConfirmationRu}
+use Rattle.joined.proofs.JoinedWords.{errorMarked, send-error-cases, errorRu, negativeConfirmationRu}
 use Rattle.joined.proofs.CallsOnLanes.{Laned, LanedTake}
 use Rattle.pacing.proofs.Windows.{no-flag-at-start}
 use Rattle.joined.proofs.PacingFlags.{Paces, paces-out, paces-answer, paces-took}

@@ -4,7 +4,7 @@ use Rattle.joined.proofs.JoinedWords.{ℕ, _+_, _-_, length, take, drop
 use Rattle.joined.proofs.JoinedWords.{_++_, append-nil, _≡_, refl, sym, ap, subst, arith, left, front, written, isWhole, thenWalk, walk, placeOr}
 use Rattle.joined.proofs.JoinedWords.{Position, same-position, Continues, Last, DataHeader, Follows, marks, unitOf, numberIn, paced, advanced, answered}
 use Rattle.joined.proofs.JoinedWords.{isReset, bidAnswer, beginOf, closed, spilled, confirmationMade, dataReceived, requestReceived, requestMade}
-use Rattle.joined.proofs.JoinedWords.{nextNumber, bidMade, lastMade, closing, deferred, withdrawn, defer-cases, withdraw-cases, bytesRead}
+use Rattle.joined.proofs.JoinedWords.{nextNumber, bidMade, closing, deferred, withdrawn, defer-cases, withdraw-cases, bytesRead}
 use Rattle.joined.proofs.JoinedWords.{headerReceived, ruReceived, dataJoined, bidAnswered, creditRaised}
 use Rattle.joined.proofs.JoinedWords.{dataHeader, heldBytes, bytesKept, bytesSpilled, gone, facts, Station, Reply, Verb, allocate-cases, close-cases}
 use Rattle.joined.proofs.JoinedWords.{confirmed-cases, pacing-response-cases, read-cases, send-cases, spilledRu, take-cases, SendAsked, spilledUnit}
@@ -25,7 +25,7 @@ use Rattle.calls.proofs.RecordStaysGood.{none-held}
 use Rattle.calls.proofs.ErrorLaws.{closed-chain}
 use mathlib.Core.Bool.{and-false}
 use Rattle.joined.proofs.JoinedWords.{isSend}
-use Rattle.joined.proofs.JoinedWords.{confirmationDenied, errorMade, errorMarked, errorReceived, send-error-cases, sentEnd, errorRu, negativeConfirmationRu, maySend, recordGood}
+use Rattle.joined.proofs.JoinedWords.{confirmationDenied, errorMade, errorMarked, send-error-cases, sentEnd, errorRu, maySend, recordGood}
 
 -- ---- one field at a time
 
