@@ -58,12 +58,23 @@ abbrev pub each : {A : Type 0} → (A → Bool) → List A → Bool
 each f [] = true
 each f (a ∷ rest) = f a && each f rest
 
+-- what holds at each number of a list
+abbrev pub All : (ℕ → Type 0) → List ℕ → Type 0
+All P [] = Unit {0}
+All P (n ∷ ns) = P n × All P ns
+
+pub at-member : (P : ℕ → Type 0) (x : ℕ) (ns : List ℕ) → All P ns → oneOf x ns ≡ true → P x
+at-member P x [] t e = never e
+at-member P x (n ∷ []) t e = rw (eqb-true x n e) (t .0)
+at-member P x (n ∷ m ∷ ns) t e =
+    split (eqb x n) (λ y. rw (eqb-true x n y) (t .0)) (λ y. at-member P x (m ∷ ns) (t .1) (or-right (eqb x n) (oneOf x (m ∷ ns)) e y))
+
+passed : (f : ℕ → Bool) (ns : List ℕ) → each f ns ≡ true → All (λ n. f n ≡ true) ns
+passed f [] t = tt
+passed f (n ∷ ns) t = let p = both (f n) (each f ns) t in (p .0, passed f ns (p .1))
+
 pub at-one : (f : ℕ → Bool) (x : ℕ) (ns : List ℕ) → each f ns ≡ true → oneOf x ns ≡ true → f x ≡ true
-at-one f x [] t e = never e
-at-one f x (n ∷ []) t e = rw (eqb-true x n e) (left (f n) true t)
-at-one f x (n ∷ m ∷ ns) t e =
-    let p = both (f n) (each f (m ∷ ns)) t in
-    split (eqb x n) (λ y. rw (eqb-true x n y) (p .0)) (λ y. at-one f x (m ∷ ns) (p .1) (or-right (eqb x n) (oneOf x (m ∷ ns)) e y))
+at-one f x ns t e = at-member (λ n. f n ≡ true) x ns (passed f ns t) e
 
 pub same-header : (h k : HeaderBytes) → sameHeader h k ≡ true → h ≡ k
 same-header h k e =

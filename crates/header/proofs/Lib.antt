@@ -1,6 +1,8 @@
 pub mod FiniteHeader
 mod Candidates
-mod HeaderSteps
+mod EveryByte
+mod LaterBits
+mod SameAnswers
 pub mod RoundTrip
 pub mod OnlyH1
 mod LowestNamed

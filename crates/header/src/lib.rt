@@ -1,5 +1,6 @@
 // The request/response header of three bytes: its fields, its rules, how it is built and how it is read.
 pub mod build;
+pub mod indicators;
 pub mod read_header;
 pub mod theorems;
 pub mod weights;

@@ -1,4 +1,5 @@
-// A header read: bytes to fields, or the lowest rule that is broken.
+// A header read: bytes to fields, or the lowest rule that is broken. The bits are tested in document 000's order (header::indicators);
+// here the rules are asked of them. The quoted words head the paragraphs of document 000's appendix D.
 use crate::ChainBegin;
 use crate::ChainEnd;
 use crate::DataHeader;
@@ -7,55 +8,124 @@ use crate::Header;
 use crate::HeaderBytes;
 use crate::HeaderRead;
 use crate::Rule;
-use crate::weights::BB;
-use crate::weights::CD;
-use crate::weights::CEB;
-use crate::weights::FIRST;
-use crate::weights::LAST;
-use crate::weights::PACING;
+use crate::indicators::Byte0;
+use crate::indicators::Byte1;
+use crate::indicators::Byte2;
+use crate::indicators::byte_0;
+use crate::indicators::byte_1;
+use crate::indicators::byte_2;
 ghost use mathlib.Core.Path.{_≡_};
-ghost use Prim.Native.Nat.{_<_};
-ghost use Rattle.header.specs.Weights.{on};
-ghost use Rattle.header.specs.Rules.{requestsConfirmation, dataH3, dataH4, dataH5, dataH6};
-ghost use Rattle.header.specs.Header.{beginOf, followOf, endOf, dataFields, readHeader};
-ghost use Rattle.header.specs.HeaderSteps.{goodOr, dataRead, errorRead, bidRead, responseRead, negativeConfirmationRead, positiveRead, negativeRead};
+ghost use Rattle.header.specs.Header.{beginOf, followOf, endOf, readHeader};
+ghost use Rattle.header.specs.HeaderSteps.{bitsH1, formIs, bracketIs, goodOr, requestRead, responseRead, positiveRead};
+ghost use Rattle.header.specs.HeaderSteps.{bitsH3, bitsH4, bitsH5, bitsH6, fieldsRead, firstBroken, dataRead};
 
-// The bit of this weight is on.
-fn has(byte: u8, weight: u8) -> bool
-    requires { ⌜ 0 < weight ⌝ }
-    ensures { λ r. ⌜ r ≡ on weight byte ⌝ }
+// H1. "RU Category": function management data or data flow control, no other. "Format Indicator": always on in flow control; in data it
+// says that an FM header follows, which only a request has. "Sense Data Included Indicator": only responses have sense data here, exception
+// requests (EXRs) are not in use. "Chaining Control": a response is always alone in its chain, and here so is every request but data
+// without an FM header.
+fn keeps_h1(b: Byte0) -> bool
+    ensures { λ r. ⌜ r ≡ bitsH1 b ⌝ }
 {
-    byte / weight % 2 == 1
+    let data_request = !(b.response | b.flow);
+    let format = data_request | (b.format == b.flow);
+    let sense = b.response | !b.sense;
+    let chain = (data_request & !b.format) | (b.first & b.last);
+    !b.other & (format & (sense & chain))
 }
 
-fn keeps_h3(b1: u8) -> bool
-    ensures { λ r. ⌜ r ≡ dataH3 b1 ⌝ }
+// "Form of Response Requested", "Response Type": the three bits are these, in the order of figure D-2.
+fn form_is(b: Byte1, dr1: bool, dr2: bool, exception: bool) -> bool
+    ensures { λ r. ⌜ r ≡ formIs b dr1 dr2 exception ⌝ }
 {
-    (b1 == 0x90) | ((b1 == 0x91) | ((b1 == 0x20) | (b1 == 0x21)))
+    !b.other & ((b.dr1 == dr1) & ((b.dr2 == dr2) & (b.exception == exception)))
 }
 
-fn requests_confirmation(b1: u8) -> bool
-    ensures { λ r. ⌜ r ≡ requestsConfirmation b1 ⌝ }
+// "Bracket Control", "Change Direction Indicator": BB is on, or off, and no other bit is on.
+fn bracket_is(b: Byte2, bb: bool) -> bool
+    ensures { λ r. ⌜ r ≡ bracketIs b bb ⌝ }
 {
-    (b1 == 0x20) | (b1 == 0x21)
+    !b.other & ((b.bb == bb) & (!b.cd & !b.ceb))
 }
 
-fn keeps_h4(b0: u8, b1: u8) -> bool
-    ensures { λ r. ⌜ r ≡ dataH4 b0 b1 ⌝ }
+fn good_or(ok: bool, fields: Header, rule: Rule) -> HeaderRead
+    ensures { λ r. ⌜ r ≡ goodOr ok fields rule ⌝ }
 {
-    !requests_confirmation(b1) | has(b0, LAST)
+    if ok {
+        HeaderRead::Good(fields)
+    } else {
+        HeaderRead::Breaks(rule)
+    }
 }
 
-fn keeps_h5(b2: u8) -> bool
-    ensures { λ r. ⌜ r ≡ dataH5 b2 ⌝ }
+// H2, of a fixed request: an error description, RQE1 (1,0,1), or a bid, RQD1 (1,0,0) with BB. "Pacing": a request's pacing bit is free.
+fn read_request(b1: Byte1, b2: Byte2, exception: bool, bb: bool, fields: Header) -> HeaderRead
+    ensures { λ r. ⌜ r ≡ requestRead b1 b2 exception bb fields ⌝ }
 {
-    (b2 == 0x00) | ((b2 == 0x01) | ((b2 == 0x20) | ((b2 == 0x80) | ((b2 == 0x81) | (b2 == 0xA0)))))
+    let form = form_is(b1, true, false, exception);
+    good_or(form & bracket_is(b2, bb), fields, Rule::H2)
 }
 
-fn keeps_h6(b0: u8, b2: u8) -> bool
-    ensures { λ r. ⌜ r ≡ dataH6 b0 b2 ⌝ }
+// H2, of a response of this form without the pacing bit. Byte 2 of a response is reserved (figure D-1).
+fn read_response(
+    b1: Byte1,
+    b2: Byte2,
+    dr1: bool,
+    dr2: bool,
+    negative: bool,
+    fields: Header,
+) -> HeaderRead
+    ensures { λ r. ⌜ r ≡ responseRead b1 b2 dr1 dr2 negative fields ⌝ }
 {
-    (!has(b2, BB) | has(b0, FIRST)) & (!(has(b2, CD) | has(b2, CEB)) | has(b0, LAST))
+    let form = form_is(b1, dr1, dr2, negative);
+    good_or(
+        (!b1.pacing & form) & bracket_is(b2, false),
+        fields,
+        Rule::H2,
+    )
+}
+
+// H2, of a positive response to data: an isolated pacing response (IPR), of the form (0,0,0) with the pacing bit, or a confirmation, +RSP2
+// (0,1,0).
+fn read_positive(b1: Byte1, b2: Byte2) -> HeaderRead
+    ensures { λ r. ⌜ r ≡ positiveRead b1 b2 ⌝ }
+{
+    let pacing = b1.pacing;
+    let form = form_is(b1, false, !pacing, false);
+    let good = form & bracket_is(b2, false);
+    if pacing {
+        good_or(good, Header::PacingResponse, Rule::H2)
+    } else {
+        good_or(good, Header::Confirmation, Rule::H2)
+    }
+}
+
+// H3. "Form of Response Requested": RQE1 (1,0,1), or RQD2 (0,1,0), which requests confirmation.
+fn keeps_h3(b: Byte1) -> bool
+    ensures { λ r. ⌜ r ≡ bitsH3 b ⌝ }
+{
+    form_is(b, true, false, true) | form_is(b, false, true, false)
+}
+
+// H4, of a byte 1 that keeps H3: confirmation is requested, by DR2, only on the last in a chain (figure D-2, note 2).
+fn keeps_h4(b0: Byte0, b1: Byte1) -> bool
+    ensures { λ r. ⌜ r ≡ bitsH4 b0 b1 ⌝ }
+{
+    !b1.dr2 | b0.last
+}
+
+// H5: CD and CEB do not stand together (figure 6.1-9, note 3).
+fn keeps_h5(b: Byte2) -> bool
+    ensures { λ r. ⌜ r ≡ bitsH5 b ⌝ }
+{
+    !b.other & !(b.cd & b.ceb)
+}
+
+// H6, of a byte 2 that keeps H5. "Bracket Control", "Change Direction Indicator": BB stands only on the first in a chain, CD and CEB only
+// on the last.
+fn keeps_h6(b0: Byte0, b2: Byte2) -> bool
+    ensures { λ r. ⌜ r ≡ bitsH6 b0 b2 ⌝ }
+{
+    (!b2.bb | b0.first) & (!(b2.cd | b2.ceb) | b0.last)
 }
 
 fn begin_of(first: bool, bb: bool) -> ChainBegin
@@ -96,125 +166,70 @@ fn end_of(last: bool, follows: Follows, confirm: bool) -> ChainEnd
     }
 }
 
-fn data_fields(h: HeaderBytes) -> DataHeader
-    ensures { λ r. ⌜ r ≡ dataFields h ⌝ }
+fn data_fields(b0: Byte0, b1: Byte1, b2: Byte2) -> DataHeader
+    ensures { λ r. ⌜ r ≡ fieldsRead b0 b1 b2 ⌝ }
 {
-    let begins = begin_of(has(h.b0, FIRST), has(h.b2, BB));
-    let follows = follow_of(has(h.b2, CD), has(h.b2, CEB));
-    let ends = end_of(has(h.b0, LAST), follows, requests_confirmation(h.b1));
+    let begins = begin_of(b0.first, b2.bb);
+    let follows = follow_of(b2.cd, b2.ceb);
+    let ends = end_of(b0.last, follows, b1.dr2);
     DataHeader {
         begins,
         ends,
-        pacing: has(h.b1, PACING),
+        pacing: b1.pacing,
     }
 }
 
-fn good_or(ok: bool, fields: Header, rule: Rule) -> HeaderRead
-    ensures { λ r. ⌜ r ≡ goodOr ok fields rule ⌝ }
+// The lowest of the four rules that is not kept, or the fields.
+fn first_broken(h3: bool, h4: bool, h5: bool, h6: bool, fields: DataHeader) -> HeaderRead
+    ensures { λ r. ⌜ r ≡ firstBroken h3 h4 h5 h6 fields ⌝ }
 {
-    if ok {
-        HeaderRead::Good(fields)
-    } else {
-        HeaderRead::Breaks(rule)
-    }
-}
-
-// H3 to H6, of data.
-fn read_data(h: HeaderBytes) -> HeaderRead
-    ensures { λ r. ⌜ r ≡ dataRead h ⌝ }
-{
-    if !keeps_h3(h.b1) {
+    if !h3 {
         return HeaderRead::Breaks(Rule::H3);
     }
-    if !keeps_h4(h.b0, h.b1) {
+    if !h4 {
         return HeaderRead::Breaks(Rule::H4);
     }
-    if !keeps_h5(h.b2) {
+    if !h5 {
         return HeaderRead::Breaks(Rule::H5);
     }
-    let d = data_fields(h);
-    good_or(keeps_h6(h.b0, h.b2), Header::Data(d), Rule::H6)
-}
-
-// H2, of each kind.
-fn read_error(b1: u8, b2: u8) -> HeaderRead
-    ensures { λ r. ⌜ r ≡ errorRead b1 b2 ⌝ }
-{
-    let pacing = has(b1, PACING);
-    good_or(
-        ((b1 == 0x90) | (b1 == 0x91)) & (b2 == 0x00),
-        Header::ErrorDescription(pacing),
-        Rule::H2,
-    )
-}
-
-fn read_bid(b1: u8, b2: u8) -> HeaderRead
-    ensures { λ r. ⌜ r ≡ bidRead b1 b2 ⌝ }
-{
-    let pacing = has(b1, PACING);
-    good_or(
-        ((b1 == 0x80) | (b1 == 0x81)) & (b2 == 0x80),
-        Header::Bid(pacing),
-        Rule::H2,
-    )
-}
-
-fn read_response(b1: u8, b2: u8) -> HeaderRead
-    ensures { λ r. ⌜ r ≡ responseRead b1 b2 ⌝ }
-{
-    if (b1 == 0x20) & (b2 == 0x00) {
-        return HeaderRead::Good(Header::Confirmation);
+    if !h6 {
+        return HeaderRead::Breaks(Rule::H6);
     }
-    good_or(
-        (b1 == 0x01) & (b2 == 0x00),
-        Header::PacingResponse,
-        Rule::H2,
-    )
+    HeaderRead::Good(Header::Data(fields))
 }
 
-fn read_negative_confirmation(b1: u8, b2: u8) -> HeaderRead
-    ensures { λ r. ⌜ r ≡ negativeConfirmationRead b1 b2 ⌝ }
+// H3 to H6, of data. H4 and H6 look back at byte 0, and each waits for the whole of its own byte: in 00 90 88 BB, the first bit of byte 2,
+// breaks H6, but code selection, a later bit, breaks H5.
+fn read_data(b0: Byte0, b1: Byte1, b2: Byte2) -> HeaderRead
+    ensures { λ r. ⌜ r ≡ dataRead b0 b1 b2 ⌝ }
 {
-    good_or(
-        (b1 == 0x30) & (b2 == 0x00),
-        Header::NegativeConfirmation,
-        Rule::H2,
-    )
+    let h3 = keeps_h3(b1);
+    let h4 = keeps_h4(b0, b1);
+    let h5 = keeps_h5(b2);
+    let h6 = keeps_h6(b0, b2);
+    let fields = data_fields(b0, b1, b2);
+    first_broken(h3, h4, h5, h6, fields)
 }
 
-fn read_positive(b1: u8, b2: u8) -> HeaderRead
-    ensures { λ r. ⌜ r ≡ positiveRead b1 b2 ⌝ }
-{
-    good_or(
-        (b1 == 0x80) & (b2 == 0x00),
-        Header::PositiveBidResponse,
-        Rule::H2,
-    )
-}
-
-fn read_negative(b1: u8, b2: u8) -> HeaderRead
-    ensures { λ r. ⌜ r ≡ negativeRead b1 b2 ⌝ }
-{
-    good_or(
-        (b1 == 0x90) & (b2 == 0x00),
-        Header::NegativeBidResponse,
-        Rule::H2,
-    )
-}
-
-// The fields of three bytes, or the lowest rule that they break: the kind by byte 0, and then the rules of that kind in their order.
+// The fields of three bytes, or the lowest rule that they break. Byte 0, byte 1 and byte 2 are tested in this order; then the kind is
+// decided by byte 0, and the rules of that kind are asked. Of the bytes 0 that keep H1 the match leaves CF, a negative bid response.
 pub fn read_header(h: HeaderBytes) -> HeaderRead
     ensures { λ r. ⌜ r ≡ readHeader h ⌝ }
 {
-    let b0 = h.b0;
-    match b0 {
-        0..=3 => read_data(h),
-        0x0B => read_error(h.b1, h.b2),
-        0x4B => read_bid(h.b1, h.b2),
-        0x83 => read_response(h.b1, h.b2),
-        0x87 => read_negative_confirmation(h.b1, h.b2),
-        0xCB => read_positive(h.b1, h.b2),
-        0xCF => read_negative(h.b1, h.b2),
-        _ => HeaderRead::Breaks(Rule::H1),
+    let kind = h.b0;
+    let b0 = byte_0(kind);
+    if !keeps_h1(b0) {
+        return HeaderRead::Breaks(Rule::H1);
+    }
+    let b1 = byte_1(h.b1);
+    let b2 = byte_2(h.b2);
+    match kind {
+        0..=3 => read_data(b0, b1, b2),
+        0x0B => read_request(b1, b2, true, false, Header::ErrorDescription(b1.pacing)),
+        0x4B => read_request(b1, b2, false, true, Header::Bid(b1.pacing)),
+        0x83 => read_positive(b1, b2),
+        0x87 => read_response(b1, b2, false, true, true, Header::NegativeConfirmation),
+        0xCB => read_response(b1, b2, true, false, false, Header::PositiveBidResponse),
+        _ => read_response(b1, b2, true, false, true, Header::NegativeBidResponse),
     }
 }
