@@ -20,17 +20,14 @@ use Rattle.header.specs.declared.HeaderRead.the-variants.{Good, Breaks}
 
 -- ---- byte 0: H1
 
--- data, or an error description, which starts with an FM header
-abbrev pub dataRequest : Byte0 → Bool
-dataRequest b = not (b .response || b .flow)
+abbrev pub alone : Byte0 → Bool
+alone b = b .first && b .last
 
--- the other bits off; format on in flow control, off in a data response and free in a data request; sense data in responses only; and
--- alone in its chain, unless it is a data request without an FM header
+-- a response is alone in its chain, and has format in flow control; a request has no sense data, and is data, or has format and is alone
 abbrev pub bitsH1 : Byte0 → Bool
 bitsH1 b =
-    not (b .other)
-    && ((dataRequest b || Bool·beq (b .format) (b .flow))
-    && ((b .response || not (b .sense)) && ((dataRequest b && not (b .format)) || (b .first && b .last))))
+    cond (b .response) (not (b .other) && (alone b && Bool·beq (b .format) (b .flow)))
+    (not (b .other) && (not (b .sense) && (not (b .flow || b .format) || (b .format && alone b))))
 
 -- ---- bytes 1 and 2 of a fixed kind: H2
 

@@ -19,18 +19,20 @@ ghost use Rattle.header.specs.Header.{beginOf, followOf, endOf, readHead
 ghost use Rattle.header.specs.HeaderSteps.{bitsH1, formIs, bracketIs, goodOr, requestRead, responseRead, positiveRead};
 ghost use Rattle.header.specs.HeaderSteps.{bitsH3, bitsH4, bitsH5, bitsH6, fieldsRead, firstBroken, dataRead};
 
-// H1. "RU Category": function management data or data flow control, no other. "Format Indicator": always on in flow control; in data it
-// says that an FM header follows, which only a request has. "Sense Data Included Indicator": only responses have sense data here, exception
-// requests (EXRs) are not in use. "Chaining Control": a response is always alone in its chain, and here so is every request but data
-// without an FM header.
+// H1, by figure D-1's two formats. "RU Category": data or flow control, no other. "Format Indicator": a response has it in flow control
+// alone; a request has it in flow control, and in data where an FM header follows. "Sense Data Included Indicator": not in a request, as
+// exception requests (EXRs) are not in use. "Chaining Control": all but data without an FM header is alone in its chain.
 fn keeps_h1(b: Byte0) -> bool
     ensures { λ r. ⌜ r ≡ bitsH1 b ⌝ }
 {
-    let data_request = !(b.response | b.flow);
-    let format = data_request | (b.format == b.flow);
-    let sense = b.response | !b.sense;
-    let chain = (data_request & !b.format) | (b.first & b.last);
-    !b.other & (format & (sense & chain))
+    let alone = b.first & b.last;
+    let response = alone & (b.format == b.flow);
+    let request = !b.sense & (!(b.flow | b.format) | (b.format & alone));
+    if b.response {
+        !b.other & response
+    } else {
+        !b.other & request
+    }
 }
 
 // "Form of Response Requested", "Response Type": the three bits are these, in the order of figure D-2.
