@@ -11,7 +11,7 @@ use Rattle.header.specs.Weights.{DR2, PACING, on}
 use Rattle.header.specs.Rules.{bytes, keepsH1, requestsConfirmation, dataH3, dataH4, dataH5, dataH6, keeps, lowestBroken, headerGood}
 use Rattle.header.specs.Header.{beginOf, followOf, endOf, dataFields, fieldsOf, readHeader}
 use Rattle.header.specs.Indicators.{byte0, byte1, byte2}
-use Rattle.header.specs.HeaderSteps.{bitsH1, bitsH3, bitsH5, formIs, bracketIs, goodOr, firstBroken, dataRead, kindRead, readBits}
+use Rattle.header.specs.HeaderSteps.{bitsH1, bitsH3, bitsH5, formIs, bracketIs, fixedRead, firstBroken, dataRead, kindRead, readBits}
 use Rattle.header.specs.ManualOrder.{SameAnswers}
 use Rattle.header.specs.declared.DataHeader.{DataHeader}
 use Rattle.header.specs.declared.Header.{Header}
@@ -113,7 +113,7 @@ abbrev byH2 : Bool → Header → HeaderRead
 byH2 k f = cond (k && true) (Good f) (Breaks (cond (not k) H2 H6))
 
 -- two rows of it, or one
-two-rows : (a b c : Bool) (f : Header) → goodOr ((a || b) && c) f H2 ≡ byH2 (a && c || (b && c || false)) f
+two-rows : (a b c : Bool) (f : Header) → fixedRead ((a || b) && c) f ≡ byH2 (a && c || (b && c || false)) f
 two-rows true b true f = refl
 two-rows true true false f = refl
 two-rows true false false f = refl
@@ -121,7 +121,7 @@ two-rows false true true f = refl
 two-rows false true false f = refl
 two-rows false false c f = refl
 
-one-row : (a c : Bool) (f : Header) → goodOr (a && c) f H2 ≡ byH2 (a && c || false) f
+one-row : (a c : Bool) (f : Header) → fixedRead (a && c) f ≡ byH2 (a && c || false) f
 one-row true true f = refl
 one-row true false f = refl
 one-row false c f = refl

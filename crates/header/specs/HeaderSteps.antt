@@ -9,7 +9,6 @@ use Rattle.header.specs.declared.indicators.Byte0.{Byte0}
 use Rattle.header.specs.declared.indicators.Byte1.{Byte1}
 use Rattle.header.specs.declared.indicators.Byte2.{Byte2}
 use Rattle.header.specs.declared.HeaderBytes.{HeaderBytes}
-use Rattle.header.specs.declared.Rule.{Rule}
 use Rattle.header.specs.declared.Rule.the-variants.{H1, H2, H3, H4, H5, H6}
 use Rattle.header.specs.declared.DataHeader.{DataHeader}
 use Rattle.header.specs.declared.Header.{Header}
@@ -39,20 +38,20 @@ formIs b dr1 dr2 exception = not (b .other) && (Bool·beq (b .dr1) dr1 && (Bool�
 abbrev pub bracketIs : Byte2 → Bool → Bool
 bracketIs b bb = not (b .other) && (Bool·beq (b .bb) bb && (not (b .cd) && not (b .ceb)))
 
-abbrev pub goodOr : Bool → Header → Rule → HeaderRead
-goodOr ok f r = cond ok (Good f) (Breaks r)
+abbrev pub fixedRead : Bool → Header → HeaderRead
+fixedRead ok f = cond ok (Good f) (Breaks H2)
 
 -- an error description and a bid, whose pacing bit is free
 abbrev pub requestRead : Byte1 → Byte2 → Bool → Bool → Header → HeaderRead
-requestRead b1 b2 exception bb f = goodOr (formIs b1 true false exception && bracketIs b2 bb) f H2
+requestRead b1 b2 exception bb f = fixedRead (formIs b1 true false exception && bracketIs b2 bb) f
 
 -- a response of this form, with the pacing bit off
 abbrev pub responseRead : Byte1 → Byte2 → Bool → Bool → Bool → Header → HeaderRead
-responseRead b1 b2 dr1 dr2 negative f = goodOr ((not (b1 .pacing) && formIs b1 dr1 dr2 negative) && bracketIs b2 false) f H2
+responseRead b1 b2 dr1 dr2 negative f = fixedRead ((not (b1 .pacing) && formIs b1 dr1 dr2 negative) && bracketIs b2 false) f
 
 -- a pacing response, of no form and with the pacing bit on, or a confirmation
 abbrev pub positiveRead : Byte1 → Byte2 → HeaderRead
-positiveRead b1 b2 = goodOr (formIs b1 false (not (b1 .pacing)) false && bracketIs b2 false) (cond (b1 .pacing) PacingResponse Confirmation) H2
+positiveRead b1 b2 = fixedRead (formIs b1 false (not (b1 .pacing)) false && bracketIs b2 false) (cond (b1 .pacing) PacingResponse Confirmation)
 
 -- ---- bytes 1 and 2 of data: H3 to H6
 

@@ -16,7 +16,7 @@ use crate::indicators::byte_1;
 use crate::indicators::byte_2;
 ghost use mathlib.Core.Path.{_≡_};
 ghost use Rattle.header.specs.Header.{beginOf, followOf, endOf, readHeader};
-ghost use Rattle.header.specs.HeaderSteps.{bitsH1, formIs, bracketIs, goodOr, requestRead, responseRead, positiveRead};
+ghost use Rattle.header.specs.HeaderSteps.{bitsH1, formIs, bracketIs, fixedRead, requestRead, responseRead, positiveRead};
 ghost use Rattle.header.specs.HeaderSteps.{bitsH3, bitsH4, bitsH5, bitsH6, fieldsRead, firstBroken, dataRead};
 
 // H1, by figure D-1's two formats. "RU Category": data or flow control, no other. "Format Indicator": a response has it in flow control
@@ -49,25 +49,26 @@ fn bracket_is(b: Byte2, bb: bool) -> bool
     !b.other & ((b.bb == bb) & (!b.cd & !b.ceb))
 }
 
-fn good_or(ok: bool, fields: Header, rule: Rule) -> HeaderRead
-    ensures { λ r. ⌜ r ≡ goodOr ok fields rule ⌝ }
+// H2, of a fixed kind: its fields, where bytes 1 and 2 are as they must be.
+fn read_fixed(ok: bool, fields: Header) -> HeaderRead
+    ensures { λ r. ⌜ r ≡ fixedRead ok fields ⌝ }
 {
     if ok {
         HeaderRead::Good(fields)
     } else {
-        HeaderRead::Breaks(rule)
+        HeaderRead::Breaks(Rule::H2)
     }
 }
 
-// H2, of a fixed request: an error description, RQE1 (1,0,1), or a bid, RQD1 (1,0,0) with BB. "Pacing": a request's pacing bit is free.
+// A fixed request: an error description, RQE1 (1,0,1), or a bid, RQD1 (1,0,0) with BB. "Pacing": a request's pacing bit is free.
 fn read_request(b1: Byte1, b2: Byte2, exception: bool, bb: bool, fields: Header) -> HeaderRead
     ensures { λ r. ⌜ r ≡ requestRead b1 b2 exception bb fields ⌝ }
 {
     let form = form_is(b1, true, false, exception);
-    good_or(form & bracket_is(b2, bb), fields, Rule::H2)
+    read_fixed(form & bracket_is(b2, bb), fields)
 }
 
-// H2, of a response of this form without the pacing bit. Byte 2 of a response is reserved (figure D-1).
+// A response of this form, without the pacing bit. Byte 2 of a response is reserved (figure D-1).
 fn read_response(
     b1: Byte1,
     b2: Byte2,
@@ -79,14 +80,10 @@ fn read_response(
     ensures { λ r. ⌜ r ≡ responseRead b1 b2 dr1 dr2 negative fields ⌝ }
 {
     let form = form_is(b1, dr1, dr2, negative);
-    good_or(
-        (!b1.pacing & form) & bracket_is(b2, false),
-        fields,
-        Rule::H2,
-    )
+    read_fixed((!b1.pacing & form) & bracket_is(b2, false), fields)
 }
 
-// H2, of a positive response to data: an isolated pacing response (IPR), of the form (0,0,0) with the pacing bit, or a confirmation, +RSP2
+// A positive response to data: an isolated pacing response (IPR), of the form (0,0,0) with the pacing bit, or a confirmation, +RSP2
 // (0,1,0).
 fn read_positive(b1: Byte1, b2: Byte2) -> HeaderRead
     ensures { λ r. ⌜ r ≡ positiveRead b1 b2 ⌝ }
@@ -95,9 +92,9 @@ fn read_positive(b1: Byte1, b2: Byte2) -> HeaderRead
     let form = form_is(b1, false, !pacing, false);
     let good = form & bracket_is(b2, false);
     if pacing {
-        good_or(good, Header::PacingResponse, Rule::H2)
+        read_fixed(good, Header::PacingResponse)
     } else {
-        good_or(good, Header::Confirmation, Rule::H2)
+        read_fixed(good, Header::Confirmation)
     }
 }
 
