@@ -14,13 +14,13 @@ use Rattle.bools.proofs.Finite.{halves}
 use Rattle.header.proofs.FiniteHeader.{each, at-one, at-header}
 
 -- the lists of H1, H3 and H5
-abbrev heads : List ℕ
+abbrev pub heads : List ℕ
 heads = 0x00 ∷ 0x01 ∷ 0x02 ∷ 0x03 ∷ 0x0B ∷ 0x4B ∷ 0x83 ∷ 0x87 ∷ 0xCB ∷ 0xCF ∷ []
 
 abbrev answers : List ℕ
 answers = 0x90 ∷ 0x91 ∷ 0x20 ∷ 0x21 ∷ []
 
-abbrev brackets : List ℕ
+abbrev pub brackets : List ℕ
 brackets = 0x00 ∷ 0x01 ∷ 0x20 ∷ 0x80 ∷ 0x81 ∷ 0xA0 ∷ []
 
 abbrev pub allCandidates : (HeaderBytes → Bool) → Bool

@@ -1,4 +1,4 @@
--- Two tests that agree at each of the 256 numbers below 256, which antt computes, agree at every byte.
+-- Two tests that agree at each number below 256, which antt computes, agree at every byte; and so at every byte and every value of a finite type.
 -- Assumes nothing.
 use mathlib.Core.Path.{_≡_, refl}
 use mathlib.Core.Bool.{Bool, true, false, _&&_, Bool·beq}
@@ -8,6 +8,7 @@ use borrow.Author.Tests.{eqb-true, eqb-false}
 use lib.Dec.{eqb}
 use Rattle.bools.proofs.Cases.{never, split}
 use Rattle.bools.proofs.Tests.{left, right}
+use Rattle.bools.proofs.Finite.{Finite}
 
 abbrev allBelow : (ℕ → Bool) → ℕ → Bool
 allBelow f zero = true
@@ -25,5 +26,12 @@ same true false e = never e
 same false true e = never e
 same false false e = refl
 
-pub at-byte : (f g : ℕ → Bool) → allBelow (λ b. Bool·beq (f b) (g b)) 256 ≡ true → (x : ℕ) → x < 256 → f x ≡ g x
+abbrev agree : (ℕ → Bool) → (ℕ → Bool) → Bool
+agree f g = allBelow (λ b. Bool·beq (f b) (g b)) 256
+
+pub at-byte : (f g : ℕ → Bool) → agree f g ≡ true → (x : ℕ) → x < 256 → f x ≡ g x
 at-byte f g t x h = same (f x) (g x) (at-below (λ b. Bool·beq (f b) (g b)) 256 t x h)
+
+pub at-byte-and : {A : Type 0} (s : Finite A) (f g : A → ℕ → Bool) → s .all (λ a. agree (f a) (g a)) ≡ true
+    → (a : A) (x : ℕ) → x < 256 → f a x ≡ g a x
+at-byte-and s f g t a = at-byte (f a) (g a) (s .at (λ a. agree (f a) (g a)) t a)

@@ -9,7 +9,7 @@ use lib.Dec.{leb}
 use Rattle.header.specs.Rules.{bytes, oneOf, dataH3, headerGood}
 use Rattle.header.specs.HeaderClaims.{sumBelow, goodHeaders, FiftyOne}
 use Rattle.header.specs.declared.HeaderBytes.{HeaderBytes}
-use Rattle.header.proofs.Candidates.{allCandidates, good-at}
+use Rattle.header.proofs.Candidates.{heads, brackets, allCandidates, good-at}
 use Rattle.bools.proofs.Cases.{never}
 use Rattle.bools.proofs.Tests.{both, follows-from}
 
@@ -31,13 +31,13 @@ guarded false s e = e refl
 -- ---- the bytes of a good header
 
 head : ℕ → Bool
-head x = oneOf x (0x00 ∷ 0x01 ∷ 0x02 ∷ 0x03 ∷ 0x0B ∷ 0x4B ∷ 0x83 ∷ 0x87 ∷ 0xCB ∷ 0xCF ∷ [])
+head x = oneOf x heads
 
 answer : ℕ → ℕ → Bool
 answer x y = cond (leb x 0x03) (dataH3 y) (oneOf y (0x01 ∷ 0x20 ∷ 0x30 ∷ 0x80 ∷ 0x81 ∷ 0x90 ∷ 0x91 ∷ []))
 
 bracket : ℕ → Bool
-bracket z = oneOf z (0x00 ∷ 0x01 ∷ 0x20 ∷ 0x80 ∷ 0x81 ∷ 0xA0 ∷ [])
+bracket z = oneOf z brackets
 
 abbrev plausible : HeaderBytes → Bool
 plausible h = head (h .b0) && (answer (h .b0) (h .b1) && bracket (h .b2))

@@ -4,10 +4,11 @@
 use mathlib.Core.Path.{_≡_, refl}
 use mathlib.Core.Bool.{Bool, true, false, not, cond, _&&_, _||_}
 use mathlib.Core.List.{[], _∷_}
-use Prim.Native.Nat.{ℕ, _<_}
+use Prim.Native.Nat.{ℕ, _+_, _<_}
 use lib.Dec.{eqb}
 use Rattle.bools.proofs.Cases.{split}
-use Rattle.header.specs.Weights.{DR2, PACING, on}
+use Rattle.bools.proofs.Finite.{Finite, pairs, bools}
+use Rattle.header.specs.Weights.{DR1, DR2, EXCEPTION, PACING, BB, on, bit}
 use Rattle.header.specs.Rules.{bytes, keepsH1, requestsConfirmation, dataH3, dataH4, dataH5, dataH6, keeps, lowestBroken, headerGood}
 use Rattle.header.specs.Header.{beginOf, followOf, endOf, dataFields, fieldsOf, readHeader}
 use Rattle.header.specs.Indicators.{byte0, byte1, byte2}
@@ -20,8 +21,9 @@ use Rattle.header.specs.declared.Header.the-variants.{PositiveBidRespons
 use Rattle.header.specs.declared.HeaderRead.{HeaderRead}
 use Rattle.header.specs.declared.HeaderRead.the-variants.{Good, Breaks}
 use Rattle.header.specs.declared.Rule.the-variants.{H1, H2, H3, H4, H5, H6}
-use Rattle.header.proofs.FiniteHeader.{at-member}
-use Rattle.header.proofs.EveryByte.{at-byte}
+use Rattle.header.proofs.FiniteHeader.{All, at-member}
+use Rattle.header.proofs.Candidates.{heads}
+use Rattle.header.proofs.EveryByte.{at-byte, at-byte-and}
 
 -- ---- the rules, of bits
 
@@ -77,36 +79,32 @@ data-lowest x y z hy hz =
 
 -- ---- the fixed kinds: H2
 
--- byte 1 of an error description and of a bid, with either pacing bit
-exception-1 : (y : ℕ) → y < 256 → formIs (byte1 y) true false true ≡ eqb y 0x90 || eqb y 0x91
-exception-1 = at-byte (λ y. formIs (byte1 y) true false true) (λ y. eqb y 0x90 || eqb y 0x91) refl
+abbrev forms : Finite (Bool × (Bool × Bool))
+forms = pairs bools (pairs bools bools)
 
-definite-1 : (y : ℕ) → y < 256 → formIs (byte1 y) true false false ≡ eqb y 0x80 || eqb y 0x81
-definite-1 = at-byte (λ y. formIs (byte1 y) true false false) (λ y. eqb y 0x80 || eqb y 0x81) refl
+-- byte 1 of each form of response: with either pacing bit, or with it off
+abbrev formByte : Bool → Bool → Bool → ℕ
+formByte dr1 dr2 exception = bit dr1 DR1 + bit dr2 DR2 + bit exception EXCEPTION
 
--- of a confirmation and of a pacing response
+either : (dr1 dr2 exception : Bool) (y : ℕ) → y < 256
+    → formIs (byte1 y) dr1 dr2 exception ≡ eqb y (formByte dr1 dr2 exception) || eqb y (formByte dr1 dr2 exception + PACING)
+either dr1 dr2 exception =
+    at-byte-and forms (λ f y. formIs (byte1 y) (f .0) (f .1 .0) (f .1 .1))
+    (λ f y. eqb y (formByte (f .0) (f .1 .0) (f .1 .1)) || eqb y (formByte (f .0) (f .1 .0) (f .1 .1) + PACING)) refl (dr1, (dr2, exception))
+
+unpaced : (dr1 dr2 exception : Bool) (y : ℕ) → y < 256
+    → not (on PACING y) && formIs (byte1 y) dr1 dr2 exception ≡ eqb y (formByte dr1 dr2 exception)
+unpaced dr1 dr2 exception =
+    at-byte-and forms (λ f y. not (on PACING y) && formIs (byte1 y) (f .0) (f .1 .0) (f .1 .1))
+    (λ f y. eqb y (formByte (f .0) (f .1 .0) (f .1 .1))) refl (dr1, (dr2, exception))
+
+-- byte 1 of a confirmation and of a pacing response
 positive : (y : ℕ) → y < 256 → formIs (byte1 y) false (not (on PACING y)) false ≡ eqb y 0x20 || eqb y 0x01
 positive = at-byte (λ y. formIs (byte1 y) false (not (on PACING y)) false) (λ y. eqb y 0x20 || eqb y 0x01) refl
 
--- of the other responses
-abbrev unpaced : Bool → Bool → Bool → ℕ → Bool
-unpaced dr1 dr2 negative y = not (on PACING y) && formIs (byte1 y) dr1 dr2 negative
-
-unpaced-30 : (y : ℕ) → y < 256 → unpaced false true true y ≡ eqb y 0x30
-unpaced-30 = at-byte (unpaced false true true) (λ y. eqb y 0x30) refl
-
-unpaced-80 : (y : ℕ) → y < 256 → unpaced true false false y ≡ eqb y 0x80
-unpaced-80 = at-byte (unpaced true false false) (λ y. eqb y 0x80) refl
-
-unpaced-90 : (y : ℕ) → y < 256 → unpaced true false true y ≡ eqb y 0x90
-unpaced-90 = at-byte (unpaced true false true) (λ y. eqb y 0x90) refl
-
--- byte 2
-no-bits : (z : ℕ) → z < 256 → bracketIs (byte2 z) false ≡ eqb z 0x00
-no-bits = at-byte (λ z. bracketIs (byte2 z) false) (λ z. eqb z 0x00) refl
-
-bb-alone : (z : ℕ) → z < 256 → bracketIs (byte2 z) true ≡ eqb z 0x80
-bb-alone = at-byte (λ z. bracketIs (byte2 z) true) (λ z. eqb z 0x80) refl
+-- byte 2, with BB or without
+bracket : (bb : Bool) (z : ℕ) → z < 256 → bracketIs (byte2 z) bb ≡ eqb z (bit bb BB)
+bracket = at-byte-and bools (λ bb z. bracketIs (byte2 z) bb) (λ bb z. eqb z (bit bb BB)) refl
 
 -- what H2 says where this is left of its list
 abbrev byH2 : Bool → Header → HeaderRead
@@ -138,44 +136,34 @@ module _ (y z : ℕ) (hy : y < 256) (hz : z < 256) where
 
   error-kind : ByRules 0x0B
   unfolding kindRead readHeader fieldsOf headerGood lowestBroken keeps
-  error-kind = rw (exception-1 y hy, no-bits z hz) (two-rows (eqb y 0x90) (eqb y 0x91) (eqb z 0x00) (ErrorDescription (on PACING y)))
+  error-kind = rw (either true false true y hy, bracket false z hz) (two-rows (eqb y 0x90) (eqb y 0x91) (eqb z 0x00) (ErrorDescription (on PACING y)))
 
   bid-kind : ByRules 0x4B
   unfolding kindRead readHeader fieldsOf headerGood lowestBroken keeps
-  bid-kind = rw (definite-1 y hy, bb-alone z hz) (two-rows (eqb y 0x80) (eqb y 0x81) (eqb z 0x80) (Bid (on PACING y)))
+  bid-kind = rw (either true false false y hy, bracket true z hz) (two-rows (eqb y 0x80) (eqb y 0x81) (eqb z 0x80) (Bid (on PACING y)))
 
   positive-kind : ByRules 0x83
   unfolding kindRead readHeader fieldsOf headerGood lowestBroken keeps
   positive-kind =
-      rw (positive y hy, no-bits z hz) (two-rows (eqb y 0x20) (eqb y 0x01) (eqb z 0x00) (cond (on PACING y) PacingResponse Confirmation))
+      rw (positive y hy, bracket false z hz) (two-rows (eqb y 0x20) (eqb y 0x01) (eqb z 0x00) (cond (on PACING y) PacingResponse Confirmation))
 
   negative-confirmation-kind : ByRules 0x87
   unfolding kindRead readHeader fieldsOf headerGood lowestBroken keeps
-  negative-confirmation-kind = rw (unpaced-30 y hy, no-bits z hz) (one-row (eqb y 0x30) (eqb z 0x00) NegativeConfirmation)
+  negative-confirmation-kind = rw (unpaced false true true y hy, bracket false z hz) (one-row (eqb y 0x30) (eqb z 0x00) NegativeConfirmation)
 
   positive-bid-kind : ByRules 0xCB
   unfolding kindRead readHeader fieldsOf headerGood lowestBroken keeps
-  positive-bid-kind = rw (unpaced-80 y hy, no-bits z hz) (one-row (eqb y 0x80) (eqb z 0x00) PositiveBidResponse)
+  positive-bid-kind = rw (unpaced true false false y hy, bracket false z hz) (one-row (eqb y 0x80) (eqb z 0x00) PositiveBidResponse)
 
   negative-bid-kind : ByRules 0xCF
   unfolding kindRead readHeader fieldsOf headerGood lowestBroken keeps
-  negative-bid-kind = rw (unpaced-90 y hy, no-bits z hz) (one-row (eqb y 0x90) (eqb z 0x00) NegativeBidResponse)
+  negative-bid-kind = rw (unpaced true false true y hy, bracket false z hz) (one-row (eqb y 0x90) (eqb z 0x00) NegativeBidResponse)
+
+  fixed-kinds : All ByRules (0x0B ∷ 0x4B ∷ 0x83 ∷ 0x87 ∷ 0xCB ∷ 0xCF ∷ [])
+  fixed-kinds = (error-kind, (bid-kind, (positive-kind, (negative-confirmation-kind, (positive-bid-kind, (negative-bid-kind, tt))))))
 
   kinds : (x : ℕ) → keepsH1 (bytes x y z) ≡ true → ByRules x
-  kinds x e =
-      at-member ByRules x (0x00 ∷ 0x01 ∷ 0x02 ∷ 0x03 ∷ 0x0B ∷ 0x4B ∷ 0x83 ∷ 0x87 ∷ 0xCB ∷ 0xCF ∷ []) (
-        data-kinds .0,
-        (
-          data-kinds .1,
-          (
-            data-kinds .2,
-            (
-              data-kinds .3,
-              (error-kind, (bid-kind, (positive-kind, (negative-confirmation-kind, (positive-bid-kind, (negative-bid-kind, tt)))))),
-            ),
-          ),
-        ),
-      ) e
+  kinds x e = let d = data-kinds in at-member ByRules x heads (d .0, (d .1, (d .2, (d .3, fixed-kinds)))) e
 
 -- ---- any other byte 0: H1
 

@@ -73,14 +73,16 @@ returns-7 : tie.Need-returns-7
 unfolding readBits kindRead
 returns-7 c =
     let h = c .before .before .before .before .before .before .before .before .args .h in
+    let b0 = c .before .before .before .before .before .before .before .byte-0 .ensures in
     let k = c .before .before .before .before .before .before .keeps-h1 in
+    let kept = h1-says (h .b0) _ (k .result) true b0 (k .ensures) (not-false (k .result) (c .before .before .before .before .before .if1 .left)) in
     answered h (c .read-data .result) (search needs) (search needs) (search needs)
     (rw (
       c .read-data .ensures,
       c .before .before .before .byte-2 .ensures,
       c .before .before .before .before .byte-1 .ensures,
-      c .before .before .before .before .before .before .before .byte-0 .ensures,
-      h1-says (h .b0) _ (k .result) true (c .before .before .before .before .before .before .before .byte-0 .ensures) (k .ensures) (not-false (k .result) (c .before .before .before .before .before .if1 .left)),
+      b0,
+      kept,
       le-leb (h .b0) 0x03 (omega arith),
     ))
 
@@ -88,14 +90,16 @@ returns-8 : tie.Need-returns-8
 unfolding readBits kindRead
 returns-8 c =
     let h = c .before .before .before .before .before .before .before .before .args .h in
+    let b0 = c .before .before .before .before .before .before .before .byte-0 .ensures in
     let k = c .before .before .before .before .before .before .keeps-h1 in
+    let kept = h1-says (h .b0) _ (k .result) true b0 (k .ensures) (not-false (k .result) (c .before .before .before .before .before .if1 .left)) in
     let n = c .before .before .match .rest in
     answered h (c .read-response3 .result) (search needs) (search needs) (search needs)
     (rw (
       c .read-response3 .ensures,
       c .before .before .before .byte-2 .ensures,
       c .before .before .before .before .byte-1 .ensures,
-      h1-says (h .b0) _ (k .result) true (c .before .before .before .before .before .before .before .byte-0 .ensures) (k .ensures) (not-false (k .result) (c .before .before .before .before .before .if1 .left)),
+      kept,
       lt-leb (h .b0) 0x03 (omega arith),
       ne-eqb (h .b0) 0x0B (n .0 .0 .0 .0 .1),
       ne-eqb (h .b0) 0x4B (n .0 .0 .0 .1),
