@@ -1,5 +1,5 @@
 /* Laboratory and blender as two processes over a socket pair. The blender's table goes to standard output, and what either says of a
- * card that is not confirmed. */
+ * turn that is requested and of a card that is not confirmed. */
 #include "programs.h"
 
 #include <errno.h>

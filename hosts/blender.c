@@ -1,24 +1,33 @@
 /* The blender: asks for the tables of its campaigns and prints the figures that it blends by. It is the bidder. A figure is printed
  * only from records that have been read to their end, as they have it. It is found by the column that the table names: by the part of
- * the row and the place in that part's record, never by what has come before it on the line. A batch card, which revises a figure, is
- * confirmed only if its figure can be; else the confirmation is refused, and the laboratory sends the card again. */
+ * the row and the place in that part's record, never by what has come before it on the line. Where a row has another batch number than the
+ * one due, the blender interrupts the laboratory: it requests the turn and asks again, from the batch that it missed. A batch card, which
+ * revises a figure, is confirmed only if its figure can be; else the confirmation is refused, and the laboratory sends the card again. */
 #include "session.h"
 
 #include <stdio.h>
 #include <stdlib.h>
 #include <string.h>
 
-static const char *const campaigns[] = {"MARINE-05", "FUEL-380", "DIESEL-10"};
+/* A campaign, and what the number of each of its batches begins with; the place of the batch, in two digits, follows. */
+static const struct campaign {
+    const char *name, *batches;
+} campaigns[] = {{"MARINE-05", "MA-05"}, {"FUEL-380", "FU-38"}, {"DIESEL-10", "DI-10"}};
+
 static const char *const column_names[] = {"batch", "viscosity", "sulphur"};
 
 enum {
     CAMPAIGNS = sizeof campaigns / sizeof campaigns[0],
     COLUMNS = sizeof column_names / sizeof column_names[0],
+    BATCH_COLUMN = 0,
     LONGEST_VALUE = 10,
+    LONGEST_NAME = 31, /* of a campaign, and the longest number of a batch */
     MOST_REVISED = 8,
     LONGEST_REVISED = 63,
     /* How many cards may be refused in one conversation. */
-    MOST_REFUSED = 2
+    MOST_REFUSED = 2,
+    /* How many wrong batch numbers of one campaign the turn is requested for. */
+    MOST_INTERRUPTED = 2
 };
 
 /* What a figure can be, by the column in which it stands. */
@@ -52,12 +61,15 @@ struct table {
     size_t rows, parts;               /* how many whole rows have come, and how many parts of the next */
     struct column columns[COLUMNS];
     char values[COLUMNS][LONGEST_VALUE + 1]; /* of the row that is coming */
+    size_t missed; /* the place in the campaign, counted from 1, of the batch for which another came; 0 for none */
 };
 
 struct blender {
     struct session session;
     struct outgoing query;
     size_t campaign; /* the one asked for, or to be asked for next */
+    size_t from;        /* the place in it of the batch with which the table is to begin, if one was missed; 0 for the whole table */
+    size_t interrupted; /* how often its table has been interrupted */
     struct table table;
     char revised[MOST_REVISED][LONGEST_REVISED + 1];
     size_t revised_count;
@@ -97,8 +109,8 @@ static void take_announcement(struct blender *blender)
     struct text rest = record_text(&blender->session.record), name, none;
     if (!stands_alone(blender))
         return;
-    if (!text_word(&rest, &name) || !text_is(name, campaigns[blender->campaign])) {
-        session_fail(&blender->session, "it announces another table than that of campaign %s", campaigns[blender->campaign]);
+    if (!text_word(&rest, &name) || !text_is(name, campaigns[blender->campaign].name)) {
+        session_fail(&blender->session, "it announces another table than that of campaign %s", campaigns[blender->campaign].name);
         return;
     }
     if (!text_next_number(&rest, MOST_ROWS, &blender->table.rows_announced) || text_word(&rest, &none)) {
@@ -145,9 +157,9 @@ static void take_columns(struct blender *blender)
             session_fail(&blender->session, "its table has no column %s", column_names[i]);
             return;
         }
-    if (goes_on_rightly(blender))
-        (void)session_print(&blender->session, "campaign %s\n%-10s %10s %10s\n", campaigns[blender->campaign], "batch", "viscosity",
-                            "sulphur");
+    if (goes_on_rightly(blender) && blender->from == 0)
+        (void)session_print(&blender->session, "campaign %s\n%-10s %10s %10s\n", campaigns[blender->campaign].name, "batch",
+                            "viscosity", "sulphur");
 }
 
 /* One value out of the part that has come: a single word and the blanks that fill its column. */
@@ -176,17 +188,16 @@ static bool take_value(struct blender *blender, size_t column)
 }
 
 /* Counts the part that has come, which must call itself the one that is due. `row_whole` says whether its row ends with it. */
-static bool count_part(struct blender *blender, size_t *part, bool *row_whole)
+static bool count_part(struct blender *blender, size_t *row, size_t *part, bool *row_whole)
 {
     struct table *table = &blender->table;
     struct text rest = record_text(&blender->session.record);
-    size_t row;
-    if (!text_next_number(&rest, MOST_ROWS, &row) || !text_next_number(&rest, MOST_PARTS, part)) {
+    if (!text_next_number(&rest, MOST_ROWS, row) || !text_next_number(&rest, MOST_PARTS, part)) {
         session_fail(&blender->session, "it sends a part of a row without the numbers of row and part");
         return false;
     }
-    if (row != table->rows + 1 || *part != table->parts + 1) {
-        session_fail(&blender->session, "it sends part %zu of row %zu where part %zu of row %zu is due", *part, row, table->parts + 1,
+    if (*row != table->rows + 1 || *part != table->parts + 1) {
+        session_fail(&blender->session, "it sends part %zu of row %zu where part %zu of row %zu is due", *part, *row, table->parts + 1,
                      table->rows + 1);
         return false;
     }
@@ -199,19 +210,73 @@ static bool count_part(struct blender *blender, size_t *part, bool *row_whole)
     return true;
 }
 
+/* Puts the number of the batch at this place of the campaign, counted from 1, into the room for it. */
+static const char *batch_number(const struct blender *blender, size_t place, char number[LONGEST_NAME + 1])
+{
+    (void)snprintf(number, LONGEST_NAME + 1, "%s%02zu", campaigns[blender->campaign].batches, place);
+    return number;
+}
+
+/* Interrupts the laboratory, which has sent another batch than the one at this place. No figure of the table is taken from here on. */
+static void interrupt(struct blender *blender, size_t place)
+{
+    struct session *session = &blender->session;
+    const char *came = blender->table.values[BATCH_COLUMN];
+    char due[LONGEST_NAME + 1];
+    (void)batch_number(blender, place, due);
+    if (blender->interrupted == MOST_INTERRUPTED) {
+        session_fail(session, "it sends batch %s in the place of %s, and its table has been interrupted %d times", came, due,
+                     MOST_INTERRUPTED);
+        return;
+    }
+    blender->interrupted++;
+    blender->table.missed = place;
+    if (session_print(session, "batch %s in the place of %s: the turn is requested\n", came, due))
+        (void)session_request_turn(session);
+}
+
+/* Whether the number that has come is that of the batch at this place. */
+static bool batch_is(const struct blender *blender, size_t place)
+{
+    char due[LONGEST_NAME + 1];
+    return strcmp(batch_number(blender, place, due), blender->table.values[BATCH_COLUMN]) == 0;
+}
+
 /* A row is printed when its last part has come, if all its parts are right. */
 static void take_part(struct blender *blender)
 {
     struct table *table = &blender->table;
-    size_t part;
+    size_t row, part;
     bool row_whole;
-    if (!count_part(blender, &part, &row_whole) || !goes_on_rightly(blender))
+    if (!count_part(blender, &row, &part, &row_whole) || !goes_on_rightly(blender) || table->missed != 0)
         return;
     for (size_t i = 0; i < COLUMNS; i++)
         if (table->columns[i].part == part && !take_value(blender, i))
             return;
-    if (row_whole)
+    size_t place = blender->from == 0 ? row : blender->from + row - 1;
+    if (table->columns[BATCH_COLUMN].part == part && !batch_is(blender, place))
+        interrupt(blender, place);
+    else if (row_whole)
         (void)session_print(&blender->session, "%-10s %10s %10s\n", table->values[0], table->values[1], table->values[2]);
+}
+
+/* The part that ends a table early, which only a blender that has requested the turn is sent. It says what would have come next, so that
+ * a part lost before it is noticed. */
+static void take_broken_off(struct blender *blender)
+{
+    struct table *table = &blender->table;
+    struct text rest = record_text(&blender->session.record), none;
+    size_t row, part;
+    if (table->missed == 0)
+        session_fail(&blender->session, "it breaks its table off, and the turn was not requested");
+    else if (blender->session.record.more)
+        session_fail(&blender->session, "its table goes on after it was broken off");
+    else if (!text_next_number(&rest, MOST_ROWS, &row) || !text_next_number(&rest, MOST_PARTS, &part) || text_word(&rest, &none) ||
+             row != table->rows + 1 || part != table->parts + 1)
+        session_fail(&blender->session, "it breaks its table off elsewhere than before part %zu of row %zu, which is due",
+                     table->parts + 1, table->rows + 1);
+    else
+        table->progress = WHOLE;
 }
 
 /* A record of the answer to a query: the announcement, the part that names the columns, the parts of the rows. */
@@ -226,6 +291,8 @@ static void take_answer(struct blender *blender, uint8_t kind)
         take_columns(blender);
     else if (kind == RECORD_ROW && progress == ROWS)
         take_part(blender);
+    else if (kind == RECORD_BROKEN_OFF && progress == ROWS)
+        take_broken_off(blender);
     else if (kind == RECORD_ANNOUNCEMENT)
         session_fail(&blender->session, "it announces one table twice");
     else if (kind == RECORD_COLUMNS && progress == ASKED)
@@ -322,7 +389,8 @@ static void take_record(struct blender *blender)
         take_answer(blender, kind);
 }
 
-/* The end of the blender's own conversation: the table must have come whole. */
+/* The end of the blender's own conversation, or the turn that it has requested: the table must have come whole, or broken off. Where a
+ * batch was missed, the rest of the campaign is asked for again: at once if the turn is here, else in another conversation. */
 static void end_table(struct blender *blender)
 {
     struct table *table = &blender->table;
@@ -331,8 +399,12 @@ static void end_table(struct blender *blender)
                      table->rows_announced);
         return;
     }
+    if (table->missed == 0) {
+        blender->campaign++;
+        blender->interrupted = 0;
+    }
+    blender->from = table->missed;
     memset(table, 0, sizeof *table);
-    blender->campaign++;
 }
 
 /* The end of a conversation that the laboratory began: it must have brought a revised figure, or the word that there is none. */
@@ -369,7 +441,8 @@ static void refuse_card(struct blender *blender, uint32_t mark)
 static void take_mark(struct blender *blender)
 {
     uint32_t mark = blender->session.end.answer.mark;
-    if (mark == LU62_MARK_TURN || mark == LU62_MARK_CONFIRM_TURN || mark == LU62_MARK_ERROR) {
+    bool turn = mark == LU62_MARK_TURN || mark == LU62_MARK_CONFIRM_TURN;
+    if (mark == LU62_MARK_ERROR || (turn && blender->table.missed == 0)) {
         session_fail(&blender->session, "it sends the mark %s, which is not expected here", lu62_mark_name(mark));
         return;
     }
@@ -382,8 +455,19 @@ static void take_mark(struct blender *blender)
         end_table(blender);
     else if (mark != LU62_MARK_CONFIRM)
         end_revision(blender);
-    if (mark != LU62_MARK_END && !blender->session.failed)
+    if (mark != LU62_MARK_TURN && mark != LU62_MARK_END && !blender->session.failed)
         (void)session_confirmed(&blender->session);
+}
+
+/* Where a batch was missed, the query names it: the table is to begin with it. */
+static bool set_query(struct blender *blender)
+{
+    const char *campaign = campaigns[blender->campaign].name;
+    char text[2 * LONGEST_NAME + 2], batch[LONGEST_NAME + 1];
+    if (blender->from == 0)
+        return session_set(&blender->session, &blender->query, RECORD_QUERY, text_of(campaign), false);
+    (void)snprintf(text, sizeof text, "%s %s", campaign, batch_number(blender, blender->from, batch));
+    return session_set(&blender->session, &blender->query, RECORD_QUERY, text_of(text), false);
 }
 
 /* Gives the turn that is prepared: every second query is to be confirmed. Without credit it stays prepared until the next step. */
@@ -411,21 +495,21 @@ static bool explain(struct blender *blender)
     return true;
 }
 
-/* Asks for the next campaign. Outside Send it bids; the bid may be refused by a laboratory that has begun itself, and is made again
- * when that conversation is over and the pause has passed. With the query given the turn is prepared. Whether it goes with a
- * confirmation is asked when it goes, in a step of its own, after what has come meanwhile. */
+/* Asks for the next campaign, or for the rest of one whose table was interrupted. Outside Send it bids; the bid may be refused by a
+ * laboratory that has begun itself, and is made again when that conversation is over and the pause has passed. With the query given the
+ * turn is prepared. Whether it goes with a confirmation is asked when it goes, in a step of its own, after what has come meanwhile.
+ * Nothing is asked for while a signal is unanswered: taken late, it would interrupt the answer to this query. */
 static bool ask(struct blender *blender)
 {
     struct session *session = &blender->session;
     uint32_t state = lu62_end_state(&session->end);
-    if (blender->table.progress != NOT_ASKED || blender->campaign == CAMPAIGNS)
+    if (blender->table.progress != NOT_ASKED || blender->campaign == CAMPAIGNS || lu62_end_signal_unanswered(&session->end))
         return false;
     if (state == LU62_DEFER_TURN)
         return give_turn(blender);
     if (state != LU62_SEND)
         return session_allocate(session) == LU62_ACCEPTED;
-    struct text campaign = text_of(campaigns[blender->campaign]);
-    if (blender->query.length == 0 && !session_set(session, &blender->query, RECORD_QUERY, campaign, false))
+    if (blender->query.length == 0 && !set_query(blender))
         return false;
     return session_give(session, &blender->query) && session_prepare_turn(session) == LU62_ACCEPTED;
 }

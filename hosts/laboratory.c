@@ -1,5 +1,6 @@
 /* The laboratory: answers queries with tables of batches, and sends revised figures, each on a batch card, when it has them. It is the
- * first speaker. A card that the blender does not confirm is sent again, once, corrected where it was miswritten. */
+ * first speaker. A table is broken off, and the turn given, when the blender requests it; a batch that the blender then asks for by its
+ * number is sent under that number. A card that the blender does not confirm is sent again, once, corrected where it was miswritten. */
 #include "session.h"
 
 #include <stdio.h>
@@ -25,10 +26,12 @@ struct column {
     size_t width;
 };
 
+/* A batch: its number, its figures, and how its number is written at first, where that is wrong. */
 struct batch {
     const char *name;
     const char *viscosity;
     const char *sulphur;
+    const char *miswritten;
 };
 
 struct table {
@@ -40,17 +43,19 @@ struct table {
 };
 
 static const struct batch marine[] = {
-    {"MA-0501", "179.2", "0.093"}, {"MA-0502", "181.6", "0.088"}, {"MA-0503", "176.9", "0.097"},
-    {"MA-0504", "180.3", "0.091"}, {"MA-0505", "178.8", "0.094"},
+    {"MA-0501", "179.2", "0.093", NULL}, {"MA-0502", "181.6", "0.088", NULL}, {"MA-0503", "176.9", "0.097", NULL},
+    {"MA-0504", "180.3", "0.091", NULL}, {"MA-0505", "178.8", "0.094", NULL},
 };
 
 static const struct batch fuel[] = {
-    {"FU-3801", "372.4", "0.482"}, {"FU-3802", "377.0", "0.479"}, {"FU-3803", "369.8", "0.495"},
-    {"FU-3804", "380.1", "0.466"}, {"FU-3805", "374.5", "0.471"}, {"FU-3806", "371.3", "0.488"},
+    {"FU-3801", "372.4", "0.482", NULL}, {"FU-3802", "377.0", "0.479", NULL}, {"FU-3803", "369.8", "0.495", NULL},
+    {"FU-3804", "380.1", "0.466", NULL}, {"FU-3805", "374.5", "0.471", NULL}, {"FU-3806", "371.3", "0.488", NULL},
 };
 
 static const struct batch diesel[] = {
-    {"DI-1001", "2.84", "0.00091"}, {"DI-1002", "2.91", "0.00087"}, {"DI-1003", "2.79", "0.00095"},
+    {"DI-1001", "2.84", "0.00091", NULL},
+    {"DI-1002", "2.91", "0.00087", "DI-1020"}, /* the digits are exchanged */
+    {"DI-1003", "2.79", "0.00095", NULL},
 };
 
 /* The layouts differ, so that a reader must find its columns by the part that names them. */
@@ -84,6 +89,7 @@ static const struct card {
 
 enum { REVISED = sizeof cards / sizeof cards[0] };
 
+/* From ANNOUNCING to TABLE a table is being given. */
 enum stage {
     IDLE,
     REVISION,       /* a revised figure is being given */
@@ -93,6 +99,8 @@ enum stage {
     ANNOUNCING,     /* the table's announcement is being given */
     ANNOUNCED,      /* its confirmation is awaited */
     PARTS,          /* the table's parts are being given */
+    BREAKING_OFF,   /* the part is being given that breaks the table off */
+    INTERRUPTED,    /* the table is broken off or whole, and the turn is to go to the blender, which has requested it */
     LEAVING,        /* the front of a part is being given, and then the laboratory goes away */
     TABLE,          /* all parts have been given */
     TABLE_ENDED
@@ -104,6 +112,10 @@ struct laboratory {
     enum fault fault;
     enum stage stage;
     const struct table *table;
+    size_t first;     /* the batch with which the table begins, counted from 0 */
+    bool named;       /* the blender has asked for that batch by its number */
+    bool turn_wanted; /* the blender has requested the turn since the table was asked for */
+    unsigned long broken_off; /* how many tables have been broken off, for --counts */
     size_t part; /* the table's part being given: 0 names the columns, then come the parts of the rows */
     size_t revisions_due; /* how many may have been sent by now, the last record included */
     size_t revisions_confirmed;
@@ -127,10 +139,16 @@ static bool set_revision(struct laboratory *lab)
     return session_set(&lab->session, &lab->record, RECORD_LAST_REVISED, text_of(count), false);
 }
 
+/* How many rows the table has as it was asked for. */
+static size_t rows_of(const struct laboratory *lab)
+{
+    return lab->table->batch_count - lab->first;
+}
+
 static bool set_announcement(struct laboratory *lab)
 {
     char text[64];
-    int length = snprintf(text, sizeof text, "%s %zu", lab->table->campaign, lab->table->batch_count);
+    int length = snprintf(text, sizeof text, "%s %zu", lab->table->campaign, rows_of(lab));
     if (length < 0 || (size_t)length >= sizeof text) {
         session_fail(&lab->session, "the announcement of a table does not fit");
         return false;
@@ -139,9 +157,20 @@ static bool set_announcement(struct laboratory *lab)
 }
 
 /* How many parts the table has: the one that names the columns, and those of its rows. */
-static size_t parts_of(const struct table *table)
+static size_t parts_of(const struct laboratory *lab)
 {
-    return 1 + table->batch_count * table->row_parts;
+    return 1 + rows_of(lab) * lab->table->row_parts;
+}
+
+/* The row of the part at hand, counted from 0, and which of its parts this is, counted from 1. */
+static size_t row_at(const struct laboratory *lab)
+{
+    return (lab->part - 1) / lab->table->row_parts;
+}
+
+static size_t row_part_at(const struct laboratory *lab)
+{
+    return 1 + (lab->part - 1) % lab->table->row_parts;
 }
 
 static bool misbehaves_now(const struct laboratory *lab, enum fault fault)
@@ -152,7 +181,7 @@ static bool misbehaves_now(const struct laboratory *lab, enum fault fault)
 /* What the part at hand says: every part but the last, that another follows. */
 static bool more_follows(const struct laboratory *lab)
 {
-    bool last = lab->part + 1 == parts_of(lab->table);
+    bool last = lab->part + 1 == parts_of(lab);
     if (misbehaves_now(lab, FAULT_EARLY))
         return false;
     return !last || (lab->fault == FAULT_FOREVER && lab->table == &tables[MISBEHAVING_TABLE]);
@@ -186,11 +215,12 @@ static bool set_columns(struct laboratory *lab)
     return session_set(&lab->session, &lab->record, RECORD_COLUMNS, text_of(text), more_follows(lab));
 }
 
-/* The value of a column that the blender asks for, or NULL for one of those that it does not. */
-static const char *value_of(const struct batch *batch, const char *column)
+/* The value of a column that the blender asks for, or NULL for one of those that it does not. The number of a batch is written rightly
+ * where the blender has named it. */
+static const char *value_of(const struct laboratory *lab, const struct batch *batch, const char *column)
 {
     if (strcmp(column, "batch") == 0)
-        return batch->name;
+        return batch->miswritten != NULL && !lab->named ? batch->miswritten : batch->name;
     if (strcmp(column, "viscosity") == 0)
         return batch->viscosity;
     if (strcmp(column, "sulphur") == 0)
@@ -210,7 +240,7 @@ static void fill_remarks(char *place, size_t width)
 /* Puts a batch's value at the front of its column, which is blank. A figure that does not fit is not cut. */
 static bool put_value(struct laboratory *lab, char *place, const struct column *column, const struct batch *batch)
 {
-    const char *value = value_of(batch, column->name);
+    const char *value = value_of(lab, batch, column->name);
     if (value == NULL) {
         fill_remarks(place, column->width);
         return true;
@@ -228,7 +258,7 @@ static bool set_row_part(struct laboratory *lab)
 {
     char text[LONGEST_TEXT];
     const struct table *table = lab->table;
-    size_t row = (lab->part - 1) / table->row_parts, part = 1 + (lab->part - 1) % table->row_parts;
+    size_t row = row_at(lab), part = row_part_at(lab);
     size_t end = VALUES_AT;
     if (snprintf(text, sizeof text, "%4zu %2zu ", row + 1, part) != VALUES_AT) {
         session_fail(&lab->session, "the numbers of a row and its part do not fit");
@@ -245,7 +275,7 @@ static bool set_row_part(struct laboratory *lab)
             session_fail(&lab->session, "a part of a row for it does not fit");
             return false;
         }
-        if (!put_value(lab, text + offset, column, &table->batches[row]))
+        if (!put_value(lab, text + offset, column, &table->batches[lab->first + row]))
             return false;
     }
     text[end] = '\0';
@@ -262,38 +292,59 @@ static bool send_nonsense(struct laboratory *lab, const char *bytes, size_t leng
 {
     if (session_flush(&lab->session) != LU62_ACCEPTED)
         return false;
-    if (!line_put(&lab->session.line, (const uint8_t *)bytes, length))
+    if (!line_put(&lab->session.line, NORMAL, (const uint8_t *)bytes, length))
         session_fail(&lab->session, "the line takes no more units");
     lab->done = true;
     return true;
 }
 
-static void take_query(struct laboratory *lab)
+/* Finds the batch that a query names, with which the table is to begin; without one it begins with the first. */
+static void find_batch(struct laboratory *lab, struct text rest)
 {
-    struct text text = record_text(&lab->session.record);
-    if (lab->stage == REFUSED || lab->stage == EXPLAINED) {
-        session_fail(&lab->session, "it does not confirm, and sends a record where it should %s",
-                     lab->stage == REFUSED ? "say why" : "give the turn");
+    struct text number, none;
+    lab->first = 0;
+    lab->named = text_word(&rest, &number);
+    if (!lab->named)
+        return;
+    if (text_word(&rest, &none)) {
+        session_fail(&lab->session, "its query goes on after the number of a batch");
         return;
     }
-    if (record_kind(&lab->session.record) != RECORD_QUERY) {
-        session_fail(&lab->session, "its record is no query");
-        return;
-    }
-    if (lab->session.record.more) {
-        session_fail(&lab->session, "its query says that another part follows, and a query is one record alone");
-        return;
-    }
-    if (lab->table != NULL) {
-        session_fail(&lab->session, "it asks twice in one conversation");
-        return;
-    }
-    for (size_t i = 0; i < sizeof tables / sizeof tables[0]; i++)
-        if (text_is(text, tables[i].campaign)) {
+    while (lab->first < lab->table->batch_count && !text_is(number, lab->table->batches[lab->first].name))
+        lab->first++;
+    if (lab->first == lab->table->batch_count)
+        session_fail(&lab->session, "it asks for a batch that campaign %s has not", lab->table->campaign);
+    else
+        (void)session_print(&lab->session, "laboratory: asked for %s from %s on\n", lab->table->campaign,
+                            lab->table->batches[lab->first].name);
+}
+
+static void find_table(struct laboratory *lab, struct text rest)
+{
+    struct text campaign;
+    bool any = text_word(&rest, &campaign);
+    for (size_t i = 0; any && i < sizeof tables / sizeof tables[0]; i++)
+        if (text_is(campaign, tables[i].campaign)) {
             lab->table = &tables[i];
+            find_batch(lab, rest);
             return;
         }
     session_fail(&lab->session, "it asks for a campaign that is not here");
+}
+
+static void take_query(struct laboratory *lab)
+{
+    if (lab->stage == REFUSED || lab->stage == EXPLAINED)
+        session_fail(&lab->session, "it does not confirm, and sends a record where it should %s",
+                     lab->stage == REFUSED ? "say why" : "give the turn");
+    else if (record_kind(&lab->session.record) != RECORD_QUERY)
+        session_fail(&lab->session, "its record is no query");
+    else if (lab->session.record.more)
+        session_fail(&lab->session, "its query says that another part follows, and a query is one record alone");
+    else if (lab->table != NULL)
+        session_fail(&lab->session, "it asks twice in one conversation");
+    else
+        find_table(lab, record_text(&lab->session.record));
 }
 
 /* The text of the record that is being given or was given last, for a message. */
@@ -366,6 +417,16 @@ static bool begin_revision(struct laboratory *lab)
     return set_revision(lab);
 }
 
+/* The table begins when its announcement has been confirmed. */
+static bool begin_parts(struct laboratory *lab)
+{
+    if (lu62_end_state(&lab->session.end) != LU62_SEND)
+        return false;
+    lab->part = 0;
+    lab->stage = PARTS;
+    return set_part(lab);
+}
+
 /* Gives the part at hand; true when it has been given whole and the next is to come. */
 static bool give_part(struct laboratory *lab)
 {
@@ -390,9 +451,41 @@ static bool give_part(struct laboratory *lab)
     /* Some parts go out at once, others wait for more bytes: a unit may end anywhere. */
     if (lab->part % 2 == 0)
         (void)session_flush(&lab->session);
-    if (lab->part < parts_of(lab->table))
+    if (lab->part < parts_of(lab))
         return set_part(lab);
     lab->stage = TABLE;
+    return true;
+}
+
+/* Breaks the table off between two parts, so that the turn can be given: the last part of a table says that no other follows. If no part
+ * has been given, there is no table to be broken off. */
+static bool break_off(struct laboratory *lab)
+{
+    char text[48];
+    lab->stage = lab->part == 0 ? INTERRUPTED : BREAKING_OFF;
+    if (lab->part == 0)
+        return true;
+    lab->broken_off++;
+    (void)snprintf(text, sizeof text, "%zu %zu", row_at(lab) + 1, row_part_at(lab));
+    return session_set(&lab->session, &lab->record, RECORD_BROKEN_OFF, text_of(text), false);
+}
+
+static bool give_broken_off(struct laboratory *lab)
+{
+    if (!session_give(&lab->session, &lab->record))
+        return false;
+    lab->stage = INTERRUPTED;
+    return true;
+}
+
+/* Gives the turn that the blender has requested. What it asks for then is a query of its own. */
+static bool give_turn(struct laboratory *lab)
+{
+    if (session_turn(&lab->session) != LU62_ACCEPTED)
+        return false;
+    lab->turn_wanted = false;
+    lab->table = NULL;
+    lab->stage = IDLE;
     return true;
 }
 
@@ -401,8 +494,8 @@ static bool leave(struct laboratory *lab)
     if (!session_give(&lab->session, &lab->record) || session_flush(&lab->session) != LU62_ACCEPTED)
         return false;
     /* Besides, the last thing on the line is the front of a unit whose rest never comes. */
-    if (line_put(&lab->session.line, (const uint8_t *)"never whole", 11))
-        lab->session.line.out_held -= 5;
+    if (line_put(&lab->session.line, NORMAL, (const uint8_t *)"never whole", 11))
+        lab->session.line.out[NORMAL].held -= 5;
     lab->done = true;
     return true;
 }
@@ -427,9 +520,10 @@ static bool settle(struct laboratory *lab)
         return take_refusal(lab);
     if (!ended || lu62_end_state(&lab->session.end) == LU62_CONFIRM_AWAITED)
         return false;
-    if (lab->stage == TABLE_ENDED)
+    /* A table may be asked for again, and then brings no card more than there are. */
+    if (lab->stage == TABLE_ENDED && lab->revisions_due <= REVISED)
         lab->revisions_due++;
-    else
+    if (lab->stage == REVISION_ENDED)
         lab->revisions_confirmed++;
     lab->sendings = 0;
     lab->table = NULL;
@@ -469,17 +563,17 @@ static bool speak(struct laboratory *lab)
         lab->stage = ANNOUNCED;
         return true;
     case ANNOUNCED:
-        if (lu62_end_state(&session->end) != LU62_SEND)
-            return false;
-        lab->part = 0;
-        lab->stage = PARTS;
-        return set_part(lab);
+        return begin_parts(lab);
     case PARTS:
-        return give_part(lab);
+        return lab->turn_wanted && lab->record.given == 0 ? break_off(lab) : give_part(lab);
+    case BREAKING_OFF:
+        return give_broken_off(lab);
+    case INTERRUPTED:
+        return give_turn(lab);
     case LEAVING:
         return leave(lab);
     case TABLE:
-        return end_table(lab);
+        return lab->turn_wanted ? give_turn(lab) : end_table(lab);
     case REVISION_ENDED:
     case REFUSED:
     case EXPLAINED:
@@ -489,11 +583,28 @@ static bool speak(struct laboratory *lab)
     return false;
 }
 
+/* Whether a table is being given, and the turn with it: only then is there one to be given to a blender that requests it. */
+static bool has_turn_to_give(const struct laboratory *lab)
+{
+    return lab->stage >= ANNOUNCING && lab->stage <= TABLE;
+}
+
+/* Hears every request for the turn once. One that comes when the table is over comes too late: the blender has the turn by then, or can
+ * begin a conversation. */
+static void hear_requests(struct laboratory *lab)
+{
+    for (; lab->session.told > 0 && !lab->session.failed; lab->session.told--) {
+        (void)session_print(&lab->session, "laboratory: the blender requests the turn\n");
+        lab->turn_wanted = has_turn_to_give(lab);
+    }
+}
+
 static bool step(void *program)
 {
     struct laboratory *lab = program;
     /* Before reading: what is read may belong to the next conversation. */
     bool moved = settle(lab);
+    hear_requests(lab);
     enum reading found;
     while (!lab->session.failed && (found = session_read(&lab->session)) != READ_NOTHING) {
         moved = true;
@@ -532,7 +643,9 @@ int laboratory(int socket, const struct options *options)
         session_fail(&lab.session, "it has gone before it had everything");
         good = false;
     }
-    if (options->counts)
+    if (options->counts) {
         session_print_counts(&lab.session);
+        fprintf(stderr, "laboratory: tables broken off %lu\n", lab.broken_off);
+    }
     return good ? EXIT_SUCCESS : EXIT_FAILURE;
 }

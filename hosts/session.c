@@ -87,28 +87,28 @@ bool session_open_blender(struct session *session, int socket, const struct opti
     return open_session(session, socket, options, &blender);
 }
 
-/* Notes that the conversation got on: bytes were given or read, or the turn or the end was given or read. Bids, their refusals
- * and pacing responses are not that, nor is a confirmation asked for or refused again and again: they could go round for ever. Nor is
- * a turn that is only prepared: nothing of it has gone. */
+/* Notes that the conversation got on: bytes were given or read, or the turn or the end was given or read. Bids, their refusals,
+ * signals and pacing responses are not that, nor is a confirmation asked for or refused again and again: they could go round for ever.
+ * Nor is a turn that is only prepared: nothing of it has gone. */
 static void got_on(struct session *session)
 {
     session->moved_at = clock_ms();
     session->bids_in_vain = 0;
 }
 
-/* Puts the unit that the last call made, if any, on the line. */
-static void put_unit(struct session *session)
+/* Puts the unit that the last call made, if any, on the line of its flow. */
+static void put_unit(struct session *session, enum flow flow)
 {
     if (session->end.answer.unit == 0)
         return;
     session->units_made++;
-    if (!line_put(&session->line, session->end.unit, session->end.answer.unit))
+    if (!line_put(&session->line, flow, session->end.unit, session->end.answer.unit))
         session_fail(session, "the line takes no more units");
 }
 
 /* The same after a call that may be refused. A refusal that no waiting mends ends the conversation, with a message that says what the
  * call was to do. */
-static uint32_t carried(struct session *session, const char *purpose, uint32_t refusal)
+static uint32_t carried_on(struct session *session, enum flow flow, const char *purpose, uint32_t refusal)
 {
     char what[96];
     if (refusal == LU62_NO_CREDIT)
@@ -117,8 +117,13 @@ static uint32_t carried(struct session *session, const char *purpose, uint32_t r
         (void)snprintf(what, sizeof what, "the %s's own call to %s was refused", session->name, purpose);
         session_refused(session, what, &session->end.answer);
     }
-    put_unit(session);
+    put_unit(session, flow);
     return refusal;
+}
+
+static uint32_t carried(struct session *session, const char *purpose, uint32_t refusal)
+{
+    return carried_on(session, NORMAL, purpose, refusal);
 }
 
 /* The same for a call that moves the conversation on. */
@@ -172,6 +177,16 @@ uint32_t session_confirmed(struct session *session)
 uint32_t session_deny(struct session *session)
 {
     return carried(session, "refuse a confirmation", lu62_end_send_error(&session->end));
+}
+
+uint32_t session_request_turn(struct session *session)
+{
+    return carried_on(session, EXPEDITED, "request the turn", lu62_end_request_to_send(&session->end));
+}
+
+uint32_t session_turn(struct session *session)
+{
+    return moved_on(session, "give the turn", lu62_end_prepare_to_receive(&session->end, false));
 }
 
 /* Kind and text, which stand between LL and the check. */
@@ -299,16 +314,24 @@ static void note_bids(struct session *session, bool bid_before, uint32_t state_b
     }
 }
 
-/* Takes the oldest unit on the line. False if there is none, or if it must stay there. */
+/* A unit that breaks the protocol ends the conversation, when all that came before it has been read. */
+static void note_breach(struct session *session, enum flow flow)
+{
+    session->breach = true;
+    session->breach_flow = flow;
+    session->breach_answer = session->end.answer;
+}
+
+/* Takes the oldest normal unit. False if there is none, or if it must stay on the line. */
 static bool take_unit(struct session *session)
 {
     size_t length;
-    const uint8_t *unit = line_front(&session->line, &length);
+    const uint8_t *unit = line_front(&session->line, NORMAL, &length);
     if (unit == NULL)
         return false;
     if (session->lose_confirmation && is_confirmation(unit, length)) {
         session->lose_confirmation = false;
-        line_drop(&session->line);
+        line_drop(&session->line, NORMAL);
         return true;
     }
     bool bid_before = lu62_end_bid_pending(&session->end);
@@ -318,31 +341,55 @@ static bool take_unit(struct session *session)
     if (refusal == LU62_UNREAD_MARK)
         return false;
     if (refusal != LU62_ACCEPTED) {
-        session->breach = true;
-        session->breach_answer = session->end.answer;
+        note_breach(session, NORMAL);
         return false;
     }
     session->units_taken++;
     note_bids(session, bid_before, state_before);
     session->unconfirmed |= is_refusal_to_confirm(unit);
-    line_drop(&session->line);
-    put_unit(session);
+    line_drop(&session->line, NORMAL);
+    put_unit(session, NORMAL);
     return true;
 }
 
-/* Takes every unit that has come and may be taken, and makes a pacing response if one is due. True if anything was done. */
+/* Takes the oldest expedited unit, and answers it if it is a signal. No state and no mark holds it up. False if there is none. */
+static bool take_expedited(struct session *session)
+{
+    size_t length;
+    const uint8_t *unit = line_front(&session->line, EXPEDITED, &length);
+    if (unit == NULL)
+        return false;
+    if (lu62_end_receive_expedited(&session->end, unit, length) != LU62_ACCEPTED) {
+        note_breach(session, EXPEDITED);
+        return false;
+    }
+    session->units_taken++;
+    session->told += session->end.answer.signalled;
+    session->signals_taken += session->end.answer.signalled;
+    line_drop(&session->line, EXPEDITED);
+    put_unit(session, EXPEDITED);
+    return true;
+}
+
+static bool take_next(struct session *session)
+{
+    return take_expedited(session) || (!session->breach && take_unit(session));
+}
+
+/* Takes every unit that has come and may be taken, the expedited ones first, and makes a pacing response if one is due. True if anything
+ * was done. */
 static bool exchange(struct session *session)
 {
     if (session->breach)
         return false;
     bool moved = line_receive(&session->line);
-    while (!session->failed && !session->breach && take_unit(session))
+    while (!session->failed && !session->breach && take_next(session))
         moved = true;
     if (session->failed || session->breach)
         return true;
     if (lu62_end_send_pacing_response(&session->end) == LU62_ACCEPTED) {
         session->pacing_responses++;
-        put_unit(session);
+        put_unit(session, NORMAL);
         moved = true;
     }
     return moved;
@@ -355,6 +402,8 @@ static void partner_gone(struct session *session)
         session_fail(session, "it has gone in the middle of a record, which is dropped");
     else if (session->line.in_held > 0)
         session_fail(session, "it has gone in the middle of a unit, which is dropped");
+    else if (lu62_end_signal_unanswered(&session->end))
+        session_fail(session, "it has gone, and has not answered the request for the turn");
     else if (lu62_end_state(&session->end) != LU62_RESET)
         session_fail(session, "it has gone in the middle of the conversation");
 }
@@ -364,13 +413,16 @@ static void out_of_time(struct session *session)
 {
     const char *state = lu62_state_name(lu62_end_state(&session->end));
     size_t length;
-    if (session->line.in_held > 0 && line_front(&session->line, &length) == NULL)
+    if (session->line.in_held > 0 && line_front(&session->line, NORMAL, &length) == NULL)
         session_fail(session, "time limit: only part of a unit has come, and nothing got on for %" PRId64 " ms", session->limit_ms);
     else if (session->bids_in_vain > 0)
         session_fail(session, "time limit: it has refused %lu bids, and nothing got on for %" PRId64 " ms", session->bids_in_vain,
                      session->limit_ms);
-    else if (session->line.out_held > 0)
+    else if (line_unsent(&session->line))
         session_fail(session, "time limit: it takes nothing of what is sent, and nothing got on for %" PRId64 " ms",
+                     session->limit_ms);
+    else if (lu62_end_signal_unanswered(&session->end))
+        session_fail(session, "time limit: it has not answered the request for the turn, and nothing got on for %" PRId64 " ms",
                      session->limit_ms);
     else
         session_fail(session, "time limit: nothing got on for %" PRId64 " ms, in state %s", session->limit_ms, state);
@@ -396,7 +448,8 @@ static bool run_once(struct session *session, session_step *step, void *program)
     line_send(&session->line);
     /* By now the program has read all that came before the unit at fault. */
     if (session->breach)
-        session_refused(session, "a unit from it was refused", &session->breach_answer);
+        session_refused(session, session->breach_flow == NORMAL ? "a unit from it was refused" : "an expedited unit from it was refused",
+                        &session->breach_answer);
     return moved;
 }
 
@@ -407,7 +460,7 @@ bool session_run(struct session *session, session_step *step, void *program, con
         bool moved = run_once(session, step, program);
         if (session->failed)
             break;
-        if (*done && (session->line.out_held == 0 || session->line.closed))
+        if (*done && (!line_unsent(&session->line) || session->line.closed))
             return true;
         if (clock_ms() - session->moved_at >= session->limit_ms) {
             out_of_time(session);
@@ -423,7 +476,8 @@ bool session_run(struct session *session, session_step *step, void *program, con
 
 void session_print_counts(const struct session *session)
 {
-    fprintf(stderr, "%s: units made %lu, taken %lu; bids refused here %lu; waits for credit %lu; pacing responses %lu\n",
+    fprintf(stderr,
+            "%s: units made %lu, taken %lu; bids refused here %lu; waits for credit %lu; pacing responses %lu; signals taken %lu\n",
             session->name, session->units_made, session->units_taken, session->bids_refused, session->waits_for_credit,
-            session->pacing_responses);
+            session->pacing_responses, session->signals_taken);
 }

@@ -41,6 +41,7 @@ struct session {
     const char *partner; /* the other one */
     bool failed;         /* the conversation was ended for a fault, and a message said so */
     bool breach;         /* a unit was refused; the records before it are still to be read */
+    enum flow breach_flow;
     struct lu62_answer breach_answer;
     struct line line;
     struct record record;
@@ -52,8 +53,9 @@ struct session {
     unsigned long bids_in_vain; /* bids of this end refused since the conversation last got on */
     bool lose_confirmation;    /* a fault to be shown: the next confirmation is lost on the line */
     bool unconfirmed;          /* the partner has refused to confirm; the program that asked puts it off again */
+    unsigned long told;        /* how often the partner has requested the turn; the program that gives it takes them off again */
     /* Counts for --counts. */
-    unsigned long units_made, units_taken, bids_refused, waits_for_credit, pacing_responses;
+    unsigned long units_made, units_taken, bids_refused, waits_for_credit, pacing_responses, signals_taken;
     struct lu62_end end;
     uint8_t send[LARGEST_MAXIMUM];
     uint8_t unit[LU62_UNIT(LARGEST_MAXIMUM)];
@@ -75,6 +77,13 @@ uint32_t session_confirmed(struct session *session);
 
 /* Refuses the confirmation that is owed, document 02's way to say that a batch card is wrong. Flush must then send the error header. */
 uint32_t session_deny(struct session *session);
+
+/* Requests the turn from a partner that sends. The signal overtakes what is on the line, and no state changes; what the partner sends
+ * until it gives the turn is still to be read. Until the signal has been answered no other may be made. */
+uint32_t session_request_turn(struct session *session);
+
+/* Gives the turn at once, without confirmation. */
+uint32_t session_turn(struct session *session);
 
 /* Prepares the turn: nothing goes yet. Flush or confirm then gives it, without or with confirmation. Refused as the calls above. */
 uint32_t session_prepare_turn(struct session *session);

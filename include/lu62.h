@@ -29,7 +29,15 @@
  * (LU62_BAD_BUFFER), then one of another format or with a code or flag that no record has (LU62_BAD_RECORD).
  *
  * If `answer->unit` is not 0, a unit of that many bytes stands at the front of the unit buffer. The host must carry it to the
- * partner, after all units made before it and before all made later. */
+ * partner, on one of two lines:
+ *
+ *   expedited  units made by lu62_request_to_send and lu62_receive_expedited, to the partner's lu62_receive_expedited
+ *   normal     units made by all other calls, to the partner's lu62_receive_unit
+ *
+ * On each line a unit is carried after all that were made before it and before all made later. The two lines keep no order between
+ * them: expedited units may overtake normal ones, and should, since the partner is to hear of them while it sends. No expedited unit
+ * costs or waits for credit, and each is taken in any state. The bytes do not say which line a unit belongs to: CB 80 00 is a header on
+ * both. So a host with one connection must say it of each unit that it carries. */
 #ifndef LU62_H
 #define LU62_H
 
@@ -44,12 +52,13 @@ extern "C" {
  * change of what an image holds. An image kept by a library of another format is refused, and not misread: with BAD_BUFFER if
  * its length is another too, else with BAD_RECORD. Version 0.4.0 has two states more and the format of 0.3.0: it takes up the images
  * of 0.3.0, which refuses an image in one of the new states with BAD_RECORD. Version 0.5.0 has format 4, whose images are a
- * byte longer: it refuses an image of an older library with BAD_BUFFER, by its length, and so the other way round. */
-#define LU62_VERSION "0.5.0"
-#define LU62_FORMAT 4
+ * byte longer, and version 0.6.0 format 5, whose images are five bytes longer again: each refuses an image of an older library with
+ * BAD_BUFFER, by its length, and so the other way round. */
+#define LU62_VERSION "0.6.0"
+#define LU62_FORMAT 5
 
 /* Sizes, in bytes. W is a window, 1 to 63; M is a maximum RU, 8 to 1,024. */
-#define LU62_IMAGE 43
+#define LU62_IMAGE 48
 #define LU62_UNIT(m) ((m) + 5)
 #define LU62_INBOX(w, m) ((w) * (m))
 #define LU62_INBOX_MOST 65535
@@ -86,11 +95,11 @@ extern "C" {
 #define LU62_NOTHING_TO_READ 12   /* no byte is held and no mark stands */
 #define LU62_UNREAD_MARK 13       /* a mark stands: read up to it before the next unit is taken */
 
-/* Refusals of lu62_receive_unit: the partner's unit breaks the protocol. */
+/* Refusals of lu62_receive_unit and lu62_receive_expedited: the partner's unit breaks the protocol. */
 #define LU62_SHORT_UNIT 20        /* under 5 bytes */
-#define LU62_BAD_HEADER 21        /* the header breaks rules of H1 to H6 below; `rule` is the lowest of them */
+#define LU62_BAD_HEADER 21        /* the header breaks rules of H1 to H6 below, by its line; `rule` is the lowest of them */
 #define LU62_BAD_RU 22            /* the RU does not fit the header, or is too long */
-#define LU62_BAD_NUMBER 23        /* not the next sequence number */
+#define LU62_BAD_NUMBER 23        /* not the next sequence number of its line */
 #define LU62_BAD_CHAIN 24         /* first in chain, or an error header, where a chain is open; or the reverse */
 #define LU62_BAD_BRACKET 25       /* begin bracket where none may begin, or missing where one must; a bid to a bidder */
 #define LU62_BAD_STATE 26         /* data, or an error header, where this end does not receive */
@@ -98,16 +107,23 @@ extern "C" {
 #define LU62_BAD_RESPONSE 28      /* a response, a confirmation's refusal too, to nothing that this end has asked */
 #define LU62_BAD_RECORDS 29       /* a bad LL; or, at a mark, also error, a record that is not whole or says that another part follows */
 
-/* From here on a refusal number is a breach of protocol by the partner. */
+/* A refusal number from the first to the last of these is a breach of protocol by the partner. */
 #define LU62_FIRST_BREACH LU62_SHORT_UNIT
+#define LU62_LAST_BREACH LU62_BAD_RECORDS
 
-/* The rules of a header, the three bytes behind the number. Bytes are in hexadecimal; data has a byte 0 of 00 to 03.
+/* Refusal of lu62_request_to_send; no breach. */
+#define LU62_SIGNAL_UNANSWERED 30 /* the partner has not answered the signal that this end made last */
+
+/* The rules of a header, the three bytes behind the number. Bytes are in hexadecimal; data has a byte 0 of 00 to 03. Of a normal unit:
  *   H1  byte 0 is 00, 01 (last in chain), 02 (first), 03 (first and last), 0B, 4B, 83, 87, CB or CF
  *   H2  not data: the header is 0B 90 00, 0B 91 00, 4B 80 80, 4B 81 80, 83 01 00, 83 20 00, 87 30 00, CB 80 00 or CF 90 00
  *   H3  data: byte 1 is 90 or 91, or 20 or 21, which request a confirmation
  *   H4  data: only the last in a chain requests a confirmation
  *   H5  data: byte 2 is 00, 01, 20, 80, 81 or A0
- *   H6  data: weight 80 of byte 2 only on the first in a chain, weights 20 and 01 only on the last */
+ *   H6  data: weight 80 of byte 2 only on the first in a chain, weights 20 and 01 only on the last
+ * Of an expedited unit, a signal or the answer to one:
+ *   H1  byte 0 is 4B or CB
+ *   H2  the header is 4B 80 00 or CB 80 00 */
 
 /* Marks: what a unit says after its bytes. lu62_receive answers the mark when all bytes before it have been read. Where lu62_confirmed
  * is due, lu62_send_error refuses to confirm. */
@@ -128,7 +144,7 @@ extern "C" {
 #define LU62_DEFER_TURN 5         /* Defer: a turn is prepared, to be carried out or withdrawn */
 #define LU62_DEFER_END 6          /* Defer: an end is prepared, to be carried out or withdrawn */
 
-/* What a call answers. A refusal has zeros in the last five fields. */
+/* What a call answers. A refusal has zeros in the last six fields. */
 struct lu62_answer {
     uint32_t refusal;   /* LU62_ACCEPTED, or the number of the refusal */
     uint32_t sense;     /* sense data of the refusal, 0 where it has none */
@@ -138,6 +154,7 @@ struct lu62_answer {
     uint32_t complete;  /* lu62_receive: 1 if the last byte copied ends a logical record, else 0 */
     uint32_t more;      /* lu62_receive: 1 if that record is a part that another part follows, else 0; 0 unless complete */
     uint32_t mark;      /* lu62_receive: the mark answered, LU62_MARK_NONE for none */
+    uint32_t signalled; /* lu62_receive_expedited: 1 if the partner requests the turn, else 0 */
 };
 
 /* Opens a session: writes the record of an end in LU62_RESET to `image`, whatever it held. `out_window` and `out_max` are W and M
@@ -194,8 +211,8 @@ uint32_t lu62_deallocate(uint8_t *image, size_t image_length, uint8_t confirm, c
 /* Prepares a turn, or an end, where it is not yet known whether it is to go with a confirmation: in LU62_SEND, with the last record
  * whole. It is only noted: no unit is made, and the bytes kept stay kept. This end is then in Defer, LU62_DEFER_TURN or
  * LU62_DEFER_END, until lu62_flush or lu62_confirm carries the turn or end out, or lu62_withdraw drops it. Refused with NO_CREDIT,
- * flush and confirm leave this end in Defer: take a pacing response and make the call again. Units are taken, bytes read and pacing
- * responses made in Defer as in LU62_SEND; of the other calls none but lu62_open is accepted there (WRONG_STATE).
+ * flush and confirm leave this end in Defer: take a pacing response and make the call again. Units of both lines are taken, bytes read
+ * and pacing responses made in Defer as in LU62_SEND; of the other calls none but lu62_open is accepted there (WRONG_STATE).
  * Lent: nothing. Refusals: BAD_RECORD, WRONG_STATE, UNFINISHED_RECORD. */
 uint32_t lu62_defer_turn(uint8_t *image, size_t image_length, struct lu62_answer *answer);
 uint32_t lu62_defer_end(uint8_t *image, size_t image_length, struct lu62_answer *answer);
@@ -217,18 +234,32 @@ uint32_t lu62_confirmed(uint8_t *image, size_t image_length, uint8_t *unit, size
  * Lent: unit. Refusals: BAD_BUFFER, BAD_RECORD, WRONG_STATE. */
 uint32_t lu62_send_error(uint8_t *image, size_t image_length, uint8_t *unit, size_t unit_length, struct lu62_answer *answer);
 
+/* Requests the turn from the partner while this end receives, or owes a confirmation: makes a signal, an expedited unit. No state
+ * changes at either end; the partner's program is told by `signalled`, once for each signal, and may give the turn or not. The next
+ * signal can be made when the answer to this one has been taken by lu62_receive_expedited; until then lu62_signal_unanswered gives 1.
+ * Lent: unit. Refusals: BAD_BUFFER, BAD_RECORD, WRONG_STATE, SIGNAL_UNANSWERED. */
+uint32_t lu62_request_to_send(uint8_t *image, size_t image_length, uint8_t *unit, size_t unit_length, struct lu62_answer *answer);
+
 /* Makes a pacing response: the partner may send one window more. Without it the partner runs out of credit, so a host calls this
  * whenever it has read; NOTHING_TO_PACE then only says that it is not yet due.
  * Lent: unit. Refusals: BAD_BUFFER, BAD_RECORD, NOTHING_TO_PACE. */
 uint32_t lu62_send_pacing_response(uint8_t *image, size_t image_length, uint8_t *unit, size_t unit_length,
                                    struct lu62_answer *answer);
 
-/* Takes one unit that the partner made: the oldest that has not been taken. `taken` may hold any bytes. The data in it joins the
+/* Takes one normal unit that the partner made: the oldest that has not been taken. `taken` may hold any bytes. The data in it joins the
  * inbox; the answer to a bid is made as a unit. Of an error header nothing joins the inbox: it leaves LU62_MARK_ERROR.
  * Lent: the unit taken (only read), inbox, unit. Refusals: BAD_BUFFER, BAD_RECORD, UNREAD_MARK (keep the unit, read, take it
  * again), SHORT_UNIT, BAD_HEADER, BAD_RU, BAD_PACING, BAD_NUMBER, BAD_CHAIN, BAD_BRACKET, BAD_STATE, BAD_RECORDS, BAD_RESPONSE. */
 uint32_t lu62_receive_unit(uint8_t *image, size_t image_length, const uint8_t *taken, size_t taken_length,
                            uint8_t *inbox, size_t inbox_length, uint8_t *unit, size_t unit_length, struct lu62_answer *answer);
+
+/* Takes one expedited unit that the partner made: the oldest of its line that has not been taken. `taken` may hold any bytes. Of a signal
+ * it makes the answer, an expedited unit too, and `signalled` is 1: the partner requests the turn. The answer to this end's own signal
+ * makes no unit; the next signal may then be made. It is accepted in every state and under an unread mark, and leaves both.
+ * Lent: the unit taken (only read), unit. Refusals: BAD_BUFFER, BAD_RECORD, SHORT_UNIT, BAD_HEADER, BAD_RU, BAD_NUMBER (a signal),
+ * BAD_RESPONSE (an answer). */
+uint32_t lu62_receive_expedited(uint8_t *image, size_t image_length, const uint8_t *taken, size_t taken_length,
+                                uint8_t *unit, size_t unit_length, struct lu62_answer *answer);
 
 /* Reads bytes of the current logical record, its LL included, never past its end, as many as are held and fit `buffer`; or, with
  * all bytes read, the mark. It makes no unit. With `complete` a record, or a part of a table, has been read to its end; `more` says
@@ -256,6 +287,12 @@ static inline uint32_t lu62_bid_pending(const uint8_t *image)
 static inline uint32_t lu62_error_due(const uint8_t *image)
 {
     return image[42];
+}
+
+/* 1 while a signal of this end has not been answered, from lu62_request_to_send to the take of the answer, else 0. */
+static inline uint32_t lu62_signal_unanswered(const uint8_t *image)
+{
+    return image[43];
 }
 
 /* How many bytes the send buffer holds: given, and not yet in a unit. */
@@ -299,6 +336,7 @@ static inline const char *lu62_refusal_text(uint32_t refusal)
     case LU62_BAD_PACING: return "the unit does not fit the pacing window";
     case LU62_BAD_RESPONSE: return "a response to nothing asked";
     case LU62_BAD_RECORDS: return "a bad record length, or a mark behind a record not whole or with another part to follow";
+    case LU62_SIGNAL_UNANSWERED: return "a signal has not been answered";
     default: return "no refusal has this number";
     }
 }

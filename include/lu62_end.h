@@ -6,7 +6,7 @@
  *   if (lu62_end_open(&end, &session) != LU62_ACCEPTED)
  *       ..
  *   if (lu62_end_allocate(&end) == LU62_ACCEPTED && end.answer.unit > 0)
- *       carry end.unit, end.answer.unit bytes, to the partner
+ *       carry end.unit, end.answer.unit bytes, to the partner, on the line that lu62.h says
  *
  * Every call asserts that none of its buffers is null and no two overlap; such a call would be accepted and its unit carry wrong
  * bytes. Define LU62_ASSERT(condition) before this header to have another answer to it than assert. With NDEBUG defined, assert
@@ -157,6 +157,12 @@ static inline uint32_t lu62_end_send_error(struct lu62_end *end)
     return lu62_send_error(end->image, sizeof end->image, end->unit, end->unit_length, &end->answer);
 }
 
+static inline uint32_t lu62_end_request_to_send(struct lu62_end *end)
+{
+    LU62_ASSERT(lu62_end_sound(end));
+    return lu62_request_to_send(end->image, sizeof end->image, end->unit, end->unit_length, &end->answer);
+}
+
 static inline uint32_t lu62_end_send_pacing_response(struct lu62_end *end)
 {
     LU62_ASSERT(lu62_end_sound(end));
@@ -168,6 +174,12 @@ static inline uint32_t lu62_end_receive_unit(struct lu62_end *end, const uint8_t
     LU62_ASSERT(lu62_end_sound(end) && lu62_end_apart(end, taken, length));
     return lu62_receive_unit(end->image, sizeof end->image, taken, length, end->inbox, end->inbox_length, end->unit,
                              end->unit_length, &end->answer);
+}
+
+static inline uint32_t lu62_end_receive_expedited(struct lu62_end *end, const uint8_t *taken, size_t length)
+{
+    LU62_ASSERT(lu62_end_sound(end) && lu62_end_apart(end, taken, length));
+    return lu62_receive_expedited(end->image, sizeof end->image, taken, length, end->unit, end->unit_length, &end->answer);
 }
 
 static inline uint32_t lu62_end_receive(struct lu62_end *end, uint8_t *buffer, size_t length)
@@ -190,6 +202,11 @@ static inline uint32_t lu62_end_bid_pending(const struct lu62_end *end)
 static inline uint32_t lu62_end_error_due(const struct lu62_end *end)
 {
     return lu62_error_due(end->image);
+}
+
+static inline uint32_t lu62_end_signal_unanswered(const struct lu62_end *end)
+{
+    return lu62_signal_unanswered(end->image);
 }
 
 static inline uint32_t lu62_end_send_held(const struct lu62_end *end)

@@ -4,6 +4,10 @@
 //! accepted, or gives a [`Refusal`] and changes nothing. [`Answer::unit`] is the length of the unit that now stands at the front
 //! of the unit buffer; the caller carries it to the partner's [`End::receive_unit`], in the order in which units are made.
 //!
+//! Units made by [`End::request_to_send`] and [`End::receive_expedited`] are expedited: they run on a line of their own, to the
+//! partner's [`End::receive_expedited`], again in the order in which they are made. They may overtake the others, and none of them costs
+//! or waits for credit. The bytes of a unit do not say which line it belongs to.
+//!
 //! The same buffers must be lent to the calls of one end, and nobody else may write to them between the calls: the bytes given
 //! and not yet sent lie in the send buffer, the bytes taken and not yet read in the inbox.
 //!
@@ -47,10 +51,10 @@ mod refusal;
 pub use refusal::{Reason, Refusal};
 
 /// The length of an end's record as bytes.
-pub const IMAGE: usize = 43;
+pub const IMAGE: usize = 48;
 
 /// The first of those bytes, raised with each change of what they hold.
-pub const FORMAT: u8 = 4;
+pub const FORMAT: u8 = 5;
 
 /// The top bit of LL, a logical record's first two bytes: another part follows. The other 15 bits are the record's length, LL counted,
 /// 2 to 32,767.
@@ -178,6 +182,16 @@ pub struct Answer {
     pub unit: usize,
 }
 
+/// An accepted take of an expedited unit.
+#[derive(Clone, Copy, Debug, PartialEq, Eq)]
+#[must_use = "a unit made must be carried to the partner"]
+pub struct ExpeditedAnswer {
+    /// The length of the unit made, at the front of the unit buffer, to be carried on the expedited line; 0 for none.
+    pub unit: usize,
+    /// Whether a signal was taken: the partner requests the turn.
+    pub signalled: bool,
+}
+
 /// An accepted read.
 #[derive(Clone, Copy, Debug, PartialEq, Eq)]
 #[must_use = "the bytes copied are part of a record only together with those read before"]
@@ -257,6 +271,11 @@ impl End {
         self.image[42] == 1
     }
 
+    /// Whether a signal of this end has not been answered.
+    pub fn signal_unanswered(&self) -> bool {
+        self.image[43] == 1
+    }
+
     /// How many bytes the send buffer holds: given, and not yet in a unit.
     pub fn send_held(&self) -> usize {
         usize::from(u16::from_le_bytes([self.image[14], self.image[15]]))
@@ -309,8 +328,8 @@ impl End {
     ///
     /// This end is then in Defer, [`State::DeferTurn`] or [`State::DeferEnd`], until [`End::flush`] or [`End::confirm`] carries the
     /// turn or end out, or [`End::withdraw`] drops it. Refused with [`Reason::NoCredit`], flush and confirm leave this end in Defer:
-    /// take a pacing response and make the call again. Units are taken, bytes read and pacing responses made in Defer as in Send; no
-    /// other call is accepted there ([`Reason::WrongState`]).
+    /// take a pacing response and make the call again. Units of both lines are taken, bytes read and pacing responses made in Defer as
+    /// in Send; no other call is accepted there ([`Reason::WrongState`]).
     pub fn defer(&mut self, what: Deferred) -> Result<(), Refusal> {
         let raw = match what {
             Deferred::Turn => raw::defer_turn(&mut self.image),
@@ -339,14 +358,27 @@ impl End {
         outcome(raw::send_error(&mut self.image, unit))
     }
 
+    /// Requests the turn (document 02) while this end receives or owes a confirmation: makes a signal, an expedited unit. No state
+    /// changes at either end. The next signal can be made when the answer to this one has been taken.
+    pub fn request_to_send(&mut self, unit: &mut [u8]) -> Result<Answer, Refusal> {
+        outcome(raw::request_to_send(&mut self.image, unit))
+    }
+
     /// Makes a pacing response, if one is owed and the inbox has room for a window.
     pub fn send_pacing_response(&mut self, unit: &mut [u8]) -> Result<Answer, Refusal> {
         outcome(raw::send_pacing_response(&mut self.image, unit))
     }
 
-    /// Takes the oldest unit that the partner made. Refused with [`Reason::UnreadMark`], it must be taken again after a read.
+    /// Takes the oldest unit of the normal line. Refused with [`Reason::UnreadMark`], it must be taken again after a read.
     pub fn receive_unit(&mut self, taken: &[u8], inbox: &mut [u8], unit: &mut [u8]) -> Result<Answer, Refusal> {
         outcome(raw::receive_unit(&mut self.image, taken, inbox, unit))
+    }
+
+    /// Takes the oldest unit of the expedited line, in any state: a signal, of which it makes the answer, or the answer to this end's own.
+    /// It changes no state.
+    pub fn receive_expedited(&mut self, taken: &[u8], unit: &mut [u8]) -> Result<ExpeditedAnswer, Refusal> {
+        let raw = raw::receive_expedited(&mut self.image, taken, unit);
+        outcome(raw).map(|answer| ExpeditedAnswer { unit: answer.unit, signalled: raw.signalled != 0 })
     }
 
     /// Reads bytes of the current record, never past its end; or, with all bytes read, the mark.

@@ -13,6 +13,7 @@ pub struct Answer {
     pub complete: u32,
     pub more: u32,
     pub mark: u32,
+    pub signalled: u32,
 }
 
 /// A call lent the image alone.
@@ -21,11 +22,11 @@ pub type ByImage = unsafe extern "C" fn(*mut u8, usize, *mut Answer) -> u32;
 /// A call lent the image and the unit buffer.
 pub type ByUnit = unsafe extern "C" fn(*mut u8, usize, *mut u8, usize, *mut Answer) -> u32;
 
-/// A call lent the image, the send buffer, which it only reads, and the unit buffer.
-pub type BySend = unsafe extern "C" fn(*mut u8, usize, *const u8, usize, *mut u8, usize, *mut Answer) -> u32;
+/// A call lent the image, bytes that it only reads (the send buffer, or a unit taken), and the unit buffer.
+pub type ByRead = unsafe extern "C" fn(*mut u8, usize, *const u8, usize, *mut u8, usize, *mut Answer) -> u32;
 
 /// The same with the byte `confirm` behind the image.
-pub type BySendConfirmed = unsafe extern "C" fn(*mut u8, usize, u8, *const u8, usize, *mut u8, usize, *mut Answer) -> u32;
+pub type ByReadConfirmed = unsafe extern "C" fn(*mut u8, usize, u8, *const u8, usize, *mut u8, usize, *mut Answer) -> u32;
 
 /// A call lent the image, bytes that it only reads, a buffer that keeps bytes, and the unit buffer.
 pub type ByBytes = unsafe extern "C" fn(*mut u8, usize, *const u8, usize, *mut u8, usize, *mut u8, usize, *mut Answer) -> u32;
@@ -111,6 +112,14 @@ extern "C" {
 
     pub fn lu62_send_error(image: *mut u8, image_length: usize, unit: *mut u8, unit_length: usize, answer: *mut Answer) -> u32;
 
+    pub fn lu62_request_to_send(
+        image: *mut u8,
+        image_length: usize,
+        unit: *mut u8,
+        unit_length: usize,
+        answer: *mut Answer,
+    ) -> u32;
+
     pub fn lu62_send_pacing_response(
         image: *mut u8,
         image_length: usize,
@@ -126,6 +135,16 @@ extern "C" {
         taken_length: usize,
         inbox: *mut u8,
         inbox_length: usize,
+        unit: *mut u8,
+        unit_length: usize,
+        answer: *mut Answer,
+    ) -> u32;
+
+    pub fn lu62_receive_expedited(
+        image: *mut u8,
+        image_length: usize,
+        taken: *const u8,
+        taken_length: usize,
         unit: *mut u8,
         unit_length: usize,
         answer: *mut Answer,
@@ -195,16 +214,16 @@ fn by_unit(call: ByUnit, image: &mut [u8], unit: &mut [u8]) -> Answer {
     answer
 }
 
-fn by_send(call: BySend, image: &mut [u8], send: &[u8], unit: &mut [u8]) -> Answer {
+fn by_read(call: ByRead, image: &mut [u8], bytes: &[u8], unit: &mut [u8]) -> Answer {
     let mut answer = Answer::default();
-    // SAFETY: the slices written are borrowed mutably and `send` beside them, so none overlap; the library only reads `send`.
+    // SAFETY: the slices written are borrowed mutably and `bytes` beside them, so none overlap; the library only reads `bytes`.
     unsafe {
-        call(image.as_mut_ptr(), image.len(), send.as_ptr(), send.len(), unit.as_mut_ptr(), unit.len(), &mut answer);
+        call(image.as_mut_ptr(), image.len(), bytes.as_ptr(), bytes.len(), unit.as_mut_ptr(), unit.len(), &mut answer);
     }
     answer
 }
 
-fn by_send_confirmed(call: BySendConfirmed, image: &mut [u8], confirm: bool, send: &[u8], unit: &mut [u8]) -> Answer {
+fn by_read_confirmed(call: ByReadConfirmed, image: &mut [u8], confirm: bool, send: &[u8], unit: &mut [u8]) -> Answer {
     let mut answer = Answer::default();
     let confirm = u8::from(confirm);
     // SAFETY: the slices written are borrowed mutably and `send` beside them, so none overlap; the library only reads `send`.
@@ -242,19 +261,19 @@ pub fn send_data(image: &mut [u8], bytes: &[u8], send: &mut [u8], unit: &mut [u8
 }
 
 pub fn flush(image: &mut [u8], send: &[u8], unit: &mut [u8]) -> Answer {
-    by_send(lu62_flush, image, send, unit)
+    by_read(lu62_flush, image, send, unit)
 }
 
 pub fn confirm(image: &mut [u8], send: &[u8], unit: &mut [u8]) -> Answer {
-    by_send(lu62_confirm, image, send, unit)
+    by_read(lu62_confirm, image, send, unit)
 }
 
 pub fn prepare_to_receive(image: &mut [u8], confirm: bool, send: &[u8], unit: &mut [u8]) -> Answer {
-    by_send_confirmed(lu62_prepare_to_receive, image, confirm, send, unit)
+    by_read_confirmed(lu62_prepare_to_receive, image, confirm, send, unit)
 }
 
 pub fn deallocate(image: &mut [u8], confirm: bool, send: &[u8], unit: &mut [u8]) -> Answer {
-    by_send_confirmed(lu62_deallocate, image, confirm, send, unit)
+    by_read_confirmed(lu62_deallocate, image, confirm, send, unit)
 }
 
 pub fn defer_turn(image: &mut [u8]) -> Answer {
@@ -277,12 +296,20 @@ pub fn send_error(image: &mut [u8], unit: &mut [u8]) -> Answer {
     by_unit(lu62_send_error, image, unit)
 }
 
+pub fn request_to_send(image: &mut [u8], unit: &mut [u8]) -> Answer {
+    by_unit(lu62_request_to_send, image, unit)
+}
+
 pub fn send_pacing_response(image: &mut [u8], unit: &mut [u8]) -> Answer {
     by_unit(lu62_send_pacing_response, image, unit)
 }
 
 pub fn receive_unit(image: &mut [u8], taken: &[u8], inbox: &mut [u8], unit: &mut [u8]) -> Answer {
     by_bytes(lu62_receive_unit, image, taken, inbox, unit)
+}
+
+pub fn receive_expedited(image: &mut [u8], taken: &[u8], unit: &mut [u8]) -> Answer {
+    by_read(lu62_receive_expedited, image, taken, unit)
 }
 
 pub fn receive(image: &mut [u8], inbox: &mut [u8], buffer: &mut [u8]) -> Answer {

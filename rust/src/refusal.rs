@@ -66,7 +66,7 @@ reasons! {
     BadHeader = 21, "the header breaks a rule";
     /// The RU does not fit the header, or is too long.
     BadRu = 22, "the RU does not fit";
-    /// Not the next sequence number.
+    /// Not the next sequence number of its line.
     BadNumber = 23, "the sequence number is not the next";
     /// First in chain, or an error header, where a chain is open; or the reverse.
     BadChain = 24, "the unit does not fit the chain";
@@ -80,6 +80,8 @@ reasons! {
     BadResponse = 28, "a response to nothing asked";
     /// A bad LL; or, at a mark, also error, a record that is not whole or is a part that says another follows.
     BadRecords = 29, "a bad record length, or a mark behind a record not whole or with another part to follow";
+    /// The partner has not answered the signal that this end made last.
+    SignalUnanswered = 30, "a signal has not been answered";
 }
 
 impl Reason {
@@ -90,7 +92,7 @@ impl Reason {
 
     /// Whether the partner broke the protocol.
     pub fn is_breach(self) -> bool {
-        self >= Reason::ShortUnit
+        (Reason::ShortUnit..=Reason::BadRecords).contains(&self)
     }
 }
 

@@ -1,5 +1,6 @@
 //! The safe calls as a program uses them: one record from one end to the other, a turn, a confirmation and the end; a table in several
-//! parts; a turn or an end prepared, and carried out or withdrawn; a confirmation refused, and the error header behind it.
+//! parts; a turn or an end prepared, and carried out or withdrawn; a confirmation refused, and the error header behind it; the turn
+//! requested, on the expedited lines.
 use lu62::{inbox_length, unit_length, Answer, Deferred, End, Mark, Reason, Refusal, Role, Session, State, FORMAT, MORE_FOLLOWS};
 
 const WINDOW: u8 = 3;
@@ -459,6 +460,94 @@ fn a_forged_error_due_is_refused_outside_send_and_with_bytes_kept() {
     for error in 2..=255 {
         assert_eq!(forged(&end, error).flush(&send, &mut unit).unwrap_err().reason, Reason::BadRecord);
     }
+}
+
+// A laboratory that sends, and a blender that has taken its first unit and receives.
+fn receiving() -> [Host; 2] {
+    let mut laboratory = sender(b"\x00\x04AB");
+    let made = laboratory.end.flush(&laboratory.send, &mut laboratory.unit).expect("credit is there");
+    let mut blender = host(Role::Bidder);
+    carry(&laboratory, made, &mut blender);
+    [laboratory, blender]
+}
+
+const SIGNAL: [u8; 8] = [0x4B, 0x80, 0x00, 0xC9, 0x00, 0x01, 0x00, 0x00];
+const SIGNAL_ANSWER: [u8; 4] = [0xCB, 0x80, 0x00, 0xC9];
+
+#[test]
+fn the_turn_is_requested_while_the_partner_sends() {
+    let [mut laboratory, mut blender] = receiving();
+    for number in 1..=3 {
+        let states = [laboratory.end.state(), blender.end.state()];
+        let made = blender.end.request_to_send(&mut blender.unit).expect("it receives, and no signal is unanswered");
+        assert_eq!(blender.unit[..made.unit], [&[0x00, number], &SIGNAL[..]].concat());
+        assert!(blender.end.signal_unanswered());
+        // Units of the normal line that were made before may be overtaken.
+        assert!(laboratory.end.send_data(b"\x00\x02", &mut laboratory.send, &mut laboratory.unit).is_ok());
+        let told = laboratory.end.receive_expedited(&blender.unit[..made.unit], &mut laboratory.unit).expect("a signal");
+        assert!(told.signalled);
+        assert_eq!(laboratory.unit[..told.unit], [&[0x00, number], &SIGNAL_ANSWER[..]].concat());
+        let answered = blender.end.receive_expedited(&laboratory.unit[..told.unit], &mut blender.unit).expect("its answer");
+        assert_eq!((answered.unit, answered.signalled, blender.end.signal_unanswered()), (0, false, false));
+        assert_eq!([laboratory.end.state(), blender.end.state()], states);
+    }
+    let made = laboratory.end.prepare_to_receive(false, &laboratory.send, &mut laboratory.unit).expect("the record is whole");
+    carry(&laboratory, made, &mut blender);
+    assert_eq!([read(&mut blender), read(&mut blender)].map(|(record, _)| record.len()), [4, 2]);
+}
+
+#[test]
+fn one_signal_is_unanswered_at_a_time_and_only_where_this_end_receives() {
+    let [_, mut blender] = receiving();
+    assert!(blender.end.request_to_send(&mut blender.unit).is_ok());
+    let before = blender.end.clone();
+    let result = blender.end.request_to_send(&mut blender.unit);
+    refused(&blender.end, &before, result, Reason::SignalUnanswered);
+    let refusal = result.unwrap_err();
+    assert!(!refusal.reason.is_breach());
+    assert_eq!(refusal.to_string(), "refusal 30 (a signal has not been answered), sense 00000000");
+    let result = blender.end.request_to_send(&mut blender.unit[1..]);
+    refused(&blender.end, &before, result, Reason::BadBuffer);
+    let [waits, mut owes] = asked(ASKS[0].0, ASKS[0].1);
+    let mut defers = sender(b"");
+    assert_eq!(defers.end.defer(Deferred::Turn), Ok(()));
+    for mut host in [host(Role::FirstSpeaker), sender(b""), defers, waits] {
+        let before = host.end.clone();
+        let result = host.end.request_to_send(&mut host.unit);
+        refused(&host.end, &before, result, Reason::WrongState);
+    }
+    assert_eq!(owes.end.request_to_send(&mut owes.unit).expect("it owes a confirmation").unit, 10);
+    assert_eq!(owes.end.state(), Some(State::ConfirmOwed));
+}
+
+#[test]
+fn each_line_has_units_of_its_own() {
+    let mut bidder = host(Role::Bidder);
+    assert!(bidder.end.allocate(&mut bidder.unit).is_ok());
+    let before = bidder.end.clone();
+    let grant = [0x00, 0x01, 0xCB, 0x80, 0x00, 0x04];
+    let signal = [&[0x00, 0x01], &SIGNAL[..]].concat();
+    // On the expedited line: a grant, a bid, data; a signal of another number; an answer to no signal; the manual's signal code.
+    let breaches: [(&[u8], Reason, u32); 6] = [
+        (&grant, Reason::BadRu, 0),
+        (&[0x00, 0x01, 0x4B, 0x81, 0x80, 0x04, 0x00, 0x06, 0x00, 0x00], Reason::BadHeader, 2),
+        (&[0x00, 0x01, 0x03, 0x90, 0x00, 0x00, 0x02], Reason::BadHeader, 1),
+        (&[&[0x00, 0x02], &SIGNAL[..]].concat(), Reason::BadNumber, 0),
+        (&[&[0x00, 0x00], &SIGNAL_ANSWER[..]].concat(), Reason::BadResponse, 0),
+        (&[0x00, 0x01, 0x4B, 0x80, 0x00, 0xC9, 0x00, 0x01, 0x00, 0x01], Reason::BadRu, 0),
+    ];
+    for (unit, reason, rule) in breaches {
+        let refusal = bidder.end.receive_expedited(unit, &mut bidder.unit).unwrap_err();
+        assert_eq!((refusal.reason, refusal.rule, refusal.reason.is_breach()), (reason, rule, true), "{unit:02X?}");
+        assert_eq!(bidder.end, before);
+    }
+    // On the normal line: a signal.
+    let refusal = bidder.end.receive_unit(&signal, &mut bidder.inbox, &mut bidder.unit).unwrap_err();
+    assert_eq!((refusal.reason, refusal.rule), (Reason::BadHeader, 2));
+    // Each on its own; a signal is taken in every state.
+    assert!(bidder.end.receive_expedited(&signal, &mut bidder.unit).expect("a signal").signalled);
+    assert!(bidder.end.receive_unit(&grant, &mut bidder.inbox, &mut bidder.unit).is_ok());
+    assert_eq!(bidder.end.state(), Some(State::Send));
 }
 
 #[test]

@@ -8,13 +8,16 @@
 //! And on such images: flush or confirm after a prepared turn or end gives answer, image and every cell that turn or end gives on the
 //! image before, and withdrawing gives that image back. After a confirmation refused flush gives the error header, and nothing else that
 //! needs Send is accepted before it; with the error header gone, the image is that of Send, with what was to follow as it was.
+//!
+//! Request to send and the take of an expedited unit change no byte of the image but the five of the expedited lines.
 mod common;
 
+use common::images::{decoded, encode, FOLLOWS, MARKS, STATES};
 use common::pages::Area;
 use common::{at, put_word, word, Random};
 use lu62::raw;
 use lu62::{FORMAT, IMAGE};
-use plain::{Follow, Mark, Place, State, Window, WHOLE};
+use plain::{Expedited, Follow, Mark, Place, State, Window, WHOLE};
 use std::ops::Range;
 
 const SEED: u64 = 0x6C75_3632_0002;
@@ -46,9 +49,14 @@ enum Call {
     DeferEnd,
     Withdraw,
     SendError,
+    RequestToSend,
+    TakeExpedited,
 }
 
-const ALL: [Call; 15] = [
+// How many numbers a call can return: 0, and those of the refusals, of which 30 is the last.
+const REFUSALS: usize = 31;
+
+const ALL: [Call; 17] = [
     Call::Open,
     Call::Allocate,
     Call::SendData,
@@ -64,6 +72,8 @@ const ALL: [Call; 15] = [
     Call::DeferEnd,
     Call::Withdraw,
     Call::SendError,
+    Call::RequestToSend,
+    Call::TakeExpedited,
 ];
 
 // The refusals that the questions of documents 01 and 02 leave possible for each call.
@@ -78,6 +88,8 @@ fn allowed(call: Call) -> &'static [u32] {
         Call::Pace => &[4, 5, 11],
         Call::Take => &[4, 5, 13, 20, 21, 22, 23, 24, 25, 26, 27, 28, 29],
         Call::Read => &[4, 5, 6, 8, 12],
+        Call::RequestToSend => &[4, 5, 7, 30],
+        Call::TakeExpedited => &[4, 5, 20, 21, 22, 23, 28],
     }
 }
 
@@ -200,6 +212,8 @@ unsafe fn made(call: Call, lent: &Lent, opening: &Opening, confirm: u8) -> u32 {
             Call::DeferEnd => raw::lu62_defer_end(image, il, answer),
             Call::Withdraw => raw::lu62_withdraw(image, il, answer),
             Call::SendError => raw::lu62_send_error(image, il, unit, ul, answer),
+            Call::RequestToSend => raw::lu62_request_to_send(image, il, unit, ul, answer),
+            Call::TakeExpedited => raw::lu62_receive_expedited(image, il, gift, gl, unit, ul, answer),
         }
     }
 }
@@ -259,113 +273,6 @@ impl Pages {
         }
         answer
     }
-}
-
-fn flag(byte: u8) -> Option<bool> {
-    match byte {
-        0 => Some(false),
-        1 => Some(true),
-        _ => None,
-    }
-}
-
-fn window(image: &[u8], at: usize) -> Option<Window> {
-    Some(Window { size: image[at], place: image[at + 1], pending: flag(image[at + 2])? })
-}
-
-fn place(image: &[u8], at: usize) -> Option<Place> {
-    let value = word(image, at + 1) as u16;
-    match (image[at], value) {
-        (0, 0) => Some(Place::Between(false)),
-        (1, 0) => Some(Place::Between(true)),
-        (2, _) => Some(Place::Left(value, false)),
-        (3, _) => Some(Place::Left(value, true)),
-        (4, 0..=255) => Some(Place::AfterFirst(value as u8)),
-        _ => None,
-    }
-}
-
-// In the order of their codes.
-const STATES: [State; 7] =
-    [State::Reset, State::Send, State::Receive, State::Owes, State::Waits, State::DeferTurn, State::DeferEnd];
-const FOLLOWS: [Follow; 3] = [Follow::Stay, Follow::Turn, Follow::End];
-const MARKS: [Mark; 7] = [Mark::None, Mark::Turn, Mark::End, Mark::Confirm, Mark::ConfirmTurn, Mark::ConfirmEnd, Mark::Error];
-
-// The record in an image, or none if a code, flag or place is one that no record has.
-fn decoded(image: &[u8]) -> Option<plain::End> {
-    if image[at::FORMAT] != FORMAT {
-        return None;
-    }
-    Some(plain::End {
-        bidder: flag(image[at::ROLE])?,
-        state: *STATES.get(usize::from(image[at::STATE]))?,
-        follow: *FOLLOWS.get(usize::from(image[at::FOLLOW]))?,
-        mark: *MARKS.get(usize::from(image[at::MARK]))?,
-        due: flag(image[at::DUE])?,
-        error: flag(image[at::ERROR])?,
-        bid: flag(image[at::BID])?,
-        out_chain: flag(image[at::OUT_CHAIN])?,
-        in_chain: flag(image[at::IN_CHAIN])?,
-        out: window(image, at::OUT_WINDOW)?,
-        out_max: word(image, at::OUT_MAX) as u16,
-        out_held: word(image, at::OUT_HELD) as u16,
-        out_number: word(image, at::OUT_NUMBER) as u16,
-        given: place(image, at::GIVEN)?,
-        into: window(image, at::IN_WINDOW)?,
-        in_max: word(image, at::IN_MAX) as u16,
-        inbox: word(image, at::INBOX) as u16,
-        in_held: word(image, at::IN_HELD) as u16,
-        in_number: word(image, at::IN_NUMBER) as u16,
-        taken: place(image, at::TAKEN)?,
-        read: place(image, at::READ)?,
-        bid_number: word(image, at::BID_NUMBER) as u16,
-        owed_number: word(image, at::OWED_NUMBER) as u16,
-    })
-}
-
-fn put_window(image: &mut [u8], at: usize, window: Window) {
-    image[at] = window.size;
-    image[at + 1] = window.place;
-    image[at + 2] = u8::from(window.pending);
-}
-
-fn put_place(image: &mut [u8], at: usize, place: Place) {
-    let (kind, value) = match place {
-        Place::Between(false) => (0, 0),
-        Place::Between(true) => (1, 0),
-        Place::Left(left, false) => (2, left),
-        Place::Left(left, true) => (3, left),
-        Place::AfterFirst(byte) => (4, u16::from(byte)),
-    };
-    image[at] = kind;
-    put_word(image, at + 1, usize::from(value));
-}
-
-fn encode(end: &plain::End, image: &mut [u8]) {
-    image[at::FORMAT] = FORMAT;
-    image[at::ROLE] = u8::from(end.bidder);
-    image[at::STATE] = end.state as u8;
-    image[at::FOLLOW] = end.follow as u8;
-    image[at::MARK] = end.mark as u8;
-    image[at::DUE] = u8::from(end.due);
-    image[at::BID] = u8::from(end.bid);
-    image[at::OUT_CHAIN] = u8::from(end.out_chain);
-    image[at::IN_CHAIN] = u8::from(end.in_chain);
-    put_window(image, at::OUT_WINDOW, end.out);
-    put_word(image, at::OUT_MAX, usize::from(end.out_max));
-    put_word(image, at::OUT_HELD, usize::from(end.out_held));
-    put_word(image, at::OUT_NUMBER, usize::from(end.out_number));
-    put_place(image, at::GIVEN, end.given);
-    put_window(image, at::IN_WINDOW, end.into);
-    put_word(image, at::IN_MAX, usize::from(end.in_max));
-    put_word(image, at::INBOX, usize::from(end.inbox));
-    put_word(image, at::IN_HELD, usize::from(end.in_held));
-    put_word(image, at::IN_NUMBER, usize::from(end.in_number));
-    put_place(image, at::TAKEN, end.taken);
-    put_place(image, at::READ, end.read);
-    put_word(image, at::BID_NUMBER, usize::from(end.bid_number));
-    put_word(image, at::OWED_NUMBER, usize::from(end.owed_number));
-    image[at::ERROR] = u8::from(end.error);
 }
 
 fn only(refusal: u32) -> plain::Answer {
@@ -440,6 +347,8 @@ fn called_plain(call: Call, end: &mut plain::End, block: &mut Block, confirm: u8
         Call::DeferEnd => end.defer_end(),
         Call::Withdraw => end.withdraw(),
         Call::SendError => end.send_error(unit),
+        Call::RequestToSend => end.request_to_send(unit),
+        Call::TakeExpedited => end.receive_expedited(gift, unit),
     }
 }
 
@@ -526,17 +435,27 @@ fn random_end_in(random: &mut Random, state: State) -> plain::End {
         out: random_window(random),
         out_max: out_max as u16,
         out_held: out_held as u16,
-        out_number: if random.chance(1, 8) { 65535 } else { random.next() as u16 },
+        out_number: random_number(random),
         given: if whole { WHOLE } else { random_place(random) },
         into,
         in_max: in_max as u16,
         inbox: inbox as u16,
         in_held: in_held as u16,
-        in_number: if random.chance(1, 8) { 65535 } else { random.next() as u16 },
+        in_number: random_number(random),
         taken: if random.chance(1, 8) { WHOLE } else { random_place(random) },
         read: random_place(random),
         bid_number: random.next() as u16,
         owed_number: random.next() as u16,
+        expedited: Expedited { unanswered: random.chance(1, 2), sent: random_number(random), taken: random_number(random) },
+    }
+}
+
+// A sequence number, often the last before 0.
+fn random_number(random: &mut Random) -> u16 {
+    if random.chance(1, 8) {
+        65535
+    } else {
+        random.next() as u16
     }
 }
 
@@ -689,6 +608,35 @@ fn random_unit(random: &mut Random, end: &plain::End) -> Vec<u8> {
     unit
 }
 
+// A signal or the answer to one that the end might take on the expedited line, with faults in some.
+fn random_expedited(random: &mut Random, end: &plain::End) -> Vec<u8> {
+    let mut unit = if random.chance(1, 16) {
+        random_unit(random, end)
+    } else if random.chance(1, 2) {
+        signal(end.expedited.taken.wrapping_add(1))
+    } else {
+        signal_answer(end.expedited.sent)
+    };
+    match random.below(8) {
+        0 if unit.len() >= 5 => put_fault(random, &mut unit),
+        1 if unit.len() > 5 => {
+            let last = unit.len() - 1;
+            unit[random.range(5, last)] ^= 1 << random.below(8);
+        }
+        2 if unit.len() > 1 => unit[random.below(2)] ^= 1 << random.below(8),
+        _ => {}
+    }
+    unit
+}
+
+fn signal(number: u16) -> Vec<u8> {
+    [&number.to_be_bytes()[..], &[0x4B, 0x80, 0x00, 0xC9, 0x00, 0x01, 0x00, 0x00]].concat()
+}
+
+fn signal_answer(number: u16) -> Vec<u8> {
+    [&number.to_be_bytes()[..], &[0xCB, 0x80, 0x00, 0xC9]].concat()
+}
+
 // A length near the right one.
 fn near(random: &mut Random, right: usize) -> usize {
     match random.below(24) {
@@ -795,7 +743,11 @@ fn random_gift(random: &mut Random, end: &plain::End) -> Vec<u8> {
 // Lays out and fills a block for one call on this end.
 fn fill_block(random: &mut Random, call: Call, end: plain::End, block: &mut Block) {
     let max = usize::from(end.out_max);
-    let gift = if call == Call::Take { random_unit(random, &end) } else { random_gift(random, &end) };
+    let gift = match call {
+        Call::Take => random_unit(random, &end),
+        Call::TakeExpedited => random_expedited(random, &end),
+        _ => random_gift(random, &end),
+    };
     let image = if random.chance(1, 64) { random.below(64) } else { IMAGE };
     let read = match random.below(8) {
         0 => 0,
@@ -846,12 +798,17 @@ fn check_refused(call: Call, before: &Block, after: &Block, answer: &raw::Answer
     assert_eq!(answer.sense, sense, "sense of {}", answer.refusal);
     if answer.refusal == 21 {
         let unit = &before.cells[before.gift.clone()];
-        let lowest = plain::broken([unit[2], unit[3], unit[4]]).iter().position(|&broken| broken);
-        assert_eq!(lowest.map(|index| index as u32 + 1), Some(answer.rule), "the rule named is not the lowest that is broken");
+        let header = [unit[2], unit[3], unit[4]];
+        let lowest = match call {
+            Call::TakeExpedited => plain::broken_expedited(header),
+            _ => plain::broken(header).iter().position(|&broken| broken).map(|index| index as u32 + 1),
+        };
+        assert_eq!(lowest, Some(answer.rule), "the rule named is not the lowest that is broken");
     } else {
         assert_eq!(answer.rule, 0, "a rule named with {}", answer.refusal);
     }
-    assert_eq!([answer.unit, answer.copied, answer.complete, answer.more, answer.mark], [0; 5], "a refusal has zeros");
+    let told = [answer.unit, answer.copied, answer.complete, answer.more, answer.mark, answer.signalled];
+    assert_eq!(told, [0; 6], "a refusal has zeros");
     if call == Call::Open && before.image.len() == IMAGE {
         let (format, zeros) = after.cells[after.image.clone()].split_at(1);
         assert!(format == [FORMAT] && zeros.iter().all(|&cell| cell == 0), "a refused opening leaves the format and zeros");
@@ -901,6 +858,7 @@ fn check(call: Call, before: &Block, after: &Block, answer: &raw::Answer, openin
         let told = [answer.copied, answer.complete, answer.more, answer.mark];
         assert_eq!(told, [0; 4], "only a read copies bytes, tells of records or answers a mark");
     }
+    assert!(answer.signalled == 0 || call == Call::TakeExpedited, "only a take on the expedited line tells of a signal");
     let mut may = vec![before.image.clone()];
     if call == Call::Open {
         assert_eq!(answer.unit, 0, "opening makes no unit");
@@ -911,6 +869,9 @@ fn check(call: Call, before: &Block, after: &Block, answer: &raw::Answer, openin
         assert!(unit == 0 || (5..=max + 5).contains(&unit), "a unit of {unit} bytes");
         may.push(before.unit.start..before.unit.start + unit);
         may.extend(kept_cells(call, before, after, answer));
+    }
+    if matches!(call, Call::RequestToSend | Call::TakeExpedited) {
+        may[0].start += at::UNANSWERED;
     }
     assert!(unchanged_outside(before, after, &may), "{call:?} wrote outside what it may");
     if let Some((from, to)) = only_the_state(call) {
@@ -959,6 +920,7 @@ impl Bench {
             complete: ANSWER_GUARD,
             more: ANSWER_GUARD,
             mark: ANSWER_GUARD,
+            signalled: ANSWER_GUARD,
         };
         let mut guarded = [guard; 3];
         let returned = library(call, block, opening, confirm, &mut guarded[1]);
@@ -984,9 +946,65 @@ impl Bench {
             complete: answer.complete != 0,
             more: answer.more != 0,
             mark: answer.mark,
+            signalled: answer.signalled != 0,
         };
         assert_eq!(told, other, "call {i}, {call:?}: the plain end answers otherwise");
         assert!(block.cells == self.expected.cells, "call {i}, {call:?}: the plain end leaves other cells");
+    }
+}
+
+// What the calls on forged images have reached.
+#[derive(Default)]
+struct Reached {
+    // Refusals of each call.
+    refusals: [[usize; REFUSALS]; ALL.len()],
+    // Reads inside a record, at its end, and at the end of a part that another follows.
+    reads: [usize; 3],
+    error_marks: usize,
+    // Error headers and refusals of a confirmation taken.
+    taken: [usize; 2],
+    // Signals and answers to them taken on the expedited line.
+    expedited: [usize; 2],
+}
+
+impl Reached {
+    fn note(&mut self, call: Call, block: &Block, answer: &raw::Answer) {
+        self.refusals[call as usize][answer.refusal as usize] += 1;
+        self.reads[(answer.complete + answer.more) as usize] += usize::from(answer.copied > 0);
+        self.error_marks += usize::from(answer.mark == Mark::Error as u32);
+        if (call, answer.refusal) == (Call::Take, 0) {
+            let byte0 = block.cells[block.gift.start + 2];
+            self.taken[0] += usize::from(byte0 == 0x0B);
+            self.taken[1] += usize::from(byte0 == 0x87);
+        }
+        if (call, answer.refusal) == (Call::TakeExpedited, 0) {
+            assert_eq!(answer.signalled == 1, answer.unit == 6, "a signal is told of, and answered");
+            self.expedited[usize::from(answer.signalled == 0)] += 1;
+        }
+    }
+
+    fn print(&self) {
+        let Reached { refusals, reads, error_marks, taken, expedited } = self;
+        println!("forged: seed {SEED:#x}, {CALLS} calls, each against pages that cannot be touched too");
+        println!("forged: reads inside a record, at its end, and at the end of a part that another follows: {reads:?}");
+        println!("forged: error headers and refusals of a confirmation taken: {taken:?}; error marks read: {error_marks}");
+        println!("forged: signals and answers to them taken on the expedited line: {expedited:?}");
+        for (call, counts) in ALL.iter().zip(refusals) {
+            let told: Vec<String> = (0..REFUSALS).filter(|&n| counts[n] > 0).map(|n| format!("{n}: {}", counts[n])).collect();
+            println!("forged: {call:?}: {}", told.join(", "));
+        }
+    }
+
+    fn assert_reached(&self) {
+        assert!(self.reads.iter().all(|&n| n >= 1000), "hardly any read of one kind");
+        assert!(self.taken.iter().all(|&n| n >= 100) && self.error_marks >= 100, "hardly any error header, refusal or mark");
+        assert!(self.expedited.iter().all(|&n| n >= 1000), "hardly any signal or answer");
+        for (call, counts) in ALL.iter().zip(&self.refusals) {
+            assert!(counts[0] >= 1000, "{call:?} was hardly ever accepted");
+            for &n in allowed(*call) {
+                assert!(counts[n as usize] >= 50, "{call:?} was hardly ever refused with {n}");
+            }
+        }
     }
 }
 
@@ -995,10 +1013,7 @@ fn forged_calls() {
     let mut random = Random(SEED);
     let mut block = Block::new();
     let mut bench = Bench::new();
-    let mut seen = [[0usize; 30]; ALL.len()];
-    // Reads inside a record, at its end, and at the end of a part that another follows; error marks read; error headers and refusals of a
-    // confirmation taken.
-    let (mut reads, mut marks, mut taken) = ([0usize; 3], 0, [0usize; 2]);
+    let mut reached = Reached::default();
     for i in 0..CALLS {
         // Takes have the most questions.
         let call = if random.chance(1, 4) { Call::Take } else { random.pick(&ALL) };
@@ -1007,27 +1022,10 @@ fn forged_calls() {
         let opening = random_opening(&mut random);
         let confirm = random.pick(&[0, 0, 1, 1, 2, 255]);
         let answer = bench.tried(i, call, &mut block, &opening, confirm);
-        seen[call as usize][answer.refusal as usize] += 1;
-        reads[(answer.complete + answer.more) as usize] += usize::from(answer.copied > 0);
-        marks += usize::from(answer.mark == Mark::Error as u32);
-        if (call, answer.refusal) == (Call::Take, 0) {
-            let byte0 = block.cells[block.gift.start + 2];
-            taken = [taken[0] + usize::from(byte0 == 0x0B), taken[1] + usize::from(byte0 == 0x87)];
-        }
+        reached.note(call, &block, &answer);
     }
-    println!("forged: seed {SEED:#x}, {CALLS} calls, each against pages that cannot be touched too");
-    println!("forged: reads inside a record, at its end, and at the end of a part that another follows: {reads:?}");
-    println!("forged: error headers and refusals of a confirmation taken: {taken:?}; error marks read: {marks}");
-    assert!(reads.iter().all(|&n| n >= 1000), "hardly any read of one kind");
-    assert!(taken.iter().all(|&n| n >= 100) && marks >= 100, "hardly any error header, refusal or mark");
-    for (call, counts) in ALL.iter().zip(&seen) {
-        let told: Vec<String> = (0..30).filter(|&n| counts[n] > 0).map(|n| format!("{n}: {}", counts[n])).collect();
-        println!("forged: {call:?}: {}", told.join(", "));
-        assert!(counts[0] >= 1000, "{call:?} was hardly ever accepted");
-        for &n in allowed(*call) {
-            assert!(counts[n as usize] >= 50, "{call:?} was hardly ever refused with {n}");
-        }
-    }
+    reached.print();
+    reached.assert_reached();
 }
 
 // The four ways in which what is prepared is carried out, and the call that does the same at once.
@@ -1052,7 +1050,7 @@ fn prepared_and_carried_out() {
     let mut bench = Bench::new();
     let [mut block, mut later, mut at_once] = [(); 3].map(|()| Block::new());
     // Calls made; refusals of preparing; refusals of carrying out, for each way.
-    let (mut calls, mut unprepared, mut seen) = (0, [0usize; 30], [[0usize; 30]; WAYS.len()]);
+    let (mut calls, mut unprepared, mut seen) = (0, [0usize; REFUSALS], [[0usize; REFUSALS]; WAYS.len()]);
     for i in 0..IMAGES {
         let way = random.below(WAYS.len());
         let Way { defer, carry_out, at_once: other, confirm } = WAYS[way];
@@ -1107,7 +1105,7 @@ fn refused_and_explained() {
     let mut bench = Bench::new();
     let [mut block, mut later, mut other] = [(); 3].map(|()| Block::new());
     // Calls made; refusals of refusing; of the calls that need Send; of flush.
-    let (mut calls, mut undenied, mut seen, mut flushed) = (0, [0usize; 30], [0usize; 30], [0usize; 30]);
+    let (mut calls, mut undenied, mut seen, mut flushed) = (0, [0usize; REFUSALS], [0usize; REFUSALS], [0usize; REFUSALS]);
     for i in 0..OWING_IMAGES {
         let state = if random.chance(15, 16) { State::Owes } else { random.pick(&STATES) };
         let end = random_end_in(&mut random, state);
@@ -1140,7 +1138,7 @@ fn refused_and_explained() {
 }
 
 // Of these counts by refusal number only some may be above 0, and those well above.
-fn only_these(what: &str, counts: &[usize; 30], numbers: &[usize]) {
+fn only_these(what: &str, counts: &[usize; REFUSALS], numbers: &[usize]) {
     let told: Vec<String> = numbers.iter().map(|&n| format!("{n}: {}", counts[n])).collect();
     println!("refused: {what}: {}", told.join(", "));
     assert_eq!(numbers.iter().map(|&n| counts[n]).sum::<usize>(), counts.iter().sum(), "{what}: another refusal");
@@ -1153,18 +1151,22 @@ const MAX: u16 = 16;
 const WINDOW: u8 = 3;
 const INBOX: u16 = WINDOW as u16 * MAX;
 
+fn accepting_state(call: Call) -> State {
+    match call {
+        Call::Allocate => State::Reset,
+        Call::Confirmed | Call::SendError => State::Owes,
+        Call::Take | Call::Read | Call::Pace | Call::RequestToSend | Call::TakeExpedited => State::Receive,
+        Call::Withdraw => State::DeferTurn,
+        _ => State::Send,
+    }
+}
+
 // An end on which each call is accepted, lent the right buffers, with these bytes given or taken.
 fn accepting(call: Call) -> (plain::End, Vec<u8>) {
     let window = Window { size: WINDOW, place: 0, pending: false };
     let end = plain::End {
         bidder: false,
-        state: match call {
-            Call::Allocate => State::Reset,
-            Call::Confirmed | Call::SendError => State::Owes,
-            Call::Take | Call::Read | Call::Pace => State::Receive,
-            Call::Withdraw => State::DeferTurn,
-            _ => State::Send,
-        },
+        state: accepting_state(call),
         follow: Follow::Stay,
         mark: Mark::None,
         due: false,
@@ -1187,8 +1189,10 @@ fn accepting(call: Call) -> (plain::End, Vec<u8>) {
         read: WHOLE,
         bid_number: 0,
         owed_number: 1,
+        expedited: Expedited::default(),
     };
     let gift = match call {
+        Call::TakeExpedited => signal(1),
         Call::Take => vec![0x00, 0x02, 0x02, 0x91, 0x00, 0x00, 0x04, 0x41, 0x42],
         _ => vec![0x00, 0x04, 0x41, 0x42],
     };
@@ -1389,6 +1393,107 @@ fn refusals_of_a_confirmation_taken() {
 }
 
 #[test]
+fn signal_unanswered_at_its_bounds() {
+    let mut bench = Bench::new();
+    for call in later_calls() {
+        for unanswered in 0..=255 {
+            let (end, gift) = accepting(call);
+            let mut block = laid(&end, &gift, &GOOD_INBOX, [0; 4]);
+            block.cells[block.image.start + at::UNANSWERED] = unanswered;
+            let answer = bench.tried(10, call, &mut block, &AN_OPENING, 0);
+            // Question 5 asks nothing of the flag; only the next signal waits for the answer.
+            let expected = match unanswered {
+                0 => 0,
+                1 if call == Call::RequestToSend => 30,
+                1 => 0,
+                _ => 5,
+            };
+            assert_eq!(answer.refusal, expected, "{call:?}, signal unanswered {unanswered}");
+        }
+    }
+}
+
+// Request to send in every state, under every mark: no state changes, and the number after 65,535 is 0.
+#[test]
+fn the_turn_requested() {
+    let mut bench = Bench::new();
+    for (state, mark) in STATES.into_iter().flat_map(|state| MARKS.map(|mark| (state, mark))) {
+        for (unanswered, sent) in [0u16, 1, 65534, 65535].into_iter().flat_map(|sent| [(false, sent), (true, sent)]) {
+            let (mut end, gift) = accepting(Call::RequestToSend);
+            (end.state, end.mark) = (state, mark);
+            end.expedited = Expedited { unanswered, sent, taken: 7 };
+            let mut block = laid(&end, &gift, &[], [0; 4]);
+            let answer = bench.tried(11, Call::RequestToSend, &mut block, &AN_OPENING, 0);
+            let questions = [
+                (5, mark == Mark::None || state == State::Receive),
+                (7, state == State::Receive || state == State::Owes),
+                (30, !unanswered),
+            ];
+            let expected = questions.iter().find(|(_, good)| !good).map_or(0, |(number, _)| *number);
+            assert_eq!(answer.refusal, expected, "request to send in {state:?} under {mark:?}, unanswered {unanswered}");
+            if expected == 0 {
+                let number = sent.wrapping_add(1);
+                end.expedited = Expedited { unanswered: true, sent: number, taken: 7 };
+                let unit = &block.cells[block.unit.start..block.unit.start + answer.unit as usize];
+                assert_eq!(unit, signal(number), "the signal made");
+            }
+            assert_eq!(decoded(&block.cells[block.image.clone()]), Some(end), "request to send in {state:?}");
+        }
+    }
+}
+
+// The refusal of a unit on the expedited line, told from its bytes and the three fields, and what an accepted one leaves of these.
+fn expedited_expected(before: Expedited, unit: &[u8]) -> (u32, Expedited) {
+    let header = &unit[2..5];
+    let number = u16::from_be_bytes([unit[0], unit[1]]);
+    let is_signal = header == [0x4B, 0x80, 0x00];
+    let right = if is_signal { signal(number) } else { signal_answer(number) };
+    let questions = [
+        (21, is_signal || header == [0xCB, 0x80, 0x00]),
+        (22, unit == right),
+        (23, !is_signal || number == before.taken.wrapping_add(1)),
+        (28, is_signal || (before.unanswered && number == before.sent)),
+    ];
+    let after = match is_signal {
+        true => Expedited { taken: number, ..before },
+        false => Expedited { unanswered: false, ..before },
+    };
+    questions.iter().find(|(_, good)| !good).map_or((0, after), |(number, _)| (*number, before))
+}
+
+// Signals and answers to them in every state, under every mark that may stand there: the first question that each fails.
+#[test]
+fn expedited_units_taken() {
+    let mut bench = Bench::new();
+    let headers = [[0x4B, 0x80, 0x00], [0xCB, 0x80, 0x00], [0x4B, 0x81, 0x00], [0x4B, 0x80, 0x80], [0xCB, 0x90, 0x00]];
+    let rus = near_rus(&[0xC9, 0x00, 0x01, 0x00, 0x00]).into_iter().chain(near_rus(&[0xC9]));
+    let rus: Vec<Vec<u8>> = rus.chain([vec![0xC9, 0x00, 0x01, 0x00, 0x01], vec![0x04]]).collect();
+    let marked = MARKS.into_iter().map(|mark| (State::Receive, mark));
+    for (state, mark) in STATES.into_iter().map(|state| (state, Mark::None)).chain(marked) {
+        for (unanswered, last) in [0u16, 1, 65535].into_iter().flat_map(|last| [(false, last), (true, last)]) {
+            for (number, header) in [last, last.wrapping_add(1), 5].into_iter().flat_map(|n| headers.map(|header| (n, header))) {
+                for ru in &rus {
+                    let (mut end, _) = accepting(Call::TakeExpedited);
+                    (end.state, end.mark) = (state, mark);
+                    end.expedited = Expedited { unanswered, sent: last, taken: last };
+                    let gift = [&number.to_be_bytes()[..], &header, ru].concat();
+                    let mut block = laid(&end, &gift, &[], [0; 4]);
+                    let answer = bench.tried(12, Call::TakeExpedited, &mut block, &AN_OPENING, 0);
+                    let (refusal, expedited) = expedited_expected(end.expedited, &gift);
+                    assert_eq!(answer.refusal, refusal, "{gift:02X?} in {state:?} under {mark:?}, unanswered {unanswered}");
+                    let signalled = refusal == 0 && header[0] == 0x4B;
+                    let made = &block.cells[block.unit.start..block.unit.start + answer.unit as usize];
+                    assert_eq!(made, if signalled { signal_answer(number) } else { Vec::new() }, "{gift:02X?}");
+                    assert_eq!(answer.signalled, u32::from(signalled), "{gift:02X?}");
+                    end.expedited = expedited;
+                    assert_eq!(decoded(&block.cells[block.image.clone()]), Some(end), "{gift:02X?} in {state:?}");
+                }
+            }
+        }
+    }
+}
+
+#[test]
 fn record_lengths_at_their_bounds() {
     let mut bench = Bench::new();
     let others = [0x0003, 0x00FF, 0x0100, 0x7FFE, 0x8003, 0x80FF, 0x8100, 0xFFFE];
@@ -1496,7 +1601,7 @@ fn lent_lengths_past_65535() {
         }
     }
     // Bytes given, and a unit taken, that are longer by 2^16 than good ones.
-    for (call, refusal) in [(Call::SendData, 6), (Call::Take, 22)] {
+    for (call, refusal) in [(Call::SendData, 6), (Call::Take, 22), (Call::TakeExpedited, 22)] {
         let (end, mut gift) = accepting(call);
         gift.resize(gift.len() + 65_536, 0);
         let mut block = laid(&end, &gift, &GOOD_INBOX, [0; 4]);

@@ -15,6 +15,15 @@
 //! until it takes its next request, which is the error header; that comes nowhere else, leaves its mark and no byte, and the mark read
 //! leaves Receive.
 //!
+//! Request to send and the expedited lines: a signal is made in Receive and Owes where none is unanswered, and refused with 7 elsewhere
+//! and with 30 else. It and its answer change no byte of an image but those of the expedited lines, which no other call changes. After
+//! every call: signals made at one end are those told at the other and those on the line between; a signal is unanswered exactly while
+//! it or its answer is on a line; and the numbers kept are how many were made and told. The expedited lines are no part of what is
+//! said of bytes, credit and requests.
+//!
+//! Beside each end stands the plain end, with buffers of its own: it is called as the end is, and answer, record and every lent cell
+//! are compared after every call.
+//!
 //! At times: the bytes in the inbox, on the line and in the send buffer are compared with those accepted, one by one. That is after
 //! every call while fewer than 256 bytes are under way; with more, once in as many calls as there are 256s of them; and at the end
 //! of every run.
@@ -23,13 +32,14 @@
 //! and records, lent cells, lines and answers are compared. An order is counted as compared only if it differs from the first.
 mod common;
 
+use common::images::encode;
 use common::{at, credit, word, Random};
-use lu62::{Answer, Deferred, End, Mark, ReadAnswer, Reason, Refusal, Role, Session, IMAGE};
+use lu62::{Answer, Deferred, End, ExpeditedAnswer, Mark, ReadAnswer, Reason, Refusal, Role, Session, IMAGE};
 use plain::{walk, Place, WHOLE};
 use std::collections::VecDeque;
 
 const SEED: u64 = 0x6C75_3632_0001;
-const CALLS: usize = 1_300_000;
+const CALLS: usize = 1_500_000;
 
 #[derive(Clone, Debug, PartialEq, Eq)]
 enum Call {
@@ -47,6 +57,8 @@ enum Call {
     Defer(Deferred),
     Withdraw,
     SendError,
+    RequestToSend,
+    TakeExpedited,
 }
 
 const SEND: u8 = 1;
@@ -69,6 +81,7 @@ enum Outcome {
     Called(Result<Answer, Refusal>),
     // A read's outcome with every cell of the caller's buffer after it.
     Read(Result<ReadAnswer, Refusal>, Vec<u8>),
+    Expedited(Result<ExpeditedAnswer, Refusal>),
 }
 
 #[derive(Clone, Copy, Debug)]
@@ -86,10 +99,15 @@ struct Side {
     send: Vec<u8>,
     unit: Vec<u8>,
     inbox: Vec<u8>,
+    plain: Plain,
     // Units that the partner made and this end has not taken, oldest first.
     line: VecDeque<Vec<u8>>,
+    expedited: VecDeque<Vec<u8>>,
     // The unit last taken here.
     taken: Vec<u8>,
+    // Signals made here, and signals of the partner told here.
+    signals: usize,
+    told: usize,
     // Bytes accepted here and not yet read at the partner.
     unread: VecDeque<u8>,
     // Data bytes on the line towards this end.
@@ -102,6 +120,58 @@ struct Side {
     requests: usize,
     pacing_taken: usize,
     records_read: usize,
+}
+
+// The plain end with buffers of its own, which start with the same cells.
+struct Plain {
+    end: plain::End,
+    send: Vec<u8>,
+    unit: Vec<u8>,
+    inbox: Vec<u8>,
+}
+
+impl Plain {
+    // The same call. `taken` is the unit that a take gets, and `buffer` the cells of a read's buffer.
+    fn call(&mut self, call: &Call, taken: &[u8], buffer: &mut [u8]) -> plain::Answer {
+        let Plain { end, send, unit, inbox } = self;
+        match call {
+            Call::Allocate => end.allocate(unit),
+            Call::SendData(bytes) => end.send_data(bytes, send, unit),
+            Call::Flush => end.flush(send, unit),
+            Call::Confirm => end.confirm(send, unit),
+            Call::Turn(confirm) => end.prepare_to_receive(*confirm, send, unit),
+            Call::Deallocate(confirm) => end.deallocate(*confirm, send, unit),
+            Call::Confirmed => end.confirmed(unit),
+            Call::Pace => end.send_pacing_response(unit),
+            Call::Take => end.receive_unit(taken, inbox, unit),
+            Call::Read(_) => end.receive(inbox, buffer),
+            Call::Defer(Deferred::Turn) => end.defer_turn(),
+            Call::Defer(Deferred::End) => end.defer_end(),
+            Call::Withdraw => end.withdraw(),
+            Call::SendError => end.send_error(unit),
+            Call::RequestToSend => end.request_to_send(unit),
+            Call::TakeExpedited => end.receive_expedited(taken, unit),
+        }
+    }
+}
+
+// An outcome as the plain end answers.
+fn as_plain(outcome: &Outcome) -> plain::Answer {
+    let none = plain::Answer::default();
+    let refused =
+        |refusal: &Refusal| plain::Answer { refusal: refusal.reason.number(), sense: refusal.sense, rule: refusal.rule, ..none };
+    match outcome {
+        Outcome::Called(Ok(answer)) => plain::Answer { unit: answer.unit as u32, ..none },
+        Outcome::Read(Ok(answer), _) => plain::Answer {
+            copied: answer.copied as u32,
+            complete: answer.complete,
+            more: answer.more,
+            mark: answer.mark.map_or(0, |mark| mark as u32 + 1),
+            ..none
+        },
+        Outcome::Expedited(Ok(answer)) => plain::Answer { unit: answer.unit as u32, signalled: answer.signalled, ..none },
+        Outcome::Called(Err(refusal)) | Outcome::Read(Err(refusal), _) | Outcome::Expedited(Err(refusal)) => refused(refusal),
+    }
 }
 
 // A table: the bytes of its parts, LL included.
@@ -162,15 +232,29 @@ struct Errors {
     meanwhile: [usize; 4],
 }
 
+// What was seen of signals.
+#[derive(Default)]
+struct Signals {
+    // Made in Receive, in Receive under a mark, and in Owes.
+    made: [usize; 3],
+    // Told, by the state of the end that is told.
+    told: [usize; 7],
+    answered: usize,
+    // Expedited units taken under a mark, and before a normal unit that was made earlier.
+    under_mark: usize,
+    overtaking: usize,
+}
+
 #[derive(Default)]
 struct Seen {
     calls: usize,
-    accepted: [usize; 14],
-    refused: [usize; 30],
+    accepted: [usize; 16],
+    refused: [usize; 31],
     // In Defer-turn and Defer-end: carried out by flush, by confirm; withdrawn; refused with 10, with 7 or 6; pacing responses taken;
     // bids refused.
     deferred: [[usize; 7]; 2],
     errors: Errors,
+    signals: Signals,
     grants: usize,
     bid_refusals: usize,
     marks: [usize; 7],
@@ -234,9 +318,11 @@ impl Seen {
             Call::Defer(Deferred::End) => 11,
             Call::Withdraw => 12,
             Call::SendError => 13,
+            Call::RequestToSend => 14,
+            Call::TakeExpedited => 15,
         };
         match outcome {
-            Outcome::Called(Err(refusal)) | Outcome::Read(Err(refusal), _) => {
+            Outcome::Called(Err(refusal)) | Outcome::Read(Err(refusal), _) | Outcome::Expedited(Err(refusal)) => {
                 assert!(!refusal.reason.is_breach(), "a take between joined ends was refused: {refusal}");
                 assert_ne!(refusal.reason, Reason::BadBuffer, "the buffers are those of opening");
                 assert_ne!(refusal.reason, Reason::BadRecord, "calls left a record out of range");
@@ -277,13 +363,20 @@ impl Seen {
         );
         let what = "flush refused with 10, calls refused with 7 or 6, pacing responses taken, bid refusals taken";
         println!("joined: where an error is due: {what}: {meanwhile:?}");
+        let Signals { made, told, answered, under_mark, overtaking } = &self.signals;
+        println!(
+            "joined: signals made {}, in Receive, in Receive under a mark and in Owes {made:?}; told {}, by state {told:?}; \
+             answers taken {answered}; expedited units taken under a mark {under_mark}, before a unit made earlier {overtaking}",
+            made.iter().sum::<usize>(),
+            told.iter().sum::<usize>()
+        );
     }
 
     // Runs that never reach a rule would show nothing about it.
     fn assert_reached(&self) {
         assert!(self.calls >= 1_000_000 && self.compared >= 100);
         assert!(self.accepted.iter().all(|&n| n >= 1000));
-        assert!([6, 7, 8, 9, 10, 11, 12, 13].iter().all(|&n: &usize| self.refused[n] >= 1000));
+        assert!([6, 7, 8, 9, 10, 11, 12, 13, 30].iter().all(|&n: &usize| self.refused[n] >= 1000));
         assert!(self.grants >= 1000 && self.bid_refusals >= 1000);
         assert!(self.marks[1..].iter().all(|&n| n >= 1000));
         assert!(self.records >= 10_000 && self.units_a_record >= 20);
@@ -294,6 +387,8 @@ impl Seen {
         assert!(self.errors.denials.iter().all(|&n| n >= 500) && self.errors.denials_taken >= 1000);
         assert!(self.errors.headers_made >= 1000 && self.errors.headers_taken >= 1000);
         assert!(self.errors.meanwhile.iter().all(|&n| n >= 50));
+        assert!(self.signals.made.iter().all(|&n| n >= 500) && self.signals.told.iter().all(|&n| n >= 20));
+        assert!(self.signals.answered >= 1000 && self.signals.under_mark >= 500 && self.signals.overtaking >= 1000);
     }
 }
 
@@ -354,6 +449,7 @@ impl Side {
                     counts[6] += usize::from(answer.unit > 0);
                 }
             }
+            (Call::TakeExpedited, _) => assert_eq!(after, state, "{call:?} leaves Defer as it is"),
             (_, Outcome::Called(Err(refusal))) => {
                 assert_eq!((refusal.reason, after), (self.reason_in_defer(call), state), "{call:?} in Defer");
                 counts[if refusal.reason == Reason::NoCredit { 3 } else { 4 }] += 1;
@@ -381,6 +477,7 @@ impl Side {
                     counts[3] += usize::from(self.taken[2] == 0xCF);
                 }
             }
+            (Call::TakeExpedited, _) => assert_eq!(left, (SEND, 1), "{call:?} leaves the error due"),
             (_, Outcome::Called(Err(refusal))) => {
                 let expected = match call {
                     Call::Confirm => Reason::WrongState,
@@ -435,6 +532,47 @@ impl Side {
         }
     }
 
+    // The turn requested here: the signal made, and what the record then says.
+    fn note_requested(&mut self, before: &[u8; IMAGE], result: &Result<Answer, Refusal>, seen: &mut Seen) {
+        let (state, marked) = (before[at::STATE], before[at::MARK] != 0);
+        let expected = match (state, before[at::UNANSWERED]) {
+            (RECEIVE | OWES, 0) => None,
+            (RECEIVE | OWES, _) => Some(Reason::SignalUnanswered),
+            _ => Some(Reason::WrongState),
+        };
+        assert_eq!(result.err().map(|refusal| refusal.reason), expected, "request to send in state {state}");
+        let Ok(answer) = result else {
+            return;
+        };
+        self.signals += 1;
+        let number = (self.signals as u16).to_be_bytes();
+        assert_eq!(self.unit[..answer.unit], [&number[..], &SIGNAL, &[0xC9, 0x00, 0x01, 0x00, 0x00]].concat());
+        seen.signals.made[if state == OWES { 2 } else { usize::from(marked) }] += 1;
+    }
+
+    // An expedited unit taken here: a signal, which is told and answered, or the answer to this end's own.
+    fn note_expedited(&mut self, before: &[u8; IMAGE], result: &Result<ExpeditedAnswer, Refusal>, seen: &mut Seen) {
+        let answer = result.expect("an expedited unit of the partner is taken in every state");
+        assert_eq!(answer.signalled, self.taken[2..5] == SIGNAL, "a signal taken is told, and nothing else");
+        let made = &self.unit[..answer.unit];
+        if answer.signalled {
+            self.told += 1;
+            assert_eq!(made, [&self.taken[..2], &SIGNAL_ANSWER, &[0xC9]].concat(), "a signal is answered under its number");
+            seen.signals.told[usize::from(before[at::STATE])] += 1;
+        } else {
+            assert_eq!((made, before[at::UNANSWERED]), (&[][..], 1), "the answer to a signal that is unanswered");
+            seen.signals.answered += 1;
+        }
+        seen.signals.under_mark += usize::from(before[at::MARK] != 0);
+        seen.signals.overtaking += usize::from(!self.line.is_empty());
+    }
+
+    // Signals, and answers to them, on the expedited line towards this end.
+    fn signals_waiting(&self) -> [usize; 2] {
+        let count = |header: [u8; 3]| self.expedited.iter().filter(|unit| unit[2..5] == header).count();
+        [count(SIGNAL), count(SIGNAL_ANSWER)]
+    }
+
     // A turn or an end carried out: the unit that was made, and the state after it.
     fn check_carried_out(&self, turn: bool, confirm: bool, answer: &Answer) {
         assert!(answer.unit >= 5, "flush and confirm in Defer make a unit");
@@ -459,6 +597,49 @@ impl Side {
     }
 }
 
+impl Side {
+    // The call, with the unit that a take gets.
+    fn call(&mut self, call: &Call, waiting: &[u8]) -> Outcome {
+        let Side { end, send, unit, inbox, .. } = self;
+        Outcome::Called(match call {
+            Call::Allocate => end.allocate(unit),
+            Call::SendData(bytes) => end.send_data(bytes, send, unit),
+            Call::Flush => end.flush(send, unit),
+            Call::Confirm => end.confirm(send, unit),
+            Call::Turn(confirm) => end.prepare_to_receive(*confirm, send, unit),
+            Call::Deallocate(confirm) => end.deallocate(*confirm, send, unit),
+            Call::Confirmed => end.confirmed(unit),
+            Call::Pace => end.send_pacing_response(unit),
+            Call::Take => end.receive_unit(waiting, inbox, unit),
+            Call::Read(cells) => {
+                let mut buffer = cells.clone();
+                let result = end.receive(inbox, &mut buffer);
+                return Outcome::Read(result, buffer);
+            }
+            Call::Defer(what) => end.defer(*what).map(|()| Answer { unit: 0 }),
+            Call::Withdraw => end.withdraw().map(|()| Answer { unit: 0 }),
+            Call::SendError => end.send_error(unit),
+            Call::RequestToSend => end.request_to_send(unit),
+            Call::TakeExpedited => return Outcome::Expedited(end.receive_expedited(waiting, unit)),
+        })
+    }
+
+    // Makes the call at the plain end, and compares all that it leaves.
+    fn compare_plain(&mut self, call: &Call, waiting: &[u8], outcome: &Outcome) {
+        let mut buffer = if let Call::Read(cells) = call { cells.clone() } else { Vec::new() };
+        let answer = self.plain.call(call, waiting, &mut buffer);
+        assert_eq!(as_plain(outcome), answer, "{call:?}: the plain end answers otherwise");
+        let mut image = [0; IMAGE];
+        encode(&self.plain.end, &mut image);
+        assert_eq!(*self.end.image(), image, "{call:?}: the plain end leaves another record");
+        let Plain { send, unit, inbox, .. } = &self.plain;
+        assert!(*send == self.send && *unit == self.unit && *inbox == self.inbox, "{call:?}: the plain end leaves other cells");
+        if let Outcome::Read(_, cells) = outcome {
+            assert!(*cells == buffer, "the plain end leaves other cells of a read's buffer");
+        }
+    }
+}
+
 struct Pair {
     sides: [Side; 2],
 }
@@ -466,6 +647,10 @@ struct Pair {
 // The headers of a pacing response and of a refused confirmation.
 const PACING_RESPONSE: [u8; 3] = [0x83, 0x01, 0x00];
 const NO_CONFIRMATION: [u8; 3] = [0x87, 0x30, 0x00];
+
+// On the expedited lines: those of a signal and of its answer.
+const SIGNAL: [u8; 3] = [0x4B, 0x80, 0x00];
+const SIGNAL_ANSWER: [u8; 3] = [0xCB, 0x80, 0x00];
 
 // The error header, with or without the pacing bit.
 fn is_error_header(unit: &[u8]) -> bool {
@@ -478,6 +663,19 @@ fn data_ru(unit: &[u8]) -> &[u8] {
     } else {
         &[]
     }
+}
+
+// The plain end opened as the end is, with these cells.
+fn plain_beside(sizes: &Sizes, who: usize, send: &[u8], unit: &[u8], inbox: &[u8]) -> Plain {
+    let session = plain::Session {
+        role: who as u8,
+        out_window: sizes.window[who],
+        in_window: sizes.window[1 - who],
+        out_max: sizes.max[who],
+        in_max: sizes.max[1 - who],
+    };
+    let end = plain::open(session, send.len(), unit.len(), inbox.len()).expect("these sizes are in range");
+    Plain { end, send: send.to_vec(), unit: unit.to_vec(), inbox: inbox.to_vec() }
 }
 
 fn session(sizes: &Sizes, who: usize) -> Session {
@@ -503,12 +701,16 @@ impl Pair {
             random.fill(&mut inbox);
             let end = End::open(session(sizes, who), &send, &unit, &inbox).expect("these sizes are in range");
             Side {
+                plain: plain_beside(sizes, who, &send, &unit, &inbox),
                 end,
                 send,
                 unit,
                 inbox,
                 line: VecDeque::new(),
+                expedited: VecDeque::new(),
                 taken: Vec::new(),
+                signals: 0,
+                told: 0,
                 unread: VecDeque::new(),
                 on_line: 0,
                 given: WHOLE,
@@ -523,60 +725,57 @@ impl Pair {
         Pair { sides: [side(0), side(1)] }
     }
 
-    // One call at one end. A take needs a unit on the line.
+    // One call at one end, and at the plain end beside it. A take needs a unit on the line.
     fn call(&mut self, who: usize, call: &Call) -> Outcome {
         let side = &mut self.sides[who];
-        let result = match call {
-            Call::Allocate => side.end.allocate(&mut side.unit),
-            Call::SendData(bytes) => side.end.send_data(bytes, &mut side.send, &mut side.unit),
-            Call::Flush => side.end.flush(&side.send, &mut side.unit),
-            Call::Confirm => side.end.confirm(&side.send, &mut side.unit),
-            Call::Turn(confirm) => side.end.prepare_to_receive(*confirm, &side.send, &mut side.unit),
-            Call::Deallocate(confirm) => side.end.deallocate(*confirm, &side.send, &mut side.unit),
-            Call::Confirmed => side.end.confirmed(&mut side.unit),
-            Call::Pace => side.end.send_pacing_response(&mut side.unit),
-            Call::Take => {
-                let unit = side.line.front().expect("a take is made only where a unit waits");
-                side.end.receive_unit(unit, &mut side.inbox, &mut side.unit)
-            }
-            Call::Read(cells) => {
-                let mut buffer = cells.clone();
-                let result = side.end.receive(&mut side.inbox, &mut buffer);
-                return Outcome::Read(result, buffer);
-            }
-            Call::Defer(what) => side.end.defer(*what).map(|()| Answer { unit: 0 }),
-            Call::Withdraw => side.end.withdraw().map(|()| Answer { unit: 0 }),
-            Call::SendError => side.end.send_error(&mut side.unit),
-        };
-        if let Ok(answer) = result {
-            self.carry(who, *call == Call::Take, answer);
+        let line = if *call == Call::TakeExpedited { &side.expedited } else { &side.line };
+        let waiting = line.front().cloned().unwrap_or_default();
+        let outcome = side.call(call, &waiting);
+        side.compare_plain(call, &waiting, &outcome);
+        match outcome {
+            Outcome::Called(Ok(answer)) => self.carry(who, call, answer.unit),
+            Outcome::Expedited(Ok(answer)) => self.carry(who, call, answer.unit),
+            _ => {}
         }
-        Outcome::Called(result)
+        outcome
     }
 
-    // After an accepted call: a unit taken leaves the line, and a unit made joins the other.
-    fn carry(&mut self, who: usize, taken: bool, answer: Answer) {
+    // After an accepted call: a unit taken leaves its line, and a unit made joins the other.
+    fn carry(&mut self, who: usize, call: &Call, made: usize) {
         let side = &mut self.sides[who];
-        if taken {
-            side.taken = side.line.pop_front().unwrap_or_default();
-            side.on_line -= data_ru(&side.taken).len();
-            side.pacing_taken += usize::from(side.taken[2..5] == PACING_RESPONSE);
-        }
-        if answer.unit > 0 {
-            let unit = side.unit[..answer.unit].to_vec();
-            if unit[2] & 0x80 == 0 {
-                side.requests += 1;
+        match call {
+            Call::Take => {
+                side.taken = side.line.pop_front().unwrap_or_default();
+                side.on_line -= data_ru(&side.taken).len();
+                side.pacing_taken += usize::from(side.taken[2..5] == PACING_RESPONSE);
             }
-            let other = &mut self.sides[1 - who];
-            other.on_line += data_ru(&unit).len();
-            other.line.push_back(unit);
+            Call::TakeExpedited => side.taken = side.expedited.pop_front().unwrap_or_default(),
+            _ => {}
         }
+        if made == 0 {
+            return;
+        }
+        let unit = side.unit[..made].to_vec();
+        if matches!(call, Call::RequestToSend | Call::TakeExpedited) {
+            self.sides[1 - who].expedited.push_back(unit);
+            return;
+        }
+        if unit[2] & 0x80 == 0 {
+            side.requests += 1;
+        }
+        let other = &mut self.sides[1 - who];
+        other.on_line += data_ru(&unit).len();
+        other.line.push_back(unit);
     }
 
     // What the outcome adds to the histories, with the checks that belong to this one call. `before` is the image before the call.
     fn note(&mut self, who: usize, call: &Call, before: &[u8; IMAGE], outcome: &Outcome, seen: &mut Seen) {
         let state = before[at::STATE];
         seen.count(call, outcome);
+        let expedited = matches!(call, Call::RequestToSend | Call::TakeExpedited);
+        let after = self.sides[who].end.image();
+        let kept = if expedited { 0..at::UNANSWERED } else { at::UNANSWERED..IMAGE };
+        assert_eq!(after[kept.clone()], before[kept], "{call:?} changes bytes of the other lines");
         if is_defer(state) {
             self.sides[who].note_deferred(call, state, outcome, seen);
         }
@@ -605,6 +804,8 @@ impl Pair {
             (Call::Take, Outcome::Called(Ok(answer))) => self.sides[who].note_taken(before, answer, seen),
             (Call::Withdraw, Outcome::Called(Ok(_))) => assert!(is_defer(state), "nothing was prepared"),
             (Call::SendError, Outcome::Called(result)) => self.sides[who].note_denied(before, result, seen),
+            (Call::RequestToSend, Outcome::Called(result)) => self.sides[who].note_requested(before, result, seen),
+            (Call::TakeExpedited, Outcome::Expedited(result)) => self.sides[who].note_expedited(before, result, seen),
             _ => {}
         }
     }
@@ -647,6 +848,7 @@ impl Pair {
             let (giver, taker) = (&self.sides[who], &self.sides[1 - who]);
             let waits_for_cause = images[who][at::STATE] == RECEIVE && images[who][at::MARK] == 0;
             assert!(!giver.unexplained || waits_for_cause, "Receive and no mark, until the error header is taken");
+            check_signals(giver, taker);
             let window = usize::from(sizes.window[who]);
             assert_eq!(
                 giver.requests + credit(images[who], at::OUT_WINDOW),
@@ -667,13 +869,24 @@ impl Pair {
     }
 }
 
+// What must hold after every call of the signals made at one end.
+fn check_signals(giver: &Side, taker: &Side) {
+    let (signals, answers) = (taker.signals_waiting()[0], giver.signals_waiting()[1]);
+    assert_eq!(giver.signals, taker.told + signals, "each signal is told once, when it is taken");
+    let image = giver.end.image();
+    assert_eq!(usize::from(image[at::UNANSWERED]), signals + answers, "a signal is unanswered until its answer is taken");
+    assert_eq!(word(image, at::EXPEDITED_SENT), giver.signals % 65_536, "the last expedited number sent");
+    assert_eq!(word(taker.end.image(), at::EXPEDITED_TAKEN), taker.told % 65_536, "the last expedited number taken");
+}
+
 // How the callers of one run behave.
 struct Habits {
     // How often, of 16, a call is one that the state does not suggest.
     odd: usize,
     // How often, of 16, the end that called last calls again.
     stay: usize,
-    // How often, of 16, a suggested call is a take, or a read.
+    // How often, of 16, a suggested call is a take of an expedited unit, a take of another, or a read.
+    take_expedited: usize,
     take: usize,
     read: usize,
     // How often, of 16, an end in Send with a whole record closes in one of the ways.
@@ -682,6 +895,8 @@ struct Habits {
     parts: usize,
     // How often, of 16, a confirmation that is owed is refused.
     deny: usize,
+    // How often, of 16, an end in Receive or Owes requests the turn.
+    request: usize,
     longest_record: usize,
     longest_read: usize,
     largest_gift: usize,
@@ -698,11 +913,13 @@ fn habits(random: &mut Random, sizes: &Sizes) -> Habits {
     Habits {
         odd: random.range(0, 4),
         stay: random.range(0, 15),
+        take_expedited: random.pick(&[1, 1, 4, 12]),
         take: random.range(2, 14),
         read: random.range(2, 14),
         close: random.range(1, 12),
         parts: random.pick(&[0, 0, 2, 5, 12]),
         deny: random.pick(&[0, 4, 13]),
+        request: random.pick(&[0, 1, 4, 8]),
         longest_record,
         longest_read: if random.chance(1, 2) { random.range(1, 20) } else { random.range(1, 3000) },
         largest_gift: if random.chance(1, 3) { 9 } else { 1024 },
@@ -773,7 +990,7 @@ fn read(random: &mut Random, habits: &Habits) -> Call {
 }
 
 fn odd_call(random: &mut Random, side: &Side, max: usize, habits: &Habits) -> Call {
-    match random.below(16) {
+    match random.below(18) {
         0 => Call::Allocate,
         1 => Call::Flush,
         2 => Call::Confirm,
@@ -796,6 +1013,8 @@ fn odd_call(random: &mut Random, side: &Side, max: usize, habits: &Habits) -> Ca
         12 => Call::Defer(random.pick(&[Deferred::Turn, Deferred::End])),
         13 => Call::Withdraw,
         14 => Call::SendError,
+        15 => Call::RequestToSend,
+        16 => Call::TakeExpedited,
         _ => read(random, habits),
     }
 }
@@ -817,6 +1036,9 @@ fn choose(random: &mut Random, side: &Side, max: usize, habits: &Habits) -> Call
         return odd_call(random, side, max, habits);
     }
     let image = side.end.image();
+    if random.chance(habits.take_expedited, 16) && !side.expedited.is_empty() {
+        return Call::TakeExpedited;
+    }
     if random.chance(habits.take, 16) && !side.line.is_empty() && (image[at::MARK] == 0 || random.chance(1, 8)) {
         return Call::Take;
     }
@@ -842,6 +1064,7 @@ fn choose(random: &mut Random, side: &Side, max: usize, habits: &Habits) -> Call
         SEND => send_data(random, side, max, habits),
         DEFER_TURN | DEFER_END if random.chance(1, 8) => odd_call(random, side, max, habits),
         DEFER_TURN | DEFER_END => random.pick(&DEFER_CALLS).clone(),
+        RECEIVE | OWES if random.chance(habits.request, 16) => Call::RequestToSend,
         OWES if random.chance(habits.deny, 16) => Call::SendError,
         OWES => Call::Confirmed,
         _ => Call::Take,
@@ -876,7 +1099,7 @@ fn same_outcome(first: &Pair, second: &Pair, answers: &[Vec<Outcome>; 2], others
         let (one, two) = (&first.sides[who], &second.sides[who]);
         assert_eq!(one.end, two.end, "records differ after another order");
         assert!(one.send == two.send && one.unit == two.unit && one.inbox == two.inbox, "lent cells differ");
-        assert_eq!(one.line, two.line, "lines differ after another order");
+        assert!(one.line == two.line && one.expedited == two.expedited, "lines differ after another order");
         assert!(answers[who] == others[who], "answers differ after another order");
     }
 }
@@ -898,6 +1121,7 @@ fn replay(random: &mut Random, sizes: &Sizes, cells: u64, calls: &[Vec<Call>; 2]
         let ready = |w: usize| match calls[w].get(answers[w].len()) {
             None => false,
             Some(Call::Take) => !pair.sides[w].line.is_empty(),
+            Some(Call::TakeExpedited) => !pair.sides[w].expedited.is_empty(),
             Some(_) => true,
         };
         if !random.chance(stay, 16) {
@@ -968,7 +1192,8 @@ fn run(random: &mut Random, sizes: &Sizes, habits: &Habits, calls: usize, compar
         }
         let call = choose(random, &made.pair.sides[who], sizes.max[who] as usize, habits);
         // A take with nothing waiting is no call of the end.
-        if call == Call::Take && made.pair.sides[who].line.is_empty() {
+        let side = &made.pair.sides[who];
+        if (call == Call::Take && side.line.is_empty()) || (call == Call::TakeExpedited && side.expedited.is_empty()) {
             continue;
         }
         let before = *made.pair.sides[who].end.image();
@@ -999,11 +1224,13 @@ fn joined_ends() {
         let eager = Habits {
             odd: 1,
             stay: 8,
+            take_expedited: 4,
             take: 10,
             read: 9,
             close: 3,
             parts: 4,
             deny: 8,
+            request: 2,
             longest_record: 40,
             longest_read: 64,
             largest_gift: 1024,
@@ -1022,4 +1249,29 @@ fn joined_ends() {
     }
     seen.print(runs + 2);
     seen.assert_reached();
+}
+
+// Signals past number 65,535, with and without a conversation: the number after it is 0.
+#[test]
+fn signals_past_65535() {
+    let sizes = Sizes { window: [1, 1], max: [8, 8], send: [8, 8], unit: [13, 13], inbox: [8, 8] };
+    let mut pair = Pair::open(&sizes, SEED);
+    let mut seen = Seen::default();
+    let mut called = |pair: &mut Pair, who: usize, call: Call| {
+        let before = *pair.sides[who].end.image();
+        let outcome = pair.call(who, &call);
+        pair.note(who, &call, &before, &outcome, &mut seen);
+        pair.check(&sizes, false);
+    };
+    for call in [Call::Allocate, Call::Turn(false)] {
+        called(&mut pair, 0, call);
+    }
+    called(&mut pair, 1, Call::Take);
+    for _ in 0..65_540 {
+        called(&mut pair, 1, Call::RequestToSend);
+        called(&mut pair, 0, Call::TakeExpedited);
+        called(&mut pair, 1, Call::TakeExpedited);
+    }
+    let numbers = [word(pair.sides[1].end.image(), at::EXPEDITED_SENT), word(pair.sides[0].end.image(), at::EXPEDITED_TAKEN)];
+    assert_eq!((numbers, seen.signals.answered), ([4, 4], 65_540));
 }

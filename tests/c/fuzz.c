@@ -3,7 +3,8 @@
  * and stop with a message, or print the whole table; never a wrong figure, and never later than its time limit allows: MOST_MS has
  * room for a unit held back, for both programs' limits one after the other, and for a machine that does other work. (Units carry no
  * checksum; that a changed byte of data is found too, the ninth kind of fault, is the records' own. So it is with the tenth, the top
- * bit of an LL turned over, by which a table would end early or go on.)
+ * bit of an LL turned over, by which a table would end early or go on.) Four kinds are those of an expedited unit, which is the signal
+ * that interrupts a table, or its answer. One that is late comes when the table may be over, and the figures must be the same.
  *
  *   fuzz EXPECTED SEED RUNS     EXPECTED is the file with the whole table, and what the laboratory says; RUNS for each kind of fault
  *
@@ -45,14 +46,19 @@ enum kind {
     HELD_BACK,
     DATA_BYTE,
     TOP_BIT,
+    EXPEDITED_BYTE,
+    EXPEDITED_DROPPED,
+    EXPEDITED_DOUBLED,
+    EXPEDITED_LATE,
     KINDS,
     NO_FAULT = KINDS
 };
 
-static const char *const kind_names[] = {"a number byte changed", "a header byte changed", "a length byte changed",
-                                         "a unit dropped",        "a unit doubled",        "a unit cut",
-                                         "two units exchanged",   "a unit held back",      "a data byte changed",
-                                         "a top bit turned over", "no fault"};
+static const char *const kind_names[] = {"a number byte changed",      "a header byte changed",     "a length byte changed",
+                                         "a unit dropped",             "a unit doubled",            "a unit cut",
+                                         "two units exchanged",        "a unit held back",          "a data byte changed",
+                                         "a top bit turned over",      "an expedited byte changed", "an expedited unit dropped",
+                                         "an expedited unit doubled", "an expedited unit late",    "no fault"};
 
 struct line_fault {
     enum kind kind;
@@ -74,6 +80,7 @@ struct way {
     bool after_first;
     uint8_t first;
     bool turned; /* a top bit has been turned over */
+    int64_t expedited_until; /* no expedited unit is passed before */
 };
 
 /* The generator SplitMix64. */
@@ -85,9 +92,9 @@ static uint64_t next_random(uint64_t *state)
     return z ^ (z >> 31);
 }
 
-static void put(struct way *way, const uint8_t *unit, size_t length)
+static void put(struct way *way, enum flow flow, const uint8_t *unit, size_t length)
 {
-    if (!line_put(way->to, unit, length)) {
+    if (!line_put(way->to, flow, unit, length)) {
         fprintf(stderr, "fuzz: the line takes no more units\n");
         exit(EXIT_FAILURE);
     }
@@ -133,7 +140,8 @@ static bool shown_here(const struct way *way, const struct line_fault *fault, si
 static void pass_faulty(struct way *way, const struct line_fault *fault, const uint8_t *unit, size_t length, size_t record)
 {
     uint8_t copy[LINE_IN];
-    size_t frame = way->to->out_held;
+    struct line_out *out = &way->to->out[NORMAL];
+    size_t frame = out->held;
     memcpy(copy, unit, length);
     switch (fault->kind) {
     case NUMBER_BYTE: change(&copy[fault->choice >> 32 & 1], fault->choice); break;
@@ -144,7 +152,7 @@ static void pass_faulty(struct way *way, const struct line_fault *fault, const u
         way->turned = true;
         break;
     case DROPPED: return;
-    case DOUBLED: put(way, copy, length); break;
+    case DOUBLED: put(way, NORMAL, copy, length); break;
     case CUT: length = length > RU_AT && fault->choice % 4 != 0 ? RU_AT + (fault->choice >> 8) % (length - RU_AT)
                                                                 : (fault->choice >> 8) % length; break;
     case EXCHANGED:
@@ -153,9 +161,42 @@ static void pass_faulty(struct way *way, const struct line_fault *fault, const u
         return;
     default: break;
     }
-    put(way, copy, length);
+    put(way, NORMAL, copy, length);
     if (fault->kind == LENGTH_BYTE)
-        change(&way->to->out[frame + (fault->choice >> 32 & 1)], fault->choice);
+        change(&out->bytes[frame + (fault->choice >> 32 & 1)], fault->choice);
+}
+
+/* Passes an expedited unit on with the fault. A late one has waited long enough when it comes here. */
+static void pass_expedited_faulty(struct way *way, const struct line_fault *fault, const uint8_t *unit, size_t length)
+{
+    uint8_t copy[LINE_IN];
+    memcpy(copy, unit, length);
+    if (fault->kind == EXPEDITED_DROPPED)
+        return;
+    if (fault->kind == EXPEDITED_BYTE)
+        change(&copy[(fault->choice >> 32) % length], fault->choice);
+    if (fault->kind == EXPEDITED_DOUBLED)
+        put(way, EXPEDITED, copy, length);
+    put(way, EXPEDITED, copy, length);
+}
+
+/* Passes on the expedited units that have come, with the fault if it is one of theirs. Nothing of the other flow holds them up. */
+static void pass_expedited(struct way *way, const struct line_fault *fault, size_t direction)
+{
+    size_t length;
+    const uint8_t *unit;
+    bool here = fault->direction == direction && fault->kind >= EXPEDITED_BYTE && fault->kind <= EXPEDITED_LATE;
+    while (clock_ms() >= way->expedited_until && (unit = line_front(way->from, EXPEDITED, &length)) != NULL) {
+        if (here && fault->kind == EXPEDITED_LATE && way->expedited_until == 0) {
+            way->expedited_until = clock_ms() + (fault->choice % 2 == 0 ? SHORT_HOLD_MS : LONG_HOLD_MS);
+            break;
+        }
+        if (here)
+            pass_expedited_faulty(way, fault, unit, length);
+        else
+            put(way, EXPEDITED, unit, length);
+        line_drop(way->from, EXPEDITED);
+    }
 }
 
 /* Passes on what has come. */
@@ -163,7 +204,8 @@ static void pass(struct way *way, const struct line_fault *fault, size_t directi
 {
     size_t length;
     const uint8_t *unit;
-    while (clock_ms() >= way->held_until && (unit = line_front(way->from, &length)) != NULL) {
+    pass_expedited(way, fault, direction);
+    while (clock_ms() >= way->held_until && (unit = line_front(way->from, NORMAL, &length)) != NULL) {
         size_t record = fault->kind == TOP_BIT ? first_record(way, unit, length) : length;
         bool here = shown_here(way, fault, direction, record < length);
         if (here && fault->kind == HELD_BACK && way->held_until == 0) {
@@ -173,16 +215,16 @@ static void pass(struct way *way, const struct line_fault *fault, size_t directi
         if (here)
             pass_faulty(way, fault, unit, length, record);
         else
-            put(way, unit, length);
+            put(way, NORMAL, unit, length);
         if (!here && way->kept_length > 0) {
-            put(way, way->kept, way->kept_length);
+            put(way, NORMAL, way->kept, way->kept_length);
             way->kept_length = 0;
         }
         way->units++;
-        line_drop(way->from);
+        line_drop(way->from, NORMAL);
     }
     line_send(way->to);
-    if (way->from->closed && !way->shut && clock_ms() >= way->held_until) {
+    if (way->from->closed && !way->shut && clock_ms() >= way->held_until && clock_ms() >= way->expedited_until) {
         way->shut = true;
         (void)shutdown(way->to->socket, SHUT_WR);
     }

@@ -3,42 +3,19 @@
  * on which the turn of the blender waits, and the error header. Cards that the blender confirms, and cards that it does not. At the end
  * the laboratory with a silent blender, and with blenders that do not confirm its cards. Prints how many cases were tried, or what
  * differed. */
-#include "child.h"
+#include "partner.h"
 
 #include "../../hosts/clock.h"
-#include "../../hosts/session.h"
 
-#include <poll.h>
 #include <stdlib.h>
 #include <string.h>
 #include <sys/socket.h>
 #include <unistd.h>
 
-/* The time limit where it is to be reached, and where it is not, on a machine that does other work too. */
-enum { LIMIT_MS = 400, LONG_LIMIT_MS = 5000, PATIENCE_MS = 10000, MOST_RECORDS = 6, LONG = 600 };
+enum { MOST_RECORDS = 6, LONG = 600 };
 
 /* How long it is listened for more units than are due. */
 enum { QUIET_MS = 150 };
-
-#define HEADINGS "campaign MARINE-05\nbatch       viscosity    sulphur\n"
-#define GOOD_COLUMNS "1 batch 1 8 8 viscosity 1 16 8 sulphur 1 24 8"
-#define GOOD_ROW "   1  1 MA-0501 179.2   0.093   "
-#define GOOD_LINE "MA-0501         179.2      0.093\n"
-
-/* A record to be sent: its kind and text, whether it says that another part follows, and the text's length where it has a zero byte in
- * it. A kind of WRONG_CHECK is sent as a row whose check does not fit. */
-enum { WRONG_CHECK = 1 };
-
-struct odd {
-    char kind;
-    const char *text;
-    bool more;
-    size_t length;
-};
-
-/* A record that stands alone or ends its table, and a part that another follows. */
-#define LAST(kind, text) {kind, text, false, 0}
-#define PART(kind, text) {kind, text, true, 0}
 
 /* A table of one row, and one of two rows of three parts. */
 #define ONE_ROW LAST('A', "MARINE-05 1")
@@ -75,12 +52,8 @@ struct record_case {
 static char long_columns[LONG + 64];
 static char long_revised[66];
 
-#define HALF "only part of a unit has come, and nothing got on for 400 ms"
-#define LABORATORY_SAYS(what) "laboratory: conversation with the blender ended: " what "\n"
 #define LABORATORY_TOLD "laboratory: not confirmed by the blender: " RIGHT_CARD "; its error header says sense 08 89 00 00\n"
 #define LABORATORY_SENT "laboratory: sent in its place: " RIGHT_CARD "\n"
-#define SAYS(what) "blender: conversation with the laboratory ended: " what "\n"
-#define ALL_CAME SAYS("it has gone before everything was answered")
 #define CANNOT_PRINT SAYS("it sends a record with a byte that cannot be printed")
 #define ALONE SAYS("a record that stands alone says that another part follows")
 
@@ -212,109 +185,20 @@ static const struct record_case cases[] = {
     {"half a unit", false, {TWO_ROWS, COLUMNS, PART('R', GOOD_ROW)}, STOP_HALF_UNIT, HEADINGS GOOD_LINE, SAYS("time limit: " HALF)},
 };
 
-static int failures;
-
-static void expect(bool good, const char *name, const char *what, const struct child *child)
-{
-    if (good)
-        return;
-    failures++;
-    fprintf(stderr, "records: %s: %s\n  status %d\n  printed %s\n  said %s\n", name, what, child->status, child->out, child->err);
-}
-
-/* Makes a pacing response if one is due. */
-static void pace(struct session *session)
-{
-    if (lu62_end_send_pacing_response(&session->end) == LU62_ACCEPTED)
-        (void)line_put(&session->line, session->end.unit, session->end.answer.unit);
-    line_send(&session->line);
-}
-
-/* Waits at most so long, if no unit is there that a mark held back, receives what comes and takes what may be taken. `taken` counts the
- * units but pacing responses. False if the line is at its end. */
-static bool take_what_comes(struct session *session, int64_t most_ms, size_t *taken)
-{
-    size_t length;
-    const uint8_t *unit;
-    if (line_front(&session->line, &length) == NULL && !line_wait(&session->line, most_ms))
-        return false;
-    (void)line_receive(&session->line);
-    while ((unit = line_front(&session->line, &length)) != NULL) {
-        if (lu62_end_receive_unit(&session->end, unit, length) == LU62_UNREAD_MARK)
-            break;
-        *taken += unit[2] != 0x83 || unit[3] != 0x01;
-        line_drop(&session->line);
-        if (session->end.answer.unit > 0 && !line_put(&session->line, session->end.unit, session->end.answer.unit))
-            return false;
-    }
-    line_send(&session->line);
-    return !session->line.closed;
-}
-
-/* Sends what waits and receives what comes, once. False if the line is at its end. */
-static bool exchange_once(struct session *session)
-{
-    size_t taken = 0;
-    pace(session);
-    return take_what_comes(session, PATIENCE_MS, &taken);
-}
-
-/* Reads whatever has come until this end may send: for a table, the blender's query and its turn. */
-static bool come_to_send(struct session *session, bool revision)
-{
-    if (revision)
-        return session_allocate(session) == LU62_ACCEPTED;
-    while (lu62_end_state(&session->end) != LU62_SEND) {
-        if (!exchange_once(session))
-            return false;
-        while (session_read(session) != READ_NOTHING)
-            ;
-        if (lu62_end_state(&session->end) == LU62_CONFIRM_OWED)
-            (void)session_confirmed(session);
-    }
-    return true;
-}
-
-static bool give(struct session *session, const struct odd *odd)
-{
-    static struct outgoing record;
-    struct text text = text_of(odd->text);
-    if (odd->length > 0)
-        text.length = odd->length;
-    if (!session_set(session, &record, odd->kind == WRONG_CHECK ? RECORD_ROW : odd->kind, text, odd->more))
-        return false;
-    if (odd->kind == WRONG_CHECK)
-        record.bytes[RECORD_TEXT_AT]++;
-    while (!session_give(session, &record))
-        if (!exchange_once(session))
-            return false;
-    return true;
-}
-
-/* Flushes when there is credit. False if the line is at its end before. */
-static bool flushed(struct session *session)
-{
-    uint32_t refusal;
-    while ((refusal = session_flush(session)) == LU62_NO_CREDIT)
-        if (!exchange_once(session))
-            return false;
-    line_send(&session->line);
-    return refusal == LU62_ACCEPTED;
-}
-
 /* Sends all that has been given, and then as the case says. */
 static void stop_as(struct session *session, enum stop stop)
 {
     /* The unit that flush makes is the last in its chain; weight 01 of its header's last byte says that the conversation ends. */
     size_t header_end = LINE_LENGTH_BYTES + LU62_UNIT(0) - 1;
-    size_t frame = session->line.out_held;
+    struct line_out *out = &session->line.out[NORMAL];
+    size_t frame = out->held;
     while ((stop == STOP_END ? session_end(session, false) : session_flush(session)) == LU62_NO_CREDIT) {
         if (!exchange_once(session))
             return;
-        frame = session->line.out_held;
+        frame = out->held;
     }
     if (stop == STOP_FORGED_END)
-        session->line.out[frame + header_end] |= 0x01;
+        out->bytes[frame + header_end] |= 0x01;
     if (stop == STOP_ERROR_HEADER) {
         session->end.image[ERROR_AT] = 1;
         (void)flushed(session);
@@ -334,17 +218,6 @@ static void play_laboratory(struct session *session, const struct record_case *t
         if (!give(session, &the->records[i]))
             return;
     stop_as(session, the->stop);
-}
-
-/* Starts a program at one end of a line of its own, and hands back the other end. */
-static int started(struct child *child, child_program *program, const struct options *options)
-{
-    int sockets[2];
-    if (socketpair(AF_UNIX, SOCK_STREAM, 0, sockets) < 0)
-        cannot("socketpair");
-    child_start(child, program, sockets[0], &sockets[1], 1, options);
-    (void)close(sockets[0]);
-    return sockets[1];
 }
 
 /* What the blender sends meanwhile is left on the line. A laboratory that is not to stay silent closes it. */
@@ -593,22 +466,6 @@ static const struct query_case {
 #define ERROR_HEADER_UNASKED "\0\014\0\1\013\221\0\7\7\010\211\0\0\0"
 #define REFUSAL_UNASKED "\0\011\0\011\207\060\0\010\106\0\0"
 
-/* Reads the laboratory's first revised figure, confirms it, and bids until the laboratory lets this end send. */
-static bool come_to_ask(struct session *session)
-{
-    while (lu62_end_state(&session->end) != LU62_SEND) {
-        if (lu62_end_state(&session->end) == LU62_RESET && !lu62_end_bid_pending(&session->end))
-            (void)session_allocate(session);
-        if (!exchange_once(session))
-            return false;
-        while (session_read(session) != READ_NOTHING)
-            ;
-        if (lu62_end_state(&session->end) == LU62_CONFIRM_OWED)
-            (void)session_confirmed(session);
-    }
-    return true;
-}
-
 /* The laboratory with a blender that asks so, and sends the query without giving the turn. */
 static void laboratory_answers(const struct query_case *the)
 {
@@ -665,18 +522,6 @@ static const struct act_case {
     {"an announcement refused", {ASK, RECORD, TURN, REFUSE, EXPLAIN}, false, "",
      LABORATORY_SAYS("it does not confirm that its table was announced")},
 };
-
-/* Reads until this end owes a confirmation. */
-static bool come_to_owe(struct session *session)
-{
-    while (lu62_end_state(&session->end) != LU62_CONFIRM_OWED) {
-        if (!exchange_once(session))
-            return false;
-        while (lu62_end_state(&session->end) != LU62_CONFIRM_OWED && session_read(session) != READ_NOTHING)
-            ;
-    }
-    return true;
-}
 
 static bool acted(struct session *session, enum act act)
 {

@@ -1,6 +1,6 @@
 /* Examples byte for byte through the C interface: every row of document 01's table, each under the row's own words (`row`), and some
- * of our own beside them (`ours`), those of tables in several parts, of a turn or an end prepared and of a confirmation refused among
- * them. Prints how many there were of each, or what differed. */
+ * of our own beside them (`ours`), those of tables in several parts, of a turn or an end prepared, of a confirmation refused and of
+ * the turn requested among them. Prints how many there were of each, or what differed. */
 #include "lu62_end.h"
 
 #include <stdbool.h>
@@ -9,7 +9,17 @@
 #include <string.h>
 
 /* Bytes of the image that a test sets to reach an example's starting point, or looks at. */
-enum { STATE_AT = 2, FOLLOW_AT = 3, OUT_NUMBER_AT = 16, GIVEN_AT = 18, OWED_NUMBER_AT = 40, ERROR_AT = 42 };
+enum {
+    STATE_AT = 2,
+    FOLLOW_AT = 3,
+    OUT_NUMBER_AT = 16,
+    GIVEN_AT = 18,
+    OWED_NUMBER_AT = 40,
+    ERROR_AT = 42,
+    UNANSWERED_AT = 43,
+    EXPEDITED_SENT_AT = 44,
+    EXPEDITED_TAKEN_AT = 46
+};
 
 enum { LARGEST = 64, WIDEST = 3 };
 
@@ -110,6 +120,13 @@ static void expect_no_unit(const struct host *host)
     do { \
         static const uint8_t bytes_[] = {__VA_ARGS__}; \
         (void)lu62_end_receive_unit(&(host)->end, bytes_, sizeof bytes_); \
+    } while (0)
+
+/* A take on the expedited line. */
+#define TAKE_EXPEDITED(host, ...) \
+    do { \
+        static const uint8_t bytes_[] = {__VA_ARGS__}; \
+        (void)lu62_end_receive_expedited(&(host)->end, bytes_, sizeof bytes_); \
     } while (0)
 
 static void open_host(struct host *host, uint8_t role, uint8_t window, uint32_t max)
@@ -512,14 +529,20 @@ static void expect_noted(const struct host *host, const uint8_t *image, uint32_t
     expect_bytes("image", host->end.image, sizeof host->end.image, noted, sizeof noted);
 }
 
+/* Image and buffers are as they were. */
+static void expect_kept(const struct host *host, const struct host *before)
+{
+    expect_bytes("image", host->end.image, sizeof host->end.image, before->end.image, sizeof before->end.image);
+    expect_bytes("send", host->send, sizeof host->send, before->send, sizeof before->send);
+    expect_bytes("unit buffer", host->unit, sizeof host->unit, before->unit, sizeof before->unit);
+}
+
 /* The last call was refused so and changed nothing. */
 static void expect_untouched(const struct host *host, const struct host *before, uint32_t refusal)
 {
     expect_refusal(host, refusal);
     expect_number("sense, rule and length of a unit", host->end.answer.sense + host->end.answer.rule + host->end.answer.unit, 0);
-    expect_bytes("image", host->end.image, sizeof host->end.image, before->end.image, sizeof before->end.image);
-    expect_bytes("send", host->send, sizeof host->send, before->send, sizeof before->send);
-    expect_bytes("unit buffer", host->unit, sizeof host->unit, before->unit, sizeof before->unit);
+    expect_kept(host, before);
 }
 
 /* Carries out what is prepared: by flush, or by confirm. */
@@ -956,6 +979,147 @@ static void confirmations_refused(void)
     errors_due_in_an_image();
 }
 
+/* Document 02: a signal, its answer, and what each end keeps of them; no state changes. */
+static void a_signal_and_its_answer(void)
+{
+    struct host host, partner;
+    ours("the turn requested, the signal taken in Send, its answer taken, and requested again");
+    open_receiver(&host);
+    open_sender(&partner, 3, 64);
+    (void)lu62_end_request_to_send(&host.end);
+    UNIT(&host, 0x00, 0x01, 0x4B, 0x80, 0x00, 0xC9, 0x00, 0x01, 0x00, 0x00);
+    expect_number("signalled at the end that signals", host.end.answer.signalled, 0);
+    expect_number("signal unanswered", lu62_end_signal_unanswered(&host.end), 1);
+    expect_number("last expedited number sent", host.end.image[EXPEDITED_SENT_AT], 1);
+    expect_state(&host, LU62_RECEIVE);
+    (void)lu62_end_receive_expedited(&partner.end, host.unit, host.end.answer.unit);
+    UNIT(&partner, 0x00, 0x01, 0xCB, 0x80, 0x00, 0xC9);
+    expect_number("signalled", partner.end.answer.signalled, 1);
+    expect_number("last expedited number taken", partner.end.image[EXPEDITED_TAKEN_AT], 1);
+    expect_number("signal unanswered at the partner", lu62_end_signal_unanswered(&partner.end), 0);
+    expect_state(&partner, LU62_SEND);
+    (void)lu62_end_receive_expedited(&host.end, partner.unit, partner.end.answer.unit);
+    expect_no_unit(&host);
+    expect_number("signalled by an answer", host.end.answer.signalled, 0);
+    expect_number("signal unanswered after the answer", lu62_end_signal_unanswered(&host.end), 0);
+    (void)lu62_end_request_to_send(&host.end);
+    UNIT(&host, 0x00, 0x02, 0x4B, 0x80, 0x00, 0xC9, 0x00, 0x01, 0x00, 0x00);
+
+    ours("the signal behind number 65,535, which is 0, and its answer");
+    open_receiver(&host);
+    memset(host.end.image + EXPEDITED_SENT_AT, 0xFF, 4);
+    (void)lu62_end_request_to_send(&host.end);
+    UNIT(&host, 0x00, 0x00, 0x4B, 0x80, 0x00, 0xC9, 0x00, 0x01, 0x00, 0x00);
+    TAKE_EXPEDITED(&host, 0x00, 0x00, 0x4B, 0x80, 0x00, 0xC9, 0x00, 0x01, 0x00, 0x00);
+    UNIT(&host, 0x00, 0x00, 0xCB, 0x80, 0x00, 0xC9);
+    TAKE_EXPEDITED(&host, 0x00, 0x00, 0xCB, 0x80, 0x00, 0xC9);
+    expect_no_unit(&host);
+}
+
+/* In each state, with each value of the flag in the image. */
+static void signals_refused(void)
+{
+    struct host host, before;
+    ours("the turn requested with a wrong buffer, in each state and with each value of the flag in an image");
+    open_receiver(&host);
+    memcpy(&before, &host, sizeof before);
+    (void)lu62_request_to_send(host.end.image, LU62_IMAGE, host.unit, LU62_UNIT(64) - 1, &host.end.answer);
+    expect_untouched(&host, &before, LU62_BAD_BUFFER);
+    (void)lu62_request_to_send(host.end.image, LU62_IMAGE - 1, host.unit, LU62_UNIT(64), &host.end.answer);
+    expect_untouched(&host, &before, LU62_BAD_BUFFER);
+    for (unsigned state = 0; state < 256; state++)
+        for (unsigned flag = 0; flag < 256; flag++) {
+            bool may = state == LU62_RECEIVE || state == LU62_CONFIRM_OWED;
+            open_host(&host, LU62_BIDDER, 3, 64);
+            host.end.image[STATE_AT] = (uint8_t)state;
+            host.end.image[UNANSWERED_AT] = (uint8_t)flag;
+            memcpy(&before, &host, sizeof before);
+            (void)lu62_end_request_to_send(&host.end);
+            if (state > LU62_DEFER_END || flag > 1)
+                expect_untouched(&host, &before, LU62_BAD_RECORD);
+            else if (!may)
+                expect_untouched(&host, &before, LU62_WRONG_STATE);
+            else if (flag == 1)
+                expect_untouched(&host, &before, LU62_SIGNAL_UNANSWERED);
+            else
+                UNIT(&host, 0x00, 0x01, 0x4B, 0x80, 0x00, 0xC9, 0x00, 0x01, 0x00, 0x00);
+        }
+}
+
+/* A unit that the expedited line refuses: nothing changes, and the sense is the refusal's. */
+static void expect_breach(struct host *host, const uint8_t *unit, size_t length, uint32_t refusal, uint32_t sense, uint32_t rule)
+{
+    struct host before;
+    memcpy(&before, host, sizeof before);
+    (void)lu62_end_receive_expedited(&host->end, unit, length);
+    expect_refusal(host, refusal);
+    expect_number("sense", host->end.answer.sense, sense);
+    expect_number("rule", host->end.answer.rule, rule);
+    expect_number("length of a unit, and signalled", host->end.answer.unit + host->end.answer.signalled, 0);
+    expect_kept(host, &before);
+}
+
+#define BREACH(host, refusal, sense, rule, ...) \
+    do { \
+        static const uint8_t bytes_[] = {__VA_ARGS__}; \
+        expect_breach(host, bytes_, sizeof bytes_, refusal, sense, rule); \
+    } while (0)
+
+static void expedited_units_that_break_rules(void)
+{
+    struct host host;
+    ours("expedited units that break the protocol");
+    open_receiver(&host);
+    BREACH(&host, LU62_SHORT_UNIT, 0x40050000, 0, 0x00, 0x01, 0x4B, 0x80);
+    BREACH(&host, LU62_BAD_HEADER, 0, 1, 0x00, 0x01, 0x03, 0x90, 0x00, 0x00, 0x02);
+    BREACH(&host, LU62_BAD_HEADER, 0, 1, 0x00, 0x01, 0xCF, 0x90, 0x00, 0x08, 0x13, 0x00, 0x00, 0x04);
+    BREACH(&host, LU62_BAD_HEADER, 0, 2, 0x00, 0x01, 0x4B, 0x80, 0x80, 0x04, 0x00, 0x06, 0x00, 0x00);
+    BREACH(&host, LU62_BAD_HEADER, 0, 2, 0x00, 0x01, 0xCB, 0x90, 0x00, 0xC9);
+    BREACH(&host, LU62_BAD_RU, 0x10020000, 0, 0x00, 0x01, 0x4B, 0x80, 0x00, 0xC9, 0x00, 0x01, 0x00, 0x01);
+    BREACH(&host, LU62_BAD_RU, 0x10020000, 0, 0x00, 0x01, 0x4B, 0x80, 0x00, 0xC9);
+    BREACH(&host, LU62_BAD_RU, 0x10020000, 0, 0x00, 0x01, 0xCB, 0x80, 0x00, 0x04);
+    BREACH(&host, LU62_BAD_NUMBER, 0x20010000, 0, 0x00, 0x02, 0x4B, 0x80, 0x00, 0xC9, 0x00, 0x01, 0x00, 0x00);
+    BREACH(&host, LU62_BAD_RESPONSE, 0x200E0000, 0, 0x00, 0x00, 0xCB, 0x80, 0x00, 0xC9);
+    (void)lu62_end_request_to_send(&host.end);
+    BREACH(&host, LU62_BAD_RESPONSE, 0x200E0000, 0, 0x00, 0x02, 0xCB, 0x80, 0x00, 0xC9);
+
+    ours("a signal on the normal line");
+    TAKE(&host, 0x00, 0x02, 0x4B, 0x80, 0x00, 0xC9, 0x00, 0x01, 0x00, 0x00);
+    expect_refusal(&host, LU62_BAD_HEADER);
+    expect_number("rule", host.end.answer.rule, 2);
+}
+
+/* Expedited units overtake: a signal is taken under an unread mark, and its answer before the turn that was made earlier. */
+static void signals_overtake(void)
+{
+    struct host host;
+    uint8_t buffer[4];
+    ours("the turn requested under its own mark, and a signal and an answer taken before the mark is read");
+    open_receiver(&host);
+    TAKE(&host, 0x00, 0x02, 0x03, 0x90, 0x20);
+    (void)lu62_end_request_to_send(&host.end);
+    UNIT(&host, 0x00, 0x01, 0x4B, 0x80, 0x00, 0xC9, 0x00, 0x01, 0x00, 0x00);
+    TAKE_EXPEDITED(&host, 0x00, 0x01, 0x4B, 0x80, 0x00, 0xC9, 0x00, 0x01, 0x00, 0x00);
+    expect_number("signalled", host.end.answer.signalled, 1);
+    expect_number("bytes in the inbox", lu62_end_inbox_held(&host.end), 2);
+    (void)lu62_end_receive(&host.end, buffer, sizeof buffer);
+    (void)lu62_end_receive(&host.end, buffer, sizeof buffer);
+    expect_number("mark", host.end.answer.mark, LU62_MARK_TURN);
+    expect_number("signalled by a read", host.end.answer.signalled, 0);
+    expect_state(&host, LU62_SEND);
+    TAKE_EXPEDITED(&host, 0x00, 0x01, 0xCB, 0x80, 0x00, 0xC9);
+    expect_no_unit(&host);
+    expect_state(&host, LU62_SEND);
+}
+
+static void signals(void)
+{
+    a_signal_and_its_answer();
+    signals_refused();
+    expedited_units_that_break_rules();
+    signals_overtake();
+}
+
 static void refused_openings(void)
 {
     static const struct {
@@ -988,10 +1152,12 @@ static void other_formats(void)
     struct host host;
     ours("images of other formats");
     open_host(&host, LU62_BIDDER, 3, 64);
-    /* An image of format 3 was a byte shorter. */
-    host.end.image[0] = 3;
-    (void)lu62_allocate(host.end.image, 42, host.unit, sizeof host.unit, &host.end.answer);
-    expect_refusal(&host, LU62_BAD_BUFFER);
+    /* An image of format 3 had 42 bytes, one of format 4 had 43. */
+    for (uint8_t format = 3; format < 5; format++) {
+        host.end.image[0] = format;
+        (void)lu62_allocate(host.end.image, 39u + format, host.unit, sizeof host.unit, &host.end.answer);
+        expect_refusal(&host, LU62_BAD_BUFFER);
+    }
     for (unsigned format = 0; format < 256; format++) {
         host.end.image[0] = (uint8_t)format;
         (void)lu62_end_confirmed(&host.end);
@@ -1004,8 +1170,9 @@ static void other_formats(void)
 
 int main(void)
 {
-    _Static_assert(sizeof(struct lu62_answer) == 8 * sizeof(uint32_t), "an answer is eight numbers of 32 bits");
+    _Static_assert(sizeof(struct lu62_answer) == 9 * sizeof(uint32_t), "an answer is nine numbers of 32 bits");
     _Static_assert(offsetof(struct lu62_answer, more) == 6 * sizeof(uint32_t), "more stands between complete and mark");
+    _Static_assert(offsetof(struct lu62_answer, signalled) == 8 * sizeof(uint32_t), "signalled stands last");
     bids();
     a_confirmation();
     data();
@@ -1031,6 +1198,7 @@ int main(void)
     states_in_an_image();
     wrong_lengths_of_an_image();
     confirmations_refused();
+    signals();
     refused_openings();
     other_formats();
     if (failures != 0) {

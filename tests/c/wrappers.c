@@ -34,6 +34,10 @@ static const uint8_t record[] = {0x00, 0x04, 0x41, 0x42};
 static const uint8_t bid[] = {0x00, 0x01, 0x4B, 0x81, 0x80, 0x04, 0x00, 0x06, 0x00, 0x00};
 static const uint8_t data[] = {0x00, 0x02, 0x03, 0x20, 0x01, 0x00, 0x04, 0x41, 0x42};
 
+/* On the expedited line: a signal, and the answer to one. */
+static const uint8_t signal_unit[] = {0x00, 0x01, 0x4B, 0x80, 0x00, 0xC9, 0x00, 0x01, 0x00, 0x00};
+static const uint8_t signal_answer[] = {0x00, 0x01, 0xCB, 0x80, 0x00, 0xC9};
+
 /* Where the buffers of a case lie: those of the end, the bytes given, the units taken, and what is read into; whether the calls are
  * to be stopped. */
 static const struct placed {
@@ -92,6 +96,22 @@ static int reads(struct room *room, const struct placed *the)
            room->end.answer.more == 0 && room->end.answer.copied == sizeof record && memcmp(buffer, record, sizeof record) == 0;
 }
 
+/* True if a signal is made, and one of the partner and the answer to this end's own are taken. */
+static int signals(struct room *room, const struct placed *the)
+{
+    struct lu62_end *end = &room->end;
+    uint8_t *taken = at(room, the->taken);
+    if (lu62_end_request_to_send(end) != LU62_ACCEPTED || memcmp(end->unit, signal_unit, sizeof signal_unit) != 0)
+        return 0;
+    memcpy(taken, signal_unit, sizeof signal_unit);
+    if (lu62_end_receive_expedited(end, taken, sizeof signal_unit) != LU62_ACCEPTED || end->answer.signalled != 1 ||
+        memcmp(end->unit, signal_answer, sizeof signal_answer) != 0)
+        return 0;
+    memcpy(taken, signal_answer, sizeof signal_answer);
+    return lu62_end_signal_unanswered(end) == 1 && lu62_end_receive_expedited(end, taken, sizeof signal_answer) == LU62_ACCEPTED &&
+           lu62_end_signal_unanswered(end) == 0;
+}
+
 /* True if the confirmation is refused, and the error header sent behind that. */
 static int refuses(struct room *room, const struct placed *the)
 {
@@ -112,6 +132,8 @@ static void make_calls(const struct placed *the)
         _exit(3);
     if (!reads(&room, the))
         _exit(4);
+    if (!signals(&room, the))
+        _exit(7);
     _exit(refuses(&room, the) ? 0 : 6);
 }
 

@@ -93,6 +93,15 @@ pub struct End {
     pub read: Place,
     pub bid_number: u16,
     pub owed_number: u16,
+    pub expedited: Expedited,
+}
+
+/// What an end keeps of the expedited lines: whether its signal has not been answered, and the last numbers sent and taken there.
+#[derive(Clone, Copy, Debug, Default, PartialEq, Eq)]
+pub struct Expedited {
+    pub unanswered: bool,
+    pub sent: u16,
+    pub taken: u16,
 }
 
 #[derive(Clone, Copy, Debug, Default, PartialEq, Eq)]
@@ -105,6 +114,7 @@ pub struct Answer {
     pub complete: bool,
     pub more: bool,
     pub mark: u32,
+    pub signalled: bool,
 }
 
 const BID: [u8; 5] = [0x04, 0x00, 0x06, 0x00, 0x00];
@@ -112,6 +122,10 @@ const GRANT: [u8; 1] = [0x04];
 const BID_REFUSAL: [u8; 5] = [0x08, 0x13, 0x00, 0x00, 0x04];
 const NO_CONFIRMATION: [u8; 4] = [0x08, 0x46, 0x00, 0x00];
 const ERROR_HEADER: [u8; 7] = [0x07, 0x07, 0x08, 0x89, 0x00, 0x00, 0x00];
+
+// On the expedited lines: a signal and its answer, header and RU.
+const SIGNAL: ([u8; 3], [u8; 5]) = ([0x4B, 0x80, 0x00], [0xC9, 0x00, 0x01, 0x00, 0x00]);
+const SIGNAL_ANSWER: ([u8; 3], [u8; 1]) = ([0xCB, 0x80, 0x00], [0xC9]);
 
 pub fn sense(number: u32) -> u32 {
     match number {
@@ -241,6 +255,15 @@ pub fn broken(header: [u8; 3]) -> [bool; 6] {
     rules
 }
 
+/// The rule, H1 or H2, that a header breaks on an expedited line. Document 02 has no other rules there.
+pub fn broken_expedited(header: [u8; 3]) -> Option<u32> {
+    match header[0] {
+        0x4B | 0xCB if header == SIGNAL.0 || header == SIGNAL_ANSWER.0 => None,
+        0x4B | 0xCB => Some(2),
+        _ => Some(1),
+    }
+}
+
 fn kind(header: [u8; 3]) -> Result<Kind, u32> {
     if let Some(rule) = broken(header).iter().position(|&b| b) {
         return Err(rule as u32 + 1);
@@ -359,6 +382,7 @@ fn fresh(session: Session, inbox: u16) -> End {
         read: WHOLE,
         bid_number: 0,
         owed_number: 0,
+        expedited: Expedited::default(),
     }
 }
 
@@ -618,6 +642,64 @@ impl End {
         self.state = State::Send;
         self.error = true;
         write_unit(unit, self.owed_number, [0x87, 0x30, 0x00], &NO_CONFIRMATION)
+    }
+
+    /// Document 02's request for the turn. It changes no state, and costs no credit.
+    pub fn request_to_send(&mut self, unit: &mut [u8]) -> Answer {
+        if !self.unit_fits(unit) {
+            return refused(4);
+        }
+        if !self.good() {
+            return refused(5);
+        }
+        if self.state != State::Receive && self.state != State::Owes {
+            return refused(7);
+        }
+        if self.expedited.unanswered {
+            return refused(30);
+        }
+        let number = self.expedited.sent.wrapping_add(1);
+        (self.expedited.sent, self.expedited.unanswered) = (number, true);
+        write_unit(unit, number, SIGNAL.0, &SIGNAL.1)
+    }
+
+    /// Takes a unit of the expedited line: a signal, which is answered at once, or the answer to this end's own.
+    pub fn receive_expedited(&mut self, unit_taken: &[u8], unit: &mut [u8]) -> Answer {
+        if !self.unit_fits(unit) {
+            return refused(4);
+        }
+        if !self.good() {
+            return refused(5);
+        }
+        if unit_taken.len() < 5 {
+            return refused(20);
+        }
+        let header = [unit_taken[2], unit_taken[3], unit_taken[4]];
+        if let Some(rule) = broken_expedited(header) {
+            return Answer { rule, ..refused(21) };
+        }
+        let is_signal = header == SIGNAL.0;
+        let right_ru = if is_signal { &SIGNAL.1[..] } else { &SIGNAL_ANSWER.1 };
+        if &unit_taken[5..] != right_ru {
+            return refused(22);
+        }
+        let number = u16::from_be_bytes([unit_taken[0], unit_taken[1]]);
+        if !is_signal {
+            return self.signal_answered(number);
+        }
+        if number != self.expedited.taken.wrapping_add(1) {
+            return refused(23);
+        }
+        self.expedited.taken = number;
+        Answer { signalled: true, ..write_unit(unit, number, SIGNAL_ANSWER.0, &SIGNAL_ANSWER.1) }
+    }
+
+    fn signal_answered(&mut self, number: u16) -> Answer {
+        if !self.expedited.unanswered || number != self.expedited.sent {
+            return refused(28);
+        }
+        self.expedited.unanswered = false;
+        made(0)
     }
 
     pub fn send_pacing_response(&mut self, unit: &mut [u8]) -> Answer {

@@ -1,7 +1,7 @@
 -- Refusal numbers, the table of senses, and the answers of calls.
 -- Assumes nothing.
 use Prim.Native.Nat.{ℕ}
-use mathlib.Core.Bool.{Bool, false, cond}
+use mathlib.Core.Bool.{Bool, false, cond, _&&_}
 use mathlib.Core.List.{List, [], _∷_}
 use lib.Dec.{eqb}
 use lib.ListN.{getD}
@@ -9,6 +9,7 @@ use Rattle.control.specs.declared.WhatReceived.{WhatReceived}
 use Rattle.control.specs.declared.WhatReceived.the-variants as mark
 use Rattle.answers.specs.declared.Answer.{Answer}
 use Rattle.answers.specs.declared.ReadAnswer.{ReadAnswer}
+use Rattle.answers.specs.declared.ExpeditedAnswer.{ExpeditedAnswer}
 
 -- ---- the paper's numbers
 
@@ -81,12 +82,17 @@ BAD-RESPONSE = 28
 abbrev pub BAD-RECORDS : ℕ
 BAD-RECORDS = 29
 
+-- document 02's first number, that of a call of this end
+abbrev pub SIGNAL-UNANSWERED : ℕ
+SIGNAL-UNANSWERED = 30
+
 -- the senses by number, zero where none
 abbrev pub senses : List ℕ
 senses =
     0 ∷ 0 ∷ 0 ∷ 0 ∷ 0 ∷ 0 ∷ 0 ∷ 0 ∷ 0 ∷ 0
     ∷ 0 ∷ 0 ∷ 0 ∷ 0 ∷ 0 ∷ 0 ∷ 0 ∷ 0 ∷ 0 ∷ 0
     ∷ 0x40050000 ∷ 0 ∷ 0x10020000 ∷ 0x20010000 ∷ 0x20020000 ∷ 0x20030000 ∷ 0x20040000 ∷ 0x20110000 ∷ 0x200E0000 ∷ 0
+    ∷ 0 ∷ 0 ∷ 0 ∷ 0 ∷ 0 ∷ 0 ∷ 0 ∷ 0 ∷ 0
     ∷ []
 
 abbrev pub senseOf : ℕ → ℕ
@@ -112,3 +118,7 @@ readRefused q = record { answer = refused q; copied = 0; complete = false; more 
 -- a read accepted: the count copied, whether a record is complete, whether that record is a part that another follows, and the mark
 abbrev pub readAccepted : ℕ → Bool → Bool → WhatReceived → ReadAnswer
 readAccepted k complete more what = record { answer = accepted 0; copied = k; complete = complete; more = more; mark = what }
+
+-- a take on the expedited line: it tells the program of a signal that is taken; a refusal has no there
+abbrev pub expeditedAnswer : Answer → Bool → ExpeditedAnswer
+expeditedAnswer a signal = record { answer = a; signalled = eqb (a .refusal) 0 && signal }

@@ -9,7 +9,7 @@ use header::Rule;
 ghost use mathlib.Core.Path.{_≡_};
 ghost use mathlib.Core.Bool.{false};
 ghost use Rattle.header.specs.Rules.{ruleNumber};
-ghost use Rattle.answers.specs.Answers.{senseOf, accepted, refused, refusedNaming, readRefused, readAccepted};
+ghost use Rattle.answers.specs.Answers.{senseOf, accepted, refused, refusedNaming, readRefused, readAccepted, expeditedAnswer};
 
 // The refusal number, 0 if accepted; its sense; the rule for 21, else 0; and the length of the unit made, 0 for none.
 pub struct Answer {
@@ -29,8 +29,14 @@ pub struct ReadAnswer {
     pub mark: control::WhatReceived,
 }
 
+// The answer of a take on the expedited line has besides: whether a signal was taken.
+pub struct ExpeditedAnswer {
+    pub answer: Answer,
+    pub signalled: bool,
+}
+
 // The senses by refusal number, zero where none.
-const SENSES: [u32; 30] = [
+const SENSES: [u32; 39] = [
     0,
     0,
     0,
@@ -61,13 +67,22 @@ const SENSES: [u32; 30] = [
     0x20110000,
     0x200E0000,
     0,
+    0,
+    0,
+    0,
+    0,
+    0,
+    0,
+    0,
+    0,
+    0,
 ];
 
 fn sense_of(number: u8) -> u32
     ensures { λ r. ⌜ r ≡ senseOf number ⌝ }
 {
     let i = number as usize;
-    if i < 30 { SENSES[i] } else { 0 }
+    if i < 39 { SENSES[i] } else { 0 }
 }
 
 // Accepted, with the length of the unit made, 0 for none.
@@ -163,5 +178,16 @@ pub fn mark_read(c: Control) -> ReadAnswer
         complete: false,
         more: false,
         mark,
+    }
+}
+
+// The answer of a take on the expedited line, of a signal or of its response. A refused take tells of no signal.
+pub fn expedited_answer(answer: Answer, signal: bool) -> ExpeditedAnswer
+    ensures { λ r. ⌜ r ≡ expeditedAnswer answer signal ⌝ }
+{
+    let taken = answer.refusal == 0;
+    ExpeditedAnswer {
+        answer,
+        signalled: taken & signal,
     }
 }

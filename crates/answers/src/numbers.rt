@@ -45,3 +45,6 @@ pub const BAD_PACING: u8 = 27;
 pub const BAD_RESPONSE: u8 = 28;
 
 pub const BAD_RECORDS: u8 = 29;
+
+// Document 02: this end's own call.
+pub const SIGNAL_UNANSWERED: u8 = 30;

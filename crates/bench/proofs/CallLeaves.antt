@@ -3,7 +3,7 @@
 use Prim.Native.Nat.{ℕ}
 use mathlib.Core.Path.{_≡_, refl, ap, _∙_}
 use mathlib.Core.Bool.{true, false, false≢true}
-use mathlib.Core.List.{List}
+use mathlib.Core.List.{List, []}
 use Rattle.end.specs.Outcome.{Copied}
 use Rattle.end.specs.Results.{copiedBy}
 use Rattle.control.specs.declared.Deferred.{Deferred}
@@ -13,15 +13,17 @@ use Rattle.end.specs.declared.Done.{Done}
 use Rattle.end.specs.declared.ReadDone.{ReadDone}
 use Rattle.calls.specs.Calls.{Called, Reply, Station, called, copies, hands, unitsOf}
 use Rattle.calls.proofs.CallCases.{defer-cases, withdraw-cases, read-cases}
+use Rattle.joined.specs.Ends.{normal}
 use Rattle.script.specs.declared.Verb.{Verb}
-use Rattle.script.specs.declared.Verb.the-variants.{Allocate, Confirmed, SendError, SendPacingResponse, SendData, Close, Defer, Withdraw, Receive}
-use Rattle.bench.specs.CallMade.{isRead, stationOf, actedBy, plainDone}
+use Rattle.script.specs.declared.Verb.the-variants.{Allocate, Confirmed, SendError, RequestToSend, SendPacingResponse, SendData, Close, Defer, Withdraw, Receive}
+use Rattle.bench.specs.CallMade.{isRead, verbLane, stationOf, actedBy, plainDone}
 
 -- one call alone is a read
 pub read-is : (v : Verb) → isRead v ≡ true → v ≡ Receive
 read-is Allocate e = absurd (false≢true e)
 read-is Confirmed e = absurd (false≢true e)
 read-is SendError e = absurd (false≢true e)
+read-is RequestToSend e = absurd (false≢true e)
 read-is SendPacingResponse e = absurd (false≢true e)
 read-is SendData e = absurd (false≢true e)
 read-is (Close f b) e = absurd (false≢true e)
@@ -30,9 +32,9 @@ read-is Withdraw e = absurd (false≢true e)
 read-is Receive e = refl
 
 -- a call that is lent nothing leaves every cell, and no unit goes where it makes none
-handed-left : (v : Verb) (s : Station) (r d : Done) (buffer : List ℕ) → isRead v ≡ false → r ≡ d → d .answer .unit ≡ 0
+handed-left : (v : Verb) (s : Station) (r d : Done) (buffer : List ℕ) → isRead v ≡ false → verbLane v ≡ normal → r ≡ d → d .answer .unit ≡ 0
     → actedBy v (plainDone r) (s .send) (s .unit) (s .inbox) buffer ≡ hands s d
-handed-left v s r d buffer n e z = rw (e, n, z)
+handed-left v s r d buffer n l e z = rw (e, n, l, z)
 
 -- prepare makes no unit
 none-deferred : (s : Station) (what : Deferred) → defer what (s .end) .answer .unit ≡ 0
@@ -41,7 +43,7 @@ none-deferred s what = defer-cases (λ (m : Called). m .answer .answer .answer .
 
 pub deferred-left : (s : Station) (what : Deferred) (r : Done) (buffer : List ℕ) → r ≡ defer what (s .end)
     → actedBy (Defer what) (plainDone r) (s .send) (s .unit) (s .inbox) buffer ≡ hands s (defer what (s .end))
-deferred-left s what r buffer e = handed-left (Defer what) s r (defer what (s .end)) buffer refl e (none-deferred s what)
+deferred-left s what r buffer e = handed-left (Defer what) s r (defer what (s .end)) buffer refl refl e (none-deferred s what)
 
 -- withdraw makes no unit
 none-withdrawn : (s : Station) → withdraw (s .end) .answer .unit ≡ 0
@@ -50,7 +52,7 @@ none-withdrawn s = withdraw-cases (λ (m : Called). m .answer .answer .answer .u
 
 pub withdrawn-left : (s : Station) (r : Done) (buffer : List ℕ) → r ≡ withdraw (s .end)
     → actedBy Withdraw (plainDone r) (s .send) (s .unit) (s .inbox) buffer ≡ hands s (withdraw (s .end))
-withdrawn-left s r buffer e = handed-left Withdraw s r (withdraw (s .end)) buffer refl e (none-withdrawn s)
+withdrawn-left s r buffer e = handed-left Withdraw s r (withdraw (s .end)) buffer refl refl e (none-withdrawn s)
 
 -- a read makes no unit
 no-unit : (s : Station) (buffer : List ℕ) → receive (s .end) (s .inbox) buffer .done .answer .answer .unit ≡ 0
@@ -63,6 +65,6 @@ pub copied-left : (s : Station) (r : ReadDone) (inbox buffer before : List ℕ) 
 copied-left s r inbox buffer before e =
     let z : r .answer .answer .unit ≡ 0 =
     ap (λ (m : Copied). m .done .answer .answer .unit) e ∙ no-unit s before in
-    let answers : Reply = record { answer = r .answer; buffer = buffer } in
-    ap (λ (n : ℕ). record { end = stationOf (r .end) (s .send) (s .unit) inbox; answer = answers; sent = unitsOf n (s .unit) }) z
+    let answers : Reply = record { answer = r .answer; buffer = buffer; signalled = false } in
+    ap (λ (n : ℕ). record { end = stationOf (r .end) (s .send) (s .unit) inbox; answer = answers; sent = unitsOf n (s .unit); expedited = [] }) z
     ∙ ap (copies s) e

@@ -1,13 +1,15 @@
-// Two joined ends on the bench, one step at a time: a request at one end, the units that wait for it on the line to it, and the
-// unit that it makes on the line to the other end.
+// Two joined ends on the bench, one step at a time: a request at one end, the units that wait for it on the two lines to it, and the
+// unit that it makes on one of the two lines to the other end. A step is lent the two lines of one flow; those of the other, which it
+// cannot touch, stand in its promise.
 mod made_call;
 
 use crate::made_call::call;
-use crate::made_call::plain;
+use crate::made_call::take;
 use control::WhatReceived;
 use end::Answer;
 use end::End;
 use end::ReadAnswer;
+use script::Flow;
 use script::Request;
 use script::Verb;
 use unit_lines::Line;
@@ -18,9 +20,8 @@ use unit_lines::remove_oldest;
 ghost use mathlib.Core.Path.{_≡_};
 ghost use mathlib.Core.List.{List};
 ghost use Prim.Native.Nat.{ℕ};
-ghost use Rattle.joined.specs.Histories.{Log};
-ghost use Rattle.unit_lines.specs.UnitLine.{Holds};
-ghost use Rattle.bench.specs.Step.{accepted, benchOf, Steps};
+ghost use Rattle.bench.specs.CallMade.{verbLane, flowLane};
+ghost use Rattle.bench.specs.Step.{accepted, Ways, waysOf, placed, benchOf, laneOf, StepsTo};
 
 // Whether the call was made.
 pub enum Outcome {
@@ -29,18 +30,29 @@ pub enum Outcome {
     Full,
 }
 
-// What a step hands back: the answer, if one was made; the new end; and the line to it and the line to the other end.
-pub struct Stepped {
-    pub outcome: Outcome,
-    pub answer: ReadAnswer,
-    pub end: End,
+// The two lines of one flow: the line to this end, and the line to the other end.
+pub struct Pair {
     pub from: Line,
     pub to: Line,
 }
 
+// What a take hands back: its answer, whether it tells of a signal, and the new end.
+pub struct Told {
+    pub answer: ReadAnswer,
+    pub signalled: bool,
+    pub end: End,
+}
+
+// What a step hands back: the answer, if one was made, with the new end; and the two lines of its flow.
+pub struct Stepped {
+    pub outcome: Outcome,
+    pub told: Told,
+    pub lines: Pair,
+}
+
 // No call is made, and nothing changes.
-fn unmade(outcome: Outcome, end: End, from: Line, to: Line) -> Stepped
-    ensures { λ r. ⌜ (r .outcome ≡ outcome) × (r .end ≡ end) × (r .from ≡ from) × (r .to ≡ to) ⌝ }
+fn unmade(outcome: Outcome, end: End, lines: Pair) -> Stepped
+    ensures { λ r. ⌜ (r .outcome ≡ outcome) × (r .told .end ≡ end) × (r .lines ≡ lines) ⌝ }
 {
     let none = Answer {
         refusal: 0,
@@ -55,16 +67,19 @@ fn unmade(outcome: Outcome, end: End, from: Line, to: Line) -> Stepped
         more: false,
         mark: WhatReceived::Nothing,
     };
+    let told = Told {
+        answer,
+        signalled: false,
+        end,
+    };
     Stepped {
         outcome,
-        answer,
-        end,
-        from,
-        to,
+        told,
+        lines,
     }
 }
 
-// A call that the end answers by itself.
+// A call that the end answers by itself, with the lines of the flow that its unit joins.
 fn step_call(
     end: End,
     verb: Verb,
@@ -73,67 +88,69 @@ fn step_call(
     unit: &mut [u8],
     inbox: &mut [u8],
     buffer: &mut [u8],
-    from: Line,
-    to: Line,
+    lines: Pair,
     far: &mut [u8],
 ) -> Stepped
     ensures { λ r.
-        ⌜ ((waiting : List ℕ) (es : Log) (us vs : List (List ℕ)) → Holds from waiting us → Holds to (now (far .entry)) vs
-        → Steps (Request.Call verb) (now (given .entry))
-        (benchOf end (now (send .entry)) (now (unit .entry)) (now (inbox .entry)) (now (buffer .entry)) from waiting to (now (far .entry)))
-        (r .outcome) (r .answer)
-        (benchOf (r .end) (now (send .exit)) (now (unit .exit)) (now (inbox .exit)) (now (buffer .exit)) (r .from) waiting (r .to) (now (far .exit)))
-        es us vs) ⌝ }
+        ⌜ ((waiting : List ℕ) (there : Ways) → StepsTo (Request.Call verb) (now (given .entry))
+        (benchOf end (now (send .entry)) (now (unit .entry)) (now (inbox .entry)) (now (buffer .entry))
+        (placed (verbLane verb) (waysOf lines waiting (now (far .entry))) there)) (r .outcome) (r .told .answer) (r .told .signalled)
+        (benchOf (r .told .end) (now (send .exit)) (now (unit .exit)) (now (inbox .exit)) (now (buffer .exit))
+        (placed (verbLane verb) (waysOf (r .lines) waiting (now (far .exit))) there))) ⌝ }
 {
+    let from = lines.from;
+    let to = lines.to;
     if is_full(to) {
-        return unmade(Outcome::Full, end, from, to);
+        return unmade(Outcome::Full, end, lines);
     }
     let done = call(end, verb, given, send, unit, inbox, buffer);
     let answer = done.answer;
     let next = done.end;
     let made = answer.answer;
     let behind = deliver(to, far, unit, made.unit);
+    let told = Told {
+        answer,
+        signalled: false,
+        end: next,
+    };
     Stepped {
         outcome: Outcome::Answered,
-        answer,
-        end: next,
-        from,
-        to: behind,
+        told,
+        lines: Pair { from, to: behind },
     }
 }
 
-// A unit that is given: it is taken or refused, and what it makes, the answer to a bid, joins the line to the other end.
+// A unit that is given: it is taken or refused, and what it makes, the answer to a bid or to a signal, joins the line to the other
+// end.
 fn step_offer(
     end: End,
+    flow: Flow,
     taken: &[u8],
     unit: &mut [u8],
     inbox: &mut [u8],
-    from: Line,
-    to: Line,
+    lines: Pair,
     far: &mut [u8],
 ) -> Stepped
     ensures { λ r.
-        ⌜ ((send buffer waiting : List ℕ) (es : Log) (us vs : List (List ℕ)) → Holds from waiting us → Holds to (now (far .entry)) vs
-        → Steps Request.Offer (now (taken .entry))
-        (benchOf end send (now (unit .entry)) (now (inbox .entry)) buffer from waiting to (now (far .entry)))
-        (r .outcome) (r .answer)
-        (benchOf (r .end) send (now (unit .exit)) (now (inbox .exit)) buffer (r .from) waiting (r .to) (now (far .exit)))
-        es us vs) ⌝ }
+        ⌜ ((send buffer waiting : List ℕ) (there : Ways) → StepsTo (Request.Offer flow) (now (taken .entry))
+        (benchOf end send (now (unit .entry)) (now (inbox .entry)) buffer
+        (placed (flowLane flow) (waysOf lines waiting (now (far .entry))) there)) (r .outcome) (r .told .answer) (r .told .signalled)
+        (benchOf (r .told .end) send (now (unit .exit)) (now (inbox .exit)) buffer
+        (placed (flowLane flow) (waysOf (r .lines) waiting (now (far .exit))) there))) ⌝ }
 {
+    let from = lines.from;
+    let to = lines.to;
     if is_full(to) {
-        return unmade(Outcome::Full, end, from, to);
+        return unmade(Outcome::Full, end, lines);
     }
-    let done = plain(end.receive_unit(taken, inbox, unit));
-    let answer = done.answer;
-    let next = done.end;
+    let told = take(end, flow, taken, inbox, unit);
+    let answer = told.answer;
     let made = answer.answer;
     let behind = deliver(to, far, unit, made.unit);
     Stepped {
         outcome: Outcome::Answered,
-        answer,
-        end: next,
-        from,
-        to: behind,
+        told,
+        lines: Pair { from, to: behind },
     }
 }
 
@@ -151,45 +168,75 @@ fn accepted(outcome: Outcome, refusal: u8) -> bool
 // A take of the oldest unit: it is offered, and goes from the line unless it is refused.
 fn step_take(
     end: End,
+    flow: Flow,
     unit: &mut [u8],
     inbox: &mut [u8],
-    from: Line,
+    lines: Pair,
     waiting: &mut [u8],
-    to: Line,
     far: &mut [u8],
 ) -> Stepped
     ensures { λ r.
-        ⌜ ((given send buffer : List ℕ) (es : Log) (us vs : List (List ℕ))
-        → Holds from (now (waiting .entry)) us → Holds to (now (far .entry)) vs → Steps Request.Take given
-        (benchOf end send (now (unit .entry)) (now (inbox .entry)) buffer from (now (waiting .entry)) to (now (far .entry)))
-        (r .outcome) (r .answer)
-        (benchOf (r .end) send (now (unit .exit)) (now (inbox .exit)) buffer (r .from) (now (waiting .exit)) (r .to) (now (far .exit))) es us vs) ⌝ }
+        ⌜ ((given send buffer : List ℕ) (there : Ways) → StepsTo (Request.Take flow) given
+        (benchOf end send (now (unit .entry)) (now (inbox .entry)) buffer
+        (placed (flowLane flow) (waysOf lines (now (waiting .entry)) (now (far .entry))) there)) (r .outcome) (r .told .answer) (r .told .signalled)
+        (benchOf (r .told .end) send (now (unit .exit)) (now (inbox .exit)) buffer
+        (placed (flowLane flow) (waysOf (r .lines) (now (waiting .exit)) (now (far .exit))) there))) ⌝ }
 {
+    let from = lines.from;
     let past = oldest_end(from, waiting);
     if past == 0 {
-        return unmade(Outcome::NothingWaiting, end, from, to);
+        return unmade(Outcome::NothingWaiting, end, lines);
     }
-    let offered = step_offer(end, &waiting[2..past], unit, inbox, from, to, far);
+    let offered = step_offer(end, flow, &waiting[2..past], unit, inbox, lines, far);
     let outcome = offered.outcome;
-    let answer = offered.answer;
+    let told = offered.told;
+    let answer = told.answer;
     let given = answer.answer;
     if accepted(outcome, given.refusal) {
-        let next = offered.end;
-        let behind = offered.to;
+        let behind = offered.lines;
+        let to = behind.to;
         let rest = remove_oldest(from, waiting);
         Stepped {
             outcome,
-            answer,
-            end: next,
-            from: rest,
-            to: behind,
+            told,
+            lines: Pair { from: rest, to },
         }
     } else {
         offered
     }
 }
 
-// Makes the request at this end. `from` in `waiting` is the line to it, `to` in `far` the line to the other end.
+// The flow that a call's unit joins: one call alone makes an expedited unit.
+fn verb_flow(verb: Verb) -> Flow
+    ensures { λ r. ⌜ flowLane r ≡ verbLane verb ⌝ }
+{
+    match verb {
+        Verb::Allocate => Flow::Normal,
+        Verb::Confirmed => Flow::Normal,
+        Verb::SendError => Flow::Normal,
+        Verb::RequestToSend => Flow::Expedited,
+        Verb::SendPacingResponse => Flow::Normal,
+        Verb::SendData => Flow::Normal,
+        Verb::Close(_, _) => Flow::Normal,
+        Verb::Defer(_) => Flow::Normal,
+        Verb::Withdraw => Flow::Normal,
+        Verb::Receive => Flow::Normal,
+    }
+}
+
+// The flow whose lines a request is lent.
+pub fn request_flow(request: Request) -> Flow
+    ensures { λ r. ⌜ flowLane r ≡ laneOf request ⌝ }
+{
+    match request {
+        Request::Call(verb) => verb_flow(verb),
+        Request::Take(flow) => flow,
+        Request::Offer(flow) => flow,
+    }
+}
+
+// Makes the request at this end, with the lines of its flow: the line to this end in `waiting`, the line to the other end in `far`.
+// Those of the other flow, `there`, stay as they are.
 pub fn step(
     end: End,
     request: Request,
@@ -198,34 +245,22 @@ pub fn step(
     unit: &mut [u8],
     inbox: &mut [u8],
     buffer: &mut [u8],
-    from: Line,
+    lines: Pair,
     waiting: &mut [u8],
-    to: Line,
     far: &mut [u8],
 ) -> Stepped
     ensures { λ r.
-        ⌜ ((es : Log) (us vs : List (List ℕ)) → Holds from (now (waiting .entry)) us → Holds to (now (far .entry)) vs
-        → Steps request (now (given .entry))
+        ⌜ ((there : Ways) → StepsTo request (now (given .entry))
         (benchOf end (now (send .entry)) (now (unit .entry)) (now (inbox .entry)) (now (buffer .entry))
-        from (now (waiting .entry)) to (now (far .entry))) (r .outcome) (r .answer)
-        (benchOf (r .end) (now (send .exit)) (now (unit .exit)) (now (inbox .exit)) (now (buffer .exit))
-        (r .from) (now (waiting .exit)) (r .to) (now (far .exit)))
-        es us vs) ⌝ }
+        (placed (laneOf request) (waysOf lines (now (waiting .entry)) (now (far .entry))) there)) (r .outcome) (r .told .answer) (r .told .signalled)
+        (benchOf (r .told .end) (now (send .exit)) (now (unit .exit)) (now (inbox .exit)) (now (buffer .exit))
+        (placed (laneOf request) (waysOf (r .lines) (now (waiting .exit)) (now (far .exit))) there))) ⌝ }
 {
     match request {
-        Request::Call(verb) => step_call(
-            end,
-            verb,
-            given,
-            send,
-            unit,
-            inbox,
-            buffer,
-            from,
-            to,
-            far,
-        ),
-        Request::Take => step_take(end, unit, inbox, from, waiting, to, far),
-        Request::Offer => step_offer(end, given, unit, inbox, from, to, far),
+        Request::Call(verb) => {
+            step_call(end, verb, given, send, unit, inbox, buffer, lines, far)
+        }
+        Request::Take(flow) => step_take(end, flow, unit, inbox, lines, waiting, far),
+        Request::Offer(flow) => step_offer(end, flow, given, unit, inbox, lines, far),
     }
 }

@@ -8,7 +8,10 @@ use Rattle.calls.proofs.CallWords.{sendPacingResponseDecision}
 use Rattle.calls.proofs.CallWords.{sendPacingResponse, bytesRead, inboxMoved, someHeld, receiveRefusal, markRead, receiveDecision, receive, ruReceived}
 use Rattle.calls.proofs.CallWords.{dataJoined}
 use Rattle.calls.proofs.CallWords.{bidAnswered, creditRaised, headerReceived, receiveUnitRefusal, receiveUnitDecision, receiveUnit, End, ReadDone, facts}
-use Rattle.calls.proofs.CallWords.{Called, Station, Verb, called, taken}
+use Rattle.calls.proofs.CallWords.{Called, Station, Verb, called, taken, takenExpedited}
+use Rattle.calls.proofs.CallWords.{receiveExpeditedRefusal, receiveExpeditedDecision, receiveExpedited, withExpedited, unitTaken, headerTaken}
+use Rattle.expedited.specs.declared.Expedited.{Expedited}
+use Rattle.end.specs.ReceiveExpedited.{answerTo}
 use mathlib.Core.Path.{subst}
 use Rattle.header.specs.declared.Header.the-variants.{Data, Bid, ErrorDescription, PositiveBidResponse, NegativeBidResponse, Confirmation}
 use Rattle.header.specs.declared.Header.the-variants.{NegativeConfirmation, PacingResponse}
@@ -27,7 +30,7 @@ use Rattle.end.specs.Receive.{copyCount}
 use Rattle.end.specs.ReceiveUnit.{headQuestions, kindQuestions, kindReceived, kindJoined, inboxCells}
 use Rattle.calls.specs.Calls.{copies, makes}
 use Rattle.calls.specs.DeferLaws.{inDefer}
-use Rattle.calls.proofs.CallCases.{DeferAsked, tookOf, withEnd}
+use Rattle.calls.proofs.CallCases.{DeferAsked, tookOf, tookExpedited, withEnd}
 use Rattle.calls.proofs.Prepared.{preparedEnd, prepared-good}
 
 -- ---- a pacing answer made
@@ -198,3 +201,26 @@ took-same s d u a =
 pub take-same : (s : Station) (d : Deferred) (u : List ℕ) → DeferAsked s → taken (withEnd s (preparedEnd (s .end) d)) u ≡ inDefer d (taken s u)
 take-same s d u a =
     subst (λ (x : Station). DeferAsked x → taken (withEnd x (preparedEnd (x .end) d)) u ≡ inDefer d (taken x u)) (in-send s a) (took-same s d u) a
+
+-- ---- a take on the expedited line
+
+-- one decision, the records being those of Send and of Defer
+expedited-alike : (t : Bool) (q : ℕ) (s : Station) (d : Deferred) (u : List ℕ) (x : Expedited) (out : Out)
+    → let p = preparedEnd (s .end) d in
+    tookExpedited (withEnd s p) u (cond t (accept (withExpedited x p) out) (refuse q p))
+    ≡ inDefer d (tookExpedited s u (cond t (accept (withExpedited x (s .end)) out) (refuse q (s .end))))
+expedited-alike true q s d u x out = refl
+expedited-alike false q s d u x out = refl
+
+same-expedited-refusal : (s : Station) (d : Deferred) (u : List ℕ) (unit : ℕ) → DeferAsked s
+    → receiveExpeditedRefusal (preparedEnd (s .end) d) u unit ≡ receiveExpeditedRefusal (s .end) u unit
+unfolding receiveExpeditedRefusal
+same-expedited-refusal s d u unit a = rw (prepared-good s d a ∙ sym (a .good))
+
+pub expedited-same : (s : Station) (d : Deferred) (u : List ℕ) → DeferAsked s
+    → takenExpedited (withEnd s (preparedEnd (s .end) d)) u ≡ inDefer d (takenExpedited s u)
+unfolding takenExpedited receiveExpedited receiveExpeditedDecision
+expedited-same s d u a =
+    let q = receiveExpeditedRefusal (s .end) u (length (s .unit)) in
+    rw (same-expedited-refusal s d u (length (s .unit)) a)
+    (expedited-alike (eqb q 0) q s d u (unitTaken (headerTaken u) (numberIn u) (s .end .expedited)) (answerTo (headerTaken u) (numberIn u)))

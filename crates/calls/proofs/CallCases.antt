@@ -16,7 +16,16 @@ use Rattle.calls.proofs.CallWords.{confirmedRefusal, confirmedDecision,
 use Rattle.calls.proofs.CallWords.{sendPacingResponseRefusal, sendPacingResponseDecision, sendPacingResponse, bytesRead, inboxMoved, someHeld}
 use Rattle.calls.proofs.CallWords.{receiveRefusal, markRead, receiveDecision, receive, ruReceived, dataJoined, bidAnswered, creditRaised, headerReceived}
 use Rattle.calls.proofs.CallWords.{receiveUnitRefusal, receiveUnitDecision, receiveUnit, recordGood, dataHeader, heldBytes, gone, bytesKept}
-use Rattle.calls.proofs.CallWords.{bytesSpilled, sendRefusal, sendDecision, sendData, End, ReadDone, facts, Called, Station, Verb, called, taken}
+use Rattle.calls.proofs.CallWords.{bytesSpilled, sendRefusal, sendDecision, sendData, End, ReadDone, facts, Called, Station, Verb, called, taken, takenExpedited}
+use Rattle.calls.proofs.CallWords.{ExpeditedHeader, Signal, SignalResponse, expeditedRu, expeditedOf, expedited-length, withExpedited, signalMade, signalTaken}
+use Rattle.calls.proofs.CallWords.{responseTaken, unitTaken, headerTaken, ruleTaken, requestRefusal, requestDecision, requestToSend}
+use Rattle.calls.proofs.CallWords.{receiveExpeditedRefusal, receiveExpeditedDecision, receiveExpedited}
+use borrow.Author.Tests.{not-true}
+use Rattle.control.specs.Questions.{mayRequest}
+use Rattle.expedited.specs.Takes.{takeQuestions}
+use Rattle.expedited.specs.declared.Expedited.{Expedited}
+use Rattle.end.specs.RequestToSend.{requestQuestions}
+use Rattle.end.specs.ReceiveExpedited.{lentQuestions, answerTo, expeditedDone}
 use lib.Dec.{T}
 use lib.ListN.{getD}
 use Rattle.cells.proofs.Fronts.{front-bytes}
@@ -49,7 +58,7 @@ use Rattle.bools.proofs.Cases.{never}
 use Rattle.calls.proofs.ControlMoved.{Moved, bid-moves, error-moves, positive-response-moves, negative-response-moves, confirmation-moves}
 use Rattle.calls.proofs.ControlMoved.{negative-confirmation-moves}
 use Rattle.calls.proofs.UnitsByHeader.{Sort, brings, asks, tells, answers, paces, sortOf}
-use Rattle.calls.specs.Calls.{copies, hands, makes, plain, sends, unitsOf}
+use Rattle.calls.specs.Calls.{copies, expeditedReply, hands, makes, plain, readReply, sends, signals, unitsOf}
 
 -- question 5 of the finite part
 pub control-within : (e : End) → recordGood e ≡ true → controlGood (e .control) ≡ true
@@ -58,7 +67,7 @@ control-within e g = control-good (e .control) (facts e g .control)
 -- ---- a refused call
 
 abbrev pub refusedAct : Station → ℕ → Called
-refusedAct s q = record { end = s; answer = plain (refused q); sent = [] }
+refusedAct s q = record { end = s; answer = plain (refused q); sent = []; expedited = [] }
 
 -- ---- a unit made is what the caller finds at the front of the unit buffer
 
@@ -74,7 +83,7 @@ abbrev pub withEnd : Station → End → Station
 withEnd s e = record { end = e; send = s .send; unit = s .unit; inbox = s .inbox }
 
 abbrev pub quietAct : Station → End → Called
-quietAct s e = record { end = withEnd s e; answer = plain (accepted 0); sent = [] }
+quietAct s e = record { end = withEnd s e; answer = plain (accepted 0); sent = []; expedited = [] }
 
 abbrev pub unitAct : Station → End → ℕ → Header → List ℕ → Called
 unitAct s e n h ru =
@@ -82,6 +91,7 @@ unitAct s e n h ru =
       end = record { end = e; send = s .send; unit = front (unitOf n h ru) (s .unit); inbox = s .inbox };
       answer = plain (accepted (RU-START + length ru));
       sent = unitOf n h ru ∷ [];
+      expedited = [];
     }
 
 made-unit : (P : Called → Type 0) (s : Station) (e : End) (n : ℕ) (h : Header) (ru : List ℕ)
@@ -138,6 +148,7 @@ keptAct s bytes =
       end = record { end = bytesKept (s .end) bytes .end; send = written (s .end .sending .held) bytes (s .send); unit = s .unit; inbox = s .inbox };
       answer = plain (accepted 0);
       sent = [];
+      expedited = [];
     }
 
 -- the RU of the unit that goes out where they are not
@@ -159,6 +170,7 @@ spilledAct s bytes =
           };
       answer = plain (accepted (RU-START + length (spilledRu s bytes)));
       sent = spilledUnit s bytes ∷ [];
+      expedited = [];
     }
 
 -- what an accepted send data has been asked
@@ -343,6 +355,91 @@ send-error-cases P s refuses goes =
     decided-cases P s (confirmedQuestions e (length (s .unit))) _ tt refuses
     (λ t. made-unit P s (withControl (confirmationDenied (e .control)) e) (e .owed) NegativeConfirmation negativeConfirmationRu (goes (t 1) (t 2)))
 
+-- ---- request to send
+
+pub signal-out : (n : ℕ) (h : ExpeditedHeader) (cells : List ℕ)
+    → unitsOf (RU-START + length (expeditedRu h)) (front (expeditedOf n h) cells) ≡ expeditedOf n h ∷ []
+signal-out n h cells =
+    let l = expedited-length n h in
+    let t : take (RU-START + length (expeditedRu h)) (front (expeditedOf n h) cells) ≡ expeditedOf n h =
+    ap (λ (k : ℕ). take k (front (expeditedOf n h) cells)) (sym l) ∙ front-bytes (expeditedOf n h) cells in
+    rw (ne-eqb (RU-START + length (expeditedRu h)) 0 (λ z. omega arith), t)
+
+-- a unit for the expedited line, with what is kept of these lines then; the program is told, or not
+abbrev pub signalAct : Station → Expedited → ℕ → ExpeditedHeader → Bool → Called
+signalAct s x n h told =
+    record {
+      end = record { end = withExpedited x (s .end); send = s .send; unit = front (expeditedOf n h) (s .unit); inbox = s .inbox };
+      answer = expeditedReply (record { answer = accepted (RU-START + length (expeditedRu h)); signalled = told });
+      sent = [];
+      expedited = expeditedOf n h ∷ [];
+    }
+
+-- what an accepted request to send has been asked
+pub record RequestToSendAsked (s : Station) : Type 0 where
+  pub good : recordGood (s .end) ≡ true
+  pub state : mayRequest (s .end .control) ≡ true
+  pub quiet : s .end .expedited .unanswered ≡ false
+
+pub request-cases :
+    (P : Called → Type 0) (s : Station)
+    → ((q : ℕ) → eqb q 0 ≡ false → P (refusedAct s q))
+    → (RequestToSendAsked s → P (signalAct s (signalMade (s .end .expedited)) (nextNumber (s .end .expedited .sent)) Signal false))
+    → P (called s Verb.requestToSend)
+unfolding called requestToSend requestDecision requestRefusal
+request-cases P s refuses goes =
+    let e = s .end in
+    let qs = requestQuestions e (length (s .unit)) in
+    cases (λ (d : Decision). P (signals s (made d (s .unit)))) (eqb (firstNo qs) 0)
+    (λ y.
+    let t = yes qs tt (eqb-true (firstNo qs) 0 y) in
+    rw (signal-out (nextNumber (e .expedited .sent)) Signal (s .unit))
+    (goes (record { good = t 1; state = t 2; quiet = not-true (e .expedited .unanswered) (t 3) })))
+    (λ y. rw y (refuses (firstNo qs) y))
+
+-- ---- take, on the expedited line
+
+-- what an accepted one has been asked
+pub record ExpeditedAsked (s : Station) (u : List ℕ) : Type 0 where
+  pub good : recordGood (s .end) ≡ true
+  pub asked : firstNo (takeQuestions (s .end .expedited) u) ≡ 0
+
+abbrev pub refusedExpedited : Station → List ℕ → ℕ → Called
+refusedExpedited s u q =
+    record { end = s; answer = expeditedReply (record { answer = refusedNaming (ruleTaken u) q; signalled = false }); sent = []; expedited = [] }
+
+-- what is left by its decision
+abbrev pub tookExpedited : Station → List ℕ → Decision → Called
+tookExpedited s u d =
+    record {
+      end = record { end = d .end; send = s .send; unit = cellsOut (d .out) (s .unit); inbox = s .inbox };
+      answer = expeditedReply (expeditedDone u d .answer);
+      sent = [];
+      expedited = unitsOf (expeditedDone u d .answer .answer .unit) (cellsOut (d .out) (s .unit));
+    }
+
+pub expedited-cases :
+    (P : Called → Type 0) (s : Station) (u : List ℕ)
+    → ((q : ℕ) → q ≡ receiveExpeditedRefusal (s .end) u (length (s .unit)) → eqb q 0 ≡ false → P (refusedExpedited s u q))
+    → (ExpeditedAsked s u → headerTaken u ≡ Signal → P (signalAct s (signalTaken (numberIn u) (s .end .expedited)) (numberIn u) SignalResponse true))
+    → (ExpeditedAsked s u → headerTaken u ≡ SignalResponse → P (quietAct s (withExpedited (responseTaken (s .end .expedited)) (s .end))))
+    → P (takenExpedited s u)
+unfolding takenExpedited receiveExpedited receiveExpeditedDecision receiveExpeditedRefusal
+expedited-cases P s u refuses told cleared =
+    let e = s .end in
+    let q : ℕ = receiveExpeditedRefusal e u (length (s .unit)) in
+    cases (λ (d : Decision). P (tookExpedited s u d)) (eqb q 0)
+    (λ y.
+    let both = pass-both (lentQuestions e (length (s .unit))) (takeQuestions (e .expedited) u) tt (eqb-true q 0 y) in
+    let t = yes (lentQuestions e (length (s .unit))) tt (both .0) in
+    by (headerTaken u) refl (record { good = t 1; asked = both .1 }))
+    (λ y. rw (y, y) (refuses q refl y))
+  where
+    by : (h : ExpeditedHeader) → headerTaken u ≡ h → ExpeditedAsked s u
+        → P (tookExpedited s u (accept (withExpedited (unitTaken h (numberIn u) (s .end .expedited)) (s .end)) (answerTo h (numberIn u))))
+    by Signal k a = rw (k, signal-out (numberIn u) SignalResponse (s .unit)) (told a k)
+    by SignalResponse k a = rw k (cleared a k)
+
 -- ---- send pacing response
 
 pub pacing-response-cases :
@@ -370,7 +467,7 @@ abbrev pub readCount : Station → List ℕ → ℕ
 readCount s buffer = copyCount (s .end) (s .inbox) (length buffer)
 
 abbrev pub refusedRead : Station → ℕ → List ℕ → Called
-refusedRead s q buffer = record { end = s; answer = record { answer = readRefused q; buffer = buffer }; sent = [] }
+refusedRead s q buffer = record { end = s; answer = readReply (readRefused q) buffer; sent = []; expedited = [] }
 
 abbrev pub bytesAct : Station → List ℕ → Called
 bytesAct s buffer =
@@ -383,16 +480,18 @@ bytesAct s buffer =
             inbox = inboxMoved (s .end) (readCount s buffer) (s .inbox);
           };
       answer =
-          record { answer = bytesRead (s .end) (readCount s buffer) (s .inbox) .answer; buffer = front (take (readCount s buffer) (s .inbox)) buffer };
+          readReply (bytesRead (s .end) (readCount s buffer) (s .inbox) .answer) (front (take (readCount s buffer) (s .inbox)) buffer);
       sent = [];
+      expedited = [];
     }
 
 abbrev pub markAct : Station → List ℕ → Called
 markAct s buffer =
     record {
       end = withEnd s (withControl (markAnswered (s .end .control)) (s .end));
-      answer = record { answer = markRead (s .end) .answer; buffer = buffer };
+      answer = readReply (markRead (s .end) .answer) buffer;
       sent = [];
+      expedited = [];
     }
 
 pub read-cases :
@@ -441,6 +540,7 @@ joinedAct s d n ru =
       end = record { end = dataJoined (s .end) d n ru .end; send = s .send; unit = s .unit; inbox = written (s .end .receiving .held) ru (s .inbox) };
       answer = plain (accepted 0);
       sent = [];
+      expedited = [];
     }
 
 -- a bid is answered under its own number
@@ -474,6 +574,7 @@ tookOf s u d inbox =
       end = record { end = d .end; send = s .send; unit = cellsOut (d .out) (s .unit); inbox = inbox };
       answer = plain (answerNaming u d);
       sent = unitsOf (answerNaming u d .unit) (cellsOut (d .out) (s .unit));
+      expedited = [];
     }
 
 took-kind :
@@ -519,7 +620,7 @@ pub record TakeAsked (s : Station) (u : List ℕ) : Type 0 where
   pub header : headerGood (headerIn u) ≡ true
 
 abbrev pub refusedTake : Station → List ℕ → ℕ → Called
-refusedTake s u q = record { end = s; answer = plain (refusedNaming (ruleNamed u) q); sent = [] }
+refusedTake s u q = record { end = s; answer = plain (refusedNaming (ruleNamed u) q); sent = []; expedited = [] }
 
 -- a take, by the kind of the unit
 pub kind-cases :

@@ -4,14 +4,14 @@ use Rattle.calls.proofs.CallWords.{ℕ, _<_, eqb, take, drop, Bool, tru
 use Rattle.calls.proofs.CallWords.{Header, bidRu, fixedRu, RU-START, unitOf, numberIn, paced, bidAnswer, nextNumber, bidMade, closing, errorRu, negativeConfirmationRu}
 use Rattle.calls.proofs.CallWords.{bytesRead, errorMarked}
 use Rattle.calls.proofs.CallWords.{inboxMoved, ruReceived, dataJoined, bidAnswered, creditRaised, dataHeader, heldBytes, gone, bytesKept, bytesSpilled}
-use Rattle.calls.proofs.CallWords.{Called, Station, Verb, called, taken, AllBytes, BytesOf}
+use Rattle.calls.proofs.CallWords.{Called, Station, Verb, called, taken, takenExpedited, AllBytes, BytesOf}
 use Rattle.header.specs.declared.Header.the-variants.{Bid, ErrorDescription, Confirmation, NegativeConfirmation, PacingResponse}
 use Rattle.end.specs.Receive.{inboxBytes}
 use Rattle.calls.proofs.ByteLists.{none-bytes, take-bytes, drop-bytes, append-bytes, front-bytes-all, written-bytes-all, next-small, number-small}
 use Rattle.calls.proofs.ByteLists.{AllUnits}
 use Rattle.calls.proofs.UnitsByHeader.{unit-bytes, fixed-ru}
 use Rattle.calls.proofs.CallCases.{allocate-cases, bidNumber, send-cases, spilledRu, close-cases, confirmed-cases, pacing-response-cases, read-cases}
-use Rattle.calls.proofs.CallCases.{send-error-cases, defer-cases, withdraw-cases, readCount, take-cases}
+use Rattle.calls.proofs.CallCases.{send-error-cases, request-cases, expedited-cases, defer-cases, withdraw-cases, readCount, take-cases}
 
 -- ---- the cells and units are bytes, and the number owed is one of two bytes
 
@@ -88,6 +88,7 @@ module _ (s : Station) (c : Cells s) where
   cells-acts Verb.sendPacingResponse b =
       pacing-response-cases After s (λ q n. (c, tt))
       (λ g a. (c, one-unit 0 PacingResponse [] (omega arith) none-bytes))
+  cells-acts Verb.requestToSend b = request-cases After s (λ q n. (c, tt)) (λ a. (c, tt))
   cells-acts (Verb.sendData bytes) b = gives bytes b
   cells-acts (Verb.close f x) b = closes f x
   cells-acts (Verb.defer d) b = defer-cases After s d (λ q n. (c, tt)) (λ a. (c, tt))
@@ -111,3 +112,6 @@ module _ (s : Station) (c : Cells s) where
       take-cases After s u (λ q w x. (c, tt))
       (λ d a e k. (record { send = c .send; inbox = joined; owed = owed-small (confirms (d .ends)) (numberIn u) n }, tt))
       (λ p a e k m. (c, one-unit (numberIn u) h (fixedRu h) n (fixed-ru h .1))) (λ p a e k m. (c, tt)) (λ x a e m. (c, tt)) (λ a e k. (c, tt))
+
+  pub cells-takes-expedited : (u : List ℕ) → After (takenExpedited s u)
+  cells-takes-expedited u = expedited-cases After s u (λ q w x. (c, tt)) (λ a k. (c, tt)) (λ a k. (c, tt))

@@ -4,13 +4,13 @@ use Rattle.calls.proofs.CallWords.{ℕ, _+_, _*_, eqb, Bool, true, fals
 use Rattle.calls.proofs.CallWords.{Header, bidRu, unitOf, paced, hasCredit, advanced, answered, requestReceived, requestMade, nextNumber, bidMade}
 use Rattle.calls.proofs.CallWords.{closing, bytesRead, markRead, dataJoined, bidAnswered, creditRaised, recordGood, dataHeader, heldBytes}
 use Rattle.calls.proofs.CallWords.{bytesKept, errorRu, negativeConfirmationRu, errorMarked}
-use Rattle.calls.proofs.CallWords.{bytesSpilled, facts, Called, Station, Verb, called, taken, refusalIn, count, isPacingResponse, isRequest}
+use Rattle.calls.proofs.CallWords.{bytesSpilled, facts, Called, Station, Verb, called, taken, takenExpedited, refusalIn, count, isPacingResponse, isRequest}
 use Rattle.calls.proofs.CallWords.{requestsAmong}
 use Rattle.header.specs.declared.Header.the-variants.{Bid, ErrorDescription, Confirmation, NegativeConfirmation, PacingResponse}
 use Rattle.pacing.specs.Pacing.{credit}
 use Rattle.end.specs.Record.{creditOf, openOf}
 use Rattle.calls.proofs.CallCases.{allocate-cases, bidNumber, close-cases, confirmed-cases, pacing-response-cases, read-cases, send-cases, spilledRu}
-use Rattle.calls.proofs.CallCases.{send-error-cases, defer-cases, withdraw-cases, take-cases}
+use Rattle.calls.proofs.CallCases.{send-error-cases, request-cases, expedited-cases, defer-cases, withdraw-cases, take-cases}
 use Rattle.calls.proofs.UnitsByHeader.{sortOf, isAsking, pacing-taken, request-received, requests-unit}
 use Rattle.calls.specs.Laws.{CreditExact, isSendPacingResponse}
 use Rattle.pacing.proofs.Windows.{request-costs, response-raises}
@@ -77,6 +77,7 @@ module _ (s : Station) where
       (λ a n k.
       request-made s (nextNumber (s .end .sending .number)) (dataHeader (s .end) (Last x b)) (heldBytes (s .end) (s .send))
       (data-asks s (Last x b)) (a .good) k)
+  request-costs-one Verb.requestToSend = request-cases Costs s (λ q n. free) (λ a. free)
   request-costs-one (Verb.defer d) = defer-cases Costs s d (λ q n. free) (λ a. free)
   request-costs-one Verb.withdraw = withdraw-cases Costs s (λ q n. free) (λ g a. free)
   request-costs-one (Verb.receive buffer) = read-cases Costs s buffer (λ q w n. free) (λ a h. free) (λ a h m. free)
@@ -92,6 +93,7 @@ module _ (s : Station) where
   unfolding called bidMade bytesKept bytesSpilled requestMade bytesRead markRead
   pacing-response-opens Verb.allocate = allocate-cases (Opens Verb.allocate) s (λ q n. rw n same) (λ g a w. same) (λ g a w k. same)
   pacing-response-opens Verb.confirmed = confirmed-cases (Opens Verb.confirmed) s (λ q n. rw n same) (λ g a. same)
+  pacing-response-opens Verb.requestToSend = request-cases (Opens Verb.requestToSend) s (λ q n. rw n same) (λ a. same)
   pacing-response-opens Verb.sendError = send-error-cases (Opens Verb.sendError) s (λ q n. rw n same) (λ g a. same)
   pacing-response-opens Verb.sendPacingResponse =
       let w = s .end .receiving .window in
@@ -132,6 +134,12 @@ module _ (s : Station) (u : List ℕ) where
       (λ p a e k m. rw (request-received u (a .header), e) (request-costs w (facts (s .end) (a .good) .receiving .window) (k .credit)))
       (λ c a e m. rw (request-received u (a .header), e) same) (λ a e k. rw (request-received u (a .header), e) same)
 
+  -- on the expedited line neither moves
+  unmoved : (creditOf (takenExpedited s u .end .end) ≡ creditOf (s .end)) × (openOf (takenExpedited s u .end .end) ≡ openOf (s .end))
+  unmoved =
+      expedited-cases (λ (t : Called). (creditOf (t .end .end) ≡ creditOf (s .end)) × (openOf (t .end .end) ≡ openOf (s .end))) s u
+      (λ q w n. (refl, refl)) (λ a k. (refl, refl)) (λ a k. (refl, refl))
+
 pub credit-exact : CreditExact
 credit-exact =
     record {
@@ -139,4 +147,5 @@ credit-exact =
       answered = λ s u. response-raises-window s u;
       received = λ s u. request-lowers-one s u;
       paced = λ s v. pacing-response-opens s v;
+      expedited = λ s u. unmoved s u;
     }

@@ -86,6 +86,7 @@ module _ (s : Station) (y : ErrorDue s) where
   stops Verb.allocate w = never w
   stops Verb.confirmed w = never w
   stops Verb.sendError w = never w
+  stops Verb.requestToSend w = never w
   stops Verb.sendPacingResponse w = never w
   stops Verb.withdraw w = never w
   stops (Verb.sendData bytes) w = (tt, rw may-not-send)

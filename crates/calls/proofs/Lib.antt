@@ -14,3 +14,4 @@ pub mod Prepared
 pub mod AsInSend
 pub mod DeferLaws
 pub mod ErrorLaws
+pub mod ExpeditedLaws

@@ -20,7 +20,7 @@ use Rattle.control.specs.FieldChanged.{setState}
 use Rattle.control.specs.declared.State.{State}
 use Rattle.control.specs.declared.Deferred.the-variants as deferral
 use Rattle.control.proofs.Within.{error-in-send}
-use Rattle.control.proofs.States.{in-defer, send-is, sending-clear}
+use Rattle.control.proofs.States.{in-defer, holding-not-receive, send-is, sending-clear}
 use Rattle.transitions.proofs.KeptWithin.{deferred-defers, deferred-keeps}
 use Rattle.answers.proofs.Rows.{numbered, one}
 use Rattle.end.specs.Record.{sendLent, unitLent}
@@ -102,9 +102,9 @@ close-decides e f b send unit m = rw (close-number e f b (length send) unit m, m
 same-decision : (t : Bool) (q : ℕ) (s : Station) (e : End) (d : Decision) → eqb q 0 ≡ t
     → CarriedOut (makes (withEnd s e) (made (cond t d (refuse q e)) (s .unit))) (makes s (made (cond t d (refuse q (s .end))) (s .unit)))
 same-decision true q s e d z =
-    record { answer = refl; sent = refl; send-buffer = refl; unit-buffer = refl; inbox = refl; end = λ h. refl }
+    record { answer = refl; sent = refl; expedited = refl; send-buffer = refl; unit-buffer = refl; inbox = refl; end = λ h. refl }
 same-decision false q s e d z =
-    record { answer = refl; sent = refl; send-buffer = refl; unit-buffer = refl; inbox = refl; end = λ h. absurd (eqb-false q 0 z (rw z at h)) }
+    record { answer = refl; sent = refl; expedited = refl; send-buffer = refl; unit-buffer = refl; inbox = refl; end = λ h. absurd (eqb-false q 0 z (rw z at h)) }
 
 -- the last unit and the record after it, made from the record as prepared
 same-last : (e : End) (d : Deferred) (b : Bool) (send : List ℕ) → e .control .error ≡ false
@@ -203,6 +203,7 @@ module _ (s : Station) (h : isDefer (s .end .control .state) ≡ true) where
   stops Verb.allocate a = (tt, rw (in-defer _ h .not-reset))
   stops Verb.confirmed a = (tt, rw (in-defer _ h .not-owed))
   stops Verb.sendError a = (tt, rw (in-defer _ h .not-owed))
+  stops Verb.requestToSend a = (tt, rw (holding-not-receive (s .end .control .state) (in-defer (s .end .control .state) h .holds), in-defer _ h .not-owed))
   stops Verb.sendPacingResponse a = never (sym a)
   stops Verb.withdraw a = never (sym a)
   stops (Verb.sendData bytes) a = (tt, rw (in-defer _ h .not-send))
@@ -241,6 +242,7 @@ module _ (s : Station) (h : isDefer (s .end .control .state) ≡ true) where
   never-7 Verb.allocate a = cc
   never-7 Verb.confirmed a = cc
   never-7 Verb.sendError a = cc
+  never-7 Verb.requestToSend a = cc
   never-7 Verb.sendPacingResponse a = by-row Verb.sendPacingResponse refl
   never-7 Verb.withdraw a = by-row Verb.withdraw (rw h)
   never-7 (Verb.sendData bytes) a = cc

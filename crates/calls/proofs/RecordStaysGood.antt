@@ -6,7 +6,8 @@ use Rattle.calls.proofs.CallWords.{closing, deferred, withdrawn, contro
 use Rattle.calls.proofs.CallWords.{requestReceived, _||_, or-right, holdsSend, closed, confirmationDenied, errorMade, errorMarked}
 use Rattle.calls.proofs.CallWords.{windowAnswered, requestMade, bidMade, withControl, withReceiving, bytesRead, ruReceived, dataJoined}
 use Rattle.calls.proofs.CallWords.{bidAnswered, creditRaised, recordGood, gone, bytesKept, bytesSpilled, End, facts, Called, Station, Verb, called}
-use Rattle.calls.proofs.CallWords.{taken, AllBytes, BytesOf}
+use Rattle.calls.proofs.CallWords.{taken, takenExpedited, withExpedited, AllBytes, BytesOf}
+use Rattle.expedited.specs.declared.Expedited.{Expedited}
 use Prim.Native.Nat.{_-_}
 use mathlib.Core.Path.{subst}
 use mathlib.Core.Bool.{and-false}
@@ -24,10 +25,10 @@ use Rattle.session.specs.declared.Session.{Session}
 use Rattle.bools.proofs.Cases.{split}
 use Rattle.calls.proofs.ByteLists.{drop-bytes, take-bytes}
 use Rattle.calls.proofs.CallCases.{allocate-cases, close-cases, confirmed-cases, pacing-response-cases, read-cases, readCount, send-cases, take-cases}
-use Rattle.calls.proofs.CallCases.{control-within, send-error-cases, defer-cases, withdraw-cases, sentEnd}
+use Rattle.calls.proofs.CallCases.{control-within, send-error-cases, request-cases, expedited-cases, defer-cases, withdraw-cases, sentEnd}
 use Rattle.calls.proofs.ControlMoved.{allocate-moves, confirmed-moves, denied-moves, mark-moves}
 use Rattle.calls.specs.Laws.{StaysGood}
-use Rattle.calls.proofs.Refusals.{accepted-good, accepted-take-good}
+use Rattle.calls.proofs.Refusals.{accepted-good, accepted-take-good, accepted-expedited-good}
 use Rattle.end.proofs.RecordGood.{good}
 use Rattle.pacing.proofs.Windows.{answered-good, fresh-open, fresh-window}
 use Rattle.logical_record.specs.Positions.{isPosition}
@@ -50,6 +51,11 @@ good-from : (e : End) → Fits (e .control) (e .sending .held) → SendingWithin
 good-from e f o i =
     let h = both (controlGood (e .control)) (heldFits (e .control) (leb 1 (e .sending .held)) (eqb (e .sending .held) 0)) f in
     good e (record { control = control-facts (e .control) (h .0); fits = h .1; sending = o; receiving = i })
+
+-- question 5 asks nothing of the expedited lines
+pub expedited-apart : (x : Expedited) (e : End) → recordGood (withExpedited x e) ≡ recordGood e
+unfolding recordGood
+expedited-apart x e = refl
 
 -- ---- record places
 
@@ -161,6 +167,7 @@ module _ (s : Station) (g : recordGood (s .end) ≡ true) where
   calls Verb.sendError b i =
       let c = s .end .control in
       send-error-cases After s (λ q x. g) (λ x a. control-kept (confirmationDenied c) (denied-moves c (control-within (s .end) g) a .keeps))
+  calls Verb.requestToSend b i = request-cases After s (λ q x. g) (λ a. subst (λ (b : Bool). b ≡ true) (sym (expedited-apart _ (s .end))) g)
   calls Verb.sendPacingResponse b i =
       let e = s .end in
       pacing-response-cases After s (λ q x. g)
@@ -208,6 +215,13 @@ good-takes s u b g =
     good-from (creditRaised e .end) fits
     (record { window = answered-good (e .sending .window) (o .window); max = o .max; held = o .held; given = o .given }) i)
 
+-- ---- takes on the expedited line
+
+pub expedited-good : (s : Station) (u : List ℕ) → recordGood (takenExpedited s u .end .end) ≡ recordGood (s .end)
+expedited-good s u =
+    expedited-cases (λ (t : Called). recordGood (t .end .end) ≡ recordGood (s .end)) s u (λ q w n. refl) (λ a k. expedited-apart _ (s .end))
+    (λ a k. expedited-apart _ (s .end))
+
 -- ---- openings
 
 fresh-good : (r : Role) (s : Session) (n m k : ℕ) → firstNo (openingQuestions s n m k) ≡ 0
@@ -251,7 +265,9 @@ stays-good =
     record {
       was = λ s v e. accepted-good s v (eq-eqb _ 0 e);
       was-at-take = λ s u e. accepted-take-good s u (eq-eqb _ 0 e);
+      was-at-expedited-take = λ s u e. accepted-expedited-good s u (eq-eqb _ 0 e);
       is = λ s v b i e. good-acts s v b i (accepted-good s v (eq-eqb _ 0 e));
       is-after-take = λ s u b e. good-takes s u b (accepted-take-good s u (eq-eqb _ 0 e));
+      is-after-expedited-take = expedited-good;
       is-opened = λ s n m k e. good-opened s n m k e;
     }

@@ -10,13 +10,15 @@ use Rattle.calls.proofs.CallWords.{confirmedRefusal, confirmedDecision,
 use Rattle.calls.proofs.CallWords.{sendPacingResponseDecision, sendPacingResponse, bytesRead, someHeld, receiveRefusal, markRead, receiveDecision}
 use Rattle.calls.proofs.CallWords.{receive, ruleNamed, ruReceived, headerReceived, receiveUnitRefusal, receiveUnitDecision, receiveUnit, recordGood}
 use Rattle.calls.proofs.CallWords.{bytesKept}
-use Rattle.calls.proofs.CallWords.{bytesSpilled, sendRefusal, sendDecision, sendData, End, ReadDone, Called, Station, Verb, called, taken, refusalIn}
+use Rattle.calls.proofs.CallWords.{bytesSpilled, sendRefusal, sendDecision, sendData, End, ReadDone, Called, Station, Verb, called, taken, takenExpedited, refusalIn}
+use Rattle.calls.proofs.CallWords.{ruleTaken, requestRefusal, requestDecision, requestToSend, receiveExpeditedRefusal, receiveExpeditedDecision, receiveExpedited}
+use Rattle.end.specs.ReceiveExpedited.{receiveExpeditedQuestions}
 use Rattle.answers.specs.declared.Answer.{Answer}
 use Rattle.end.specs.Outcome.{nothing, lengthOut, accept, answerOf}
 use mathlib.Core.Bool.{true≢false as never}
 use Rattle.bools.proofs.Tests.{off}
 use Rattle.calls.proofs.CallCases.{allocate-cases, close-cases, confirmed-cases, pacing-response-cases, read-cases, send-cases, kind-cases, take-cases}
-use Rattle.calls.proofs.CallCases.{send-error-cases, defer-cases, withdraw-cases, kind-accepted, passes}
+use Rattle.calls.proofs.CallCases.{send-error-cases, request-cases, expedited-cases, defer-cases, withdraw-cases, kind-accepted, passes}
 use Rattle.calls.specs.Laws.{Refusals, questions, receiveUnitQuestions}
 
 -- an accepted call was not refused, and a refused one not accepted
@@ -48,12 +50,13 @@ decided-number : (q : ℕ) (e : End) (d : Decision) → d .refusal ≡ 0 → ans
 decided-number q e d z = number-of refused (λ n. refl) q e d z
 
 pub number-is : (s : Station) (v : Verb) → refusalIn (called s v .answer) ≡ firstNo (questions s v)
-unfolding defer deferDecision deferRefusal withdraw withdrawDecision withdrawRefusal called allocate allocateDecision allocateRefusal bidMade sendData sendDecision sendRefusal bytesKept bytesSpilled close closeDecision closeRefusal lastMade confirmed confirmedDecision confirmedRefusal sendError sendErrorDecision sendPacingResponse sendPacingResponseDecision sendPacingResponseRefusal receive receiveDecision receiveRefusal bytesRead markRead
+unfolding defer deferDecision deferRefusal withdraw withdrawDecision withdrawRefusal called allocate allocateDecision allocateRefusal bidMade sendData sendDecision sendRefusal bytesKept bytesSpilled close closeDecision closeRefusal lastMade confirmed confirmedDecision confirmedRefusal sendError sendErrorDecision requestToSend requestDecision requestRefusal sendPacingResponse sendPacingResponseDecision sendPacingResponseRefusal receive receiveDecision receiveRefusal bytesRead markRead
 number-is s Verb.allocate =
     decided-number _ (s .end) _
     (both-accepted (isFirstSpeaker (s .end .control .role)) (accept (withControl (allocated (s .end .control)) (s .end)) nothing) (bidMade (s .end)) refl refl)
 number-is s Verb.confirmed = decided-number _ (s .end) _ refl
 number-is s Verb.sendError = decided-number _ (s .end) _ refl
+number-is s Verb.requestToSend = decided-number _ (s .end) _ refl
 number-is s Verb.sendPacingResponse = decided-number _ (s .end) _ refl
 number-is s (Verb.defer d) = decided-number _ (s .end) _ refl
 number-is s Verb.withdraw = decided-number _ (s .end) _ refl
@@ -74,6 +77,11 @@ unfolding taken receiveUnit receiveUnitDecision receiveUnitRefusal
 take-number-is s u =
     number-of (refusedNaming (ruleNamed u)) (λ q. refl) _ (s .end) _ (kind-accepted (s .end) (headerReceived u) (numberIn u) (ruReceived u) .0)
 
+pub expedited-number-is : (s : Station) (u : List ℕ)
+    → refusalIn (takenExpedited s u .answer) ≡ firstNo (receiveExpeditedQuestions (s .end) u (length (s .unit)))
+unfolding takenExpedited receiveExpedited receiveExpeditedDecision receiveExpeditedRefusal
+expedited-number-is s u = number-of (refusedNaming (ruleTaken u)) (λ q. refl) _ (s .end) _ refl
+
 -- ---- 5 is no number of a call whose record is within the section
 
 pub not-first : (qs : List (Bool × ℕ)) (k : ℕ) → eqb 0 k ≡ false → passes k qs ≡ true → eqb (firstNo qs) k ≡ false
@@ -88,6 +96,7 @@ module _ (s : Station) (g : recordGood (s .end) ≡ true) where
   asked-5 Verb.allocate = ap (λ (b : Bool). b && true) g
   asked-5 Verb.confirmed = ap (λ (b : Bool). b && true) g
   asked-5 Verb.sendError = ap (λ (b : Bool). b && true) g
+  asked-5 Verb.requestToSend = ap (λ (b : Bool). b && true) g
   asked-5 Verb.sendPacingResponse = ap (λ (b : Bool). b && true) g
   asked-5 Verb.withdraw = ap (λ (b : Bool). b && true) g
   asked-5 (Verb.defer d) = ap (λ (b : Bool). b && true) g
@@ -103,24 +112,31 @@ module _ (s : Station) (g : recordGood (s .end) ≡ true) where
       ap (λ (q : ℕ). eqb q 5) (take-number-is s u)
       ∙ not-first (receiveUnitQuestions s u) 5 refl (join (recordGood (s .end)) _ g (kind-accepted (s .end) (headerReceived u) (numberIn u) (ruReceived u) .1))
 
+  pub expedited-never-5 : (u : List ℕ) → eqb (refusalIn (takenExpedited s u .answer)) 5 ≡ false
+  expedited-never-5 u =
+      ap (λ (q : ℕ). eqb q 5) (expedited-number-is s u)
+      ∙ not-first (receiveExpeditedQuestions (s .end) u (length (s .unit))) 5 refl (ap (λ (b : Bool). b && true) g)
+
 -- ---- calls that the end answers by itself
 
 module _ (s : Station) where
   -- neither the record nor a lent cell is changed, and no unit is made
   abbrev Nothing : Called → Type 0
-  Nothing m = eqb (refusalIn (m .answer)) 0 ≡ false → (m .end ≡ s) × (m .sent ≡ [])
+  Nothing m = eqb (refusalIn (m .answer)) 0 ≡ false → (m .end ≡ s) × (m .sent ≡ []) × (m .expedited ≡ [])
 
-  pub refused-nothing : (v : Verb) → eqb (refusalIn (called s v .answer)) 0 ≡ false → (called s v .end ≡ s) × (called s v .sent ≡ [])
+  pub refused-nothing : (v : Verb) → eqb (refusalIn (called s v .answer)) 0 ≡ false
+      → (called s v .end ≡ s) × (called s v .sent ≡ []) × (called s v .expedited ≡ [])
   unfolding called bytesRead markRead
-  refused-nothing Verb.allocate = allocate-cases Nothing s (λ q n h. (refl, refl)) (λ g a w h. yes h) (λ g a w k h. yes h)
-  refused-nothing Verb.confirmed = confirmed-cases Nothing s (λ q n h. (refl, refl)) (λ g a h. yes h)
-  refused-nothing Verb.sendError = send-error-cases Nothing s (λ q n h. (refl, refl)) (λ g a h. yes h)
-  refused-nothing Verb.sendPacingResponse = pacing-response-cases Nothing s (λ q n h. (refl, refl)) (λ g a h. yes h)
-  refused-nothing (Verb.sendData bytes) = send-cases Nothing s bytes (λ q n h. (refl, refl)) (λ a k h. yes h) (λ a k c h. yes h)
-  refused-nothing (Verb.close f b) = close-cases Nothing s f b (λ q n h. (refl, refl)) (λ a n h. yes h) (λ a n k h. yes h) (λ a n k h. yes h)
-  refused-nothing (Verb.defer d) = defer-cases Nothing s d (λ q n h. (refl, refl)) (λ a h. yes h)
-  refused-nothing Verb.withdraw = withdraw-cases Nothing s (λ q n h. (refl, refl)) (λ g a h. yes h)
-  refused-nothing (Verb.receive buffer) = read-cases Nothing s buffer (λ q w n h. (refl, refl)) (λ a k h. yes h) (λ a k m h. yes h)
+  refused-nothing Verb.allocate = allocate-cases Nothing s (λ q n h. (refl, refl, refl)) (λ g a w h. yes h) (λ g a w k h. yes h)
+  refused-nothing Verb.confirmed = confirmed-cases Nothing s (λ q n h. (refl, refl, refl)) (λ g a h. yes h)
+  refused-nothing Verb.sendError = send-error-cases Nothing s (λ q n h. (refl, refl, refl)) (λ g a h. yes h)
+  refused-nothing Verb.requestToSend = request-cases Nothing s (λ q n h. (refl, refl, refl)) (λ a h. yes h)
+  refused-nothing Verb.sendPacingResponse = pacing-response-cases Nothing s (λ q n h. (refl, refl, refl)) (λ g a h. yes h)
+  refused-nothing (Verb.sendData bytes) = send-cases Nothing s bytes (λ q n h. (refl, refl, refl)) (λ a k h. yes h) (λ a k c h. yes h)
+  refused-nothing (Verb.close f b) = close-cases Nothing s f b (λ q n h. (refl, refl, refl)) (λ a n h. yes h) (λ a n k h. yes h) (λ a n k h. yes h)
+  refused-nothing (Verb.defer d) = defer-cases Nothing s d (λ q n h. (refl, refl, refl)) (λ a h. yes h)
+  refused-nothing Verb.withdraw = withdraw-cases Nothing s (λ q n h. (refl, refl, refl)) (λ g a h. yes h)
+  refused-nothing (Verb.receive buffer) = read-cases Nothing s buffer (λ q w n h. (refl, refl, refl)) (λ a k h. yes h) (λ a k m h. yes h)
 
   -- a refused read leaves the caller's buffer as it was
   pub refused-buffer : (buffer : List ℕ) → eqb (refusalIn (called s (Verb.receive buffer) .answer)) 0 ≡ false
@@ -138,6 +154,7 @@ module _ (s : Station) where
   accepted-good Verb.allocate = allocate-cases Asked s (λ q n h. no (eqb q 0) n h) (λ g a w h. g) (λ g a w k h. g)
   accepted-good Verb.confirmed = confirmed-cases Asked s (λ q n h. no (eqb q 0) n h) (λ g a h. g)
   accepted-good Verb.sendError = send-error-cases Asked s (λ q n h. no (eqb q 0) n h) (λ g a h. g)
+  accepted-good Verb.requestToSend = request-cases Asked s (λ q n h. no (eqb q 0) n h) (λ a h. a .good)
   accepted-good Verb.sendPacingResponse = pacing-response-cases Asked s (λ q n h. no (eqb q 0) n h) (λ g a h. g)
   accepted-good (Verb.sendData bytes) = send-cases Asked s bytes (λ q n h. no (eqb q 0) n h) (λ a k h. a .good) (λ a k c h. a .good)
   accepted-good (Verb.close f b) = close-cases Asked s f b (λ q n h. no (eqb q 0) n h) (λ a n h. a .good) (λ a n k h. a .good) (λ a n k h. a .good)
@@ -149,13 +166,13 @@ module _ (s : Station) where
 
 module _ (s : Station) (u : List ℕ) where
   abbrev Untaken : Called → Type 0
-  Untaken t = eqb (refusalIn (t .answer)) 0 ≡ false → (t .end ≡ s) × (t .sent ≡ [])
+  Untaken t = eqb (refusalIn (t .answer)) 0 ≡ false → (t .end ≡ s) × (t .sent ≡ []) × (t .expedited ≡ [])
 
   -- a refused take changes nothing, makes no unit, and leaves the unit on its line
   pub refused-take-nothing : eqb (refusalIn (taken s u .answer)) 0 ≡ false
-      → (taken s u .end ≡ s) × (taken s u .sent ≡ [])
+      → (taken s u .end ≡ s) × (taken s u .sent ≡ []) × (taken s u .expedited ≡ [])
   refused-take-nothing =
-      take-cases Untaken s u (λ q w n h. (refl, refl)) (λ d a e k h. yes h) (λ p a e k m h. yes h) (λ p a e k m h. yes h) (λ c a e m h. yes h)
+      take-cases Untaken s u (λ q w n h. (refl, refl, refl)) (λ d a e k h. yes h) (λ p a e k m h. yes h) (λ p a e k m h. yes h) (λ c a e m h. yes h)
       (λ a e k h. yes h)
 
   pub accepted-take-good : eqb (refusalIn (taken s u .answer)) 0 ≡ true → recordGood (s .end) ≡ true
@@ -163,12 +180,26 @@ module _ (s : Station) (u : List ℕ) where
       kind-cases (λ (t : Called). eqb (refusalIn (t .answer)) 0 ≡ true → recordGood (s .end) ≡ true) s u
       (λ q w n h. no (eqb q 0) n h) (λ a k h. a .good)
 
+  -- on the expedited line too, and then the program is told nothing
+  abbrev Untold : Called → Type 0
+  Untold t = eqb (refusalIn (t .answer)) 0 ≡ false → (t .end ≡ s) × (t .sent ≡ []) × (t .expedited ≡ []) × (t .answer .signalled ≡ false)
+
+  pub refused-expedited-nothing : Untold (takenExpedited s u)
+  refused-expedited-nothing = expedited-cases Untold s u (λ q w n h. (refl, refl, refl, refl)) (λ a k h. yes h) (λ a k h. yes h)
+
+  pub accepted-expedited-good : eqb (refusalIn (takenExpedited s u .answer)) 0 ≡ true → recordGood (s .end) ≡ true
+  accepted-expedited-good =
+      expedited-cases (λ (t : Called). eqb (refusalIn (t .answer)) 0 ≡ true → recordGood (s .end) ≡ true) s u
+      (λ q w n h. no (eqb q 0) n h) (λ a k h. a .good) (λ a k h. a .good)
+
 pub refusals : Refusals
 refusals =
     record {
       number = λ s v. number-is s v;
       number-of-take = λ s u. take-number-is s u;
+      number-of-expedited-take = λ s u. expedited-number-is s u;
       changes-nothing = λ s v n. refused-nothing s v (ne-eqb _ 0 n);
       leaves-buffer = λ s buffer n. refused-buffer s buffer (ne-eqb _ 0 n);
       takes-nothing = λ s u n. refused-take-nothing s u (ne-eqb _ 0 n);
+      takes-nothing-expedited = λ s u n. refused-expedited-nothing s u (ne-eqb _ 0 n);
     }

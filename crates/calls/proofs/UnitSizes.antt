@@ -1,12 +1,13 @@
 -- A unit that a call makes is at most 1,029 bytes long, and stands within the unit buffer.
 -- Assumes nothing.
 use Rattle.calls.proofs.CallWords.{ℕ, _+_, _≤_, length, true, List, _≡_, arith, front, Header, bidRu, errorRu, negativeConfirmationRu, fixedRu, unitOf, numberIn, unit-length, bidAnswer}
-use Rattle.calls.proofs.CallWords.{bytesRead, markRead, recordGood, heldBytes, End, facts, Called, Station, Verb, called, taken}
+use Rattle.calls.proofs.CallWords.{bytesRead, markRead, recordGood, heldBytes, End, facts, Called, Station, Verb, called, taken, takenExpedited}
+use Rattle.calls.proofs.CallWords.{ExpeditedHeader, Signal, SignalResponse, expeditedRu, expeditedOf, expedited-length}
 use Prim.Native.Nat.{zero-le}
 use lib.ListN.{length-append, length-take}
 use Rattle.calls.specs.Laws.{UnitsFit}
 use Rattle.calls.proofs.CallCases.{spilledRu, allocate-cases, send-cases, close-cases, confirmed-cases, pacing-response-cases, read-cases, take-cases}
-use Rattle.calls.proofs.CallCases.{send-error-cases, defer-cases, withdraw-cases}
+use Rattle.calls.proofs.CallCases.{send-error-cases, request-cases, expedited-cases, defer-cases, withdraw-cases}
 use Rattle.calls.proofs.UnitsByHeader.{fixed-ru}
 
 -- a unit of n bytes at the front of these cells, short enough
@@ -21,6 +22,11 @@ unit-fits : (n : ℕ) (h : Header) (ru cells : List ℕ) → length ru ≤ 1024 
 unfolding front
 unit-fits n h ru cells l =
     record { short = omega arith; there = simp (length-append, unit-length) (omega arith) }
+
+signal-fits : (n : ℕ) (h : ExpeditedHeader) (cells : List ℕ) → Fits (5 + length (expeditedRu h)) (front (expeditedOf n h) cells)
+unfolding front
+signal-fits n Signal cells = record { short = omega arith; there = simp (length-append, expedited-length) (omega arith) }
+signal-fits n SignalResponse cells = record { short = omega arith; there = simp (length-append, expedited-length) (omega arith) }
 
 held-short : (e : End) (send : List ℕ) → recordGood e ≡ true → length (heldBytes e send) ≤ 1024
 held-short e send g = simp length-take (omega (arith, facts e g .sending .held, facts e g .sending .max .most))
@@ -38,6 +44,7 @@ module _ (s : Station) where
       allocate-cases After s (λ q n. none (s .unit)) (λ g a w. none (s .unit)) (λ g a w k. unit-fits _ _ bidRu (s .unit) (omega arith))
   acts-fit Verb.confirmed = confirmed-cases After s (λ q n. none (s .unit)) (λ g a. unit-fits _ _ _ (s .unit) (omega arith))
   acts-fit Verb.sendError = send-error-cases After s (λ q n. none (s .unit)) (λ g a. unit-fits _ _ negativeConfirmationRu (s .unit) (omega arith))
+  acts-fit Verb.requestToSend = request-cases After s (λ q n. none (s .unit)) (λ a. signal-fits _ Signal (s .unit))
   acts-fit Verb.sendPacingResponse = pacing-response-cases After s (λ q n. none (s .unit)) (λ g a. unit-fits _ _ _ (s .unit) (omega arith))
   acts-fit (Verb.sendData bytes) =
       send-cases After s bytes (λ q n. none (s .unit)) (λ a k. none (s .unit))
@@ -58,6 +65,10 @@ module _ (s : Station) where
       (λ p a e k m. unit-fits (numberIn u) h (fixedRu h) (s .unit) (fixed-ru h .0)) (λ p a e k m. none (s .unit)) (λ c a e m. none (s .unit))
       (λ a e k. none (s .unit))
 
+  pub expedited-fit : (u : List ℕ) → After (takenExpedited s u)
+  expedited-fit u =
+      expedited-cases After s u (λ q w n. none (s .unit)) (λ a k. signal-fits (numberIn u) SignalResponse (s .unit)) (λ a k. none (s .unit))
+
 pub units-fit : UnitsFit
 units-fit =
     record {
@@ -65,4 +76,6 @@ units-fit =
       short = λ s v. acts-fit s v .short;
       made-by-take = λ s u. takes-fit s u .there;
       short-by-take = λ s u. takes-fit s u .short;
+      made-by-expedited-take = λ s u. expedited-fit s u .there;
+      short-by-expedited-take = λ s u. expedited-fit s u .short;
     }

@@ -14,8 +14,8 @@ use Rattle.transitions.specs.Transitions.{deferred}
 use Rattle.answers.specs.FirstNo.{firstNo}
 use Rattle.answers.specs.Answers.{BAD-BUFFER, WRONG-STATE, NO-CREDIT}
 use Rattle.end.specs.Outcome.{withControl}
-use Rattle.calls.specs.Calls.{Station, Verb, allocate, confirmed, sendError, sendPacingResponse, withdraw, sendData, close, defer, receive}
-use Rattle.calls.specs.Calls.{prepareToReceive, deallocate, Called, refusalIn, called, taken}
+use Rattle.calls.specs.Calls.{Station, Verb, allocate, confirmed, sendError, sendPacingResponse, requestToSend, withdraw, sendData, close, defer, receive}
+use Rattle.calls.specs.Calls.{prepareToReceive, deallocate, Called, refusalIn, called, taken, takenExpedited}
 use Rattle.calls.specs.Laws.{questions}
 
 -- turn, or end: the call that does at once what is prepared, with or without confirmation
@@ -23,12 +23,13 @@ abbrev pub atOnce : Deferred → Bool → Verb
 atOnce deferral.Turn confirm = prepareToReceive confirm
 atOnce deferral.End confirm = deallocate confirm
 
--- the calls of the list that are allowed in Defer; a take is too
+-- the calls of the list that are allowed in Defer; a take is too, on either line
 abbrev pub allowedInDefer : Verb → Bool
 allowedInDefer allocate = false
 allowedInDefer confirmed = false
 allowedInDefer sendError = false
 allowedInDefer sendPacingResponse = true
+allowedInDefer requestToSend = false
 allowedInDefer withdraw = true
 allowedInDefer (sendData bytes) = false
 allowedInDefer (close Stay b) = true
@@ -46,6 +47,7 @@ beforeState (q ∷ qs) = cond (ltb (q .1) WRONG-STATE) (q ∷ beforeState qs) (b
 pub record CarriedOut (x y : Called) : Type 0 where
   pub answer : x .answer ≡ y .answer
   pub sent : x .sent ≡ y .sent
+  pub expedited : x .expedited ≡ y .expedited
   pub send-buffer : x .end .send ≡ y .end .send
   pub unit-buffer : x .end .unit ≡ y .end .unit
   pub inbox : x .end .inbox ≡ y .end .inbox
@@ -76,6 +78,7 @@ inDefer d m =
           };
       answer = m .answer;
       sent = m .sent;
+      expedited = m .expedited;
     }
 
 -- A turn or an end that is prepared, and then withdrawn or carried out.
@@ -95,6 +98,7 @@ pub record Deferring : Type 0 where
   pub reads : (s : Station) (d : Deferred) (buffer : List ℕ) → Prepared s d → afterPreparing s d (receive buffer) ≡ inDefer d (called s (receive buffer))
   pub paces : (s : Station) (d : Deferred) → Prepared s d → afterPreparing s d sendPacingResponse ≡ inDefer d (called s sendPacingResponse)
   pub takes : (s : Station) (d : Deferred) (u : List ℕ) → Prepared s d → taken (called s (defer d) .end) u ≡ inDefer d (taken s u)
+  pub takes-expedited : (s : Station) (d : Deferred) (u : List ℕ) → Prepared s d → takenExpedited (called s (defer d) .end) u ≡ inDefer d (takenExpedited s u)
   -- in Defer a call that is not allowed there is refused with 7 once it passes the questions before; the others never are, and no take is
   pub only : (s : Station) (v : Verb) → isDefer (s .end .control .state) ≡ true → allowedInDefer v ≡ false
       → firstNo (beforeState (questions s v)) ≡ 0 → refusalIn (called s v .answer) ≡ WRONG-STATE

@@ -14,7 +14,7 @@ use Rattle.control.specs.declared.State.the-variants.{Send}
 use Rattle.answers.specs.FirstNo.{firstNo}
 use Rattle.answers.specs.Answers.{BAD-BUFFER, WRONG-STATE, NO-CREDIT}
 use Rattle.end.specs.Record.{recordGood}
-use Rattle.calls.specs.Calls.{Station, Verb, allocate, confirmed, sendError, sendPacingResponse, withdraw, sendData, close, defer, receive}
+use Rattle.calls.specs.Calls.{Station, Verb, allocate, confirmed, sendError, sendPacingResponse, requestToSend, withdraw, sendData, close, defer, receive}
 use Rattle.calls.specs.Calls.{flush, refusalIn, called}
 use Rattle.calls.specs.Laws.{questions}
 use Rattle.calls.specs.DeferLaws.{beforeState, isOneOf}
@@ -29,6 +29,7 @@ waitsForError allocate = false
 waitsForError confirmed = false
 waitsForError sendError = false
 waitsForError sendPacingResponse = false
+waitsForError requestToSend = false
 waitsForError withdraw = false
 waitsForError (sendData bytes) = true
 waitsForError (close Stay confirm) = confirm

@@ -16,12 +16,14 @@ use Rattle.end.specs.SendData.{sendQuestions}
 use Rattle.end.specs.Close.{closeQuestions}
 use Rattle.end.specs.Defer.{deferQuestions, withdrawQuestions}
 use Rattle.end.specs.Confirmed.{confirmedQuestions}
+use Rattle.end.specs.RequestToSend.{requestQuestions}
+use Rattle.end.specs.ReceiveExpedited.{receiveExpeditedQuestions}
 use Rattle.end.specs.ReceiveUnit.{headQuestions, kindQuestions, headerReceived, ruReceived}
 use Rattle.end.specs.Receive.{receiveQuestions}
 use Rattle.end.specs.SendPacingResponse.{sendPacingResponseQuestions}
 use Rattle.session.specs.declared.Session.{Session}
-use Rattle.calls.specs.Calls.{Station, Verb, allocate, confirmed, sendError, sendPacingResponse, withdraw, sendData, close, defer, receive}
-use Rattle.calls.specs.Calls.{refusalIn, called, taken}
+use Rattle.calls.specs.Calls.{Station, Verb, allocate, confirmed, sendError, sendPacingResponse, requestToSend, withdraw, sendData, close, defer, receive}
+use Rattle.calls.specs.Calls.{refusalIn, called, taken, takenExpedited}
 use Rattle.calls.specs.UnitCounts.{count, isRequest, requestsAmong, isPacingResponse}
 
 -- ---- refusals
@@ -32,6 +34,7 @@ questions s allocate = allocateQuestions (s .end) (length (s .unit))
 questions s confirmed = confirmedQuestions (s .end) (length (s .unit))
 questions s sendError = confirmedQuestions (s .end) (length (s .unit))
 questions s sendPacingResponse = sendPacingResponseQuestions (s .end) (length (s .unit))
+questions s requestToSend = requestQuestions (s .end) (length (s .unit))
 questions s withdraw = withdrawQuestions (s .end)
 questions s (sendData bytes) = sendQuestions (s .end) bytes (length (s .send)) (length (s .unit))
 questions s (close f b) = closeQuestions (s .end) f b (length (s .send)) (length (s .unit))
@@ -47,14 +50,19 @@ pub record Refusals : Type 0 where
   -- the first "no" gives the number
   pub number : (s : Station) (v : Verb) → refusalIn (called s v .answer) ≡ firstNo (questions s v)
   pub number-of-take : (s : Station) (u : List ℕ) → refusalIn (taken s u .answer) ≡ firstNo (receiveUnitQuestions s u)
+  pub number-of-expedited-take : (s : Station) (u : List ℕ)
+      → refusalIn (takenExpedited s u .answer) ≡ firstNo (receiveExpeditedQuestions (s .end) u (length (s .unit)))
   -- the record and the cells lent at opening are as before, and no unit is made
-  pub changes-nothing : (s : Station) (v : Verb) → (refusalIn (called s v .answer) ≡ 0 → ⊥) → (called s v .end ≡ s) × (called s v .sent ≡ [])
+  pub changes-nothing : (s : Station) (v : Verb) → (refusalIn (called s v .answer) ≡ 0 → ⊥) → (called s v .end ≡ s) × (called s v .sent ≡ []) × (called s v .expedited ≡ [])
   -- the buffer lent to a read too
   pub leaves-buffer : (s : Station) (buffer : List ℕ) → (refusalIn (called s (receive buffer) .answer) ≡ 0 → ⊥)
       → called s (receive buffer) .answer .buffer ≡ buffer
   -- so does a take
   pub takes-nothing : (s : Station) (u : List ℕ) → (refusalIn (taken s u .answer) ≡ 0 → ⊥)
-      → (taken s u .end ≡ s) × (taken s u .sent ≡ [])
+      → (taken s u .end ≡ s) × (taken s u .sent ≡ []) × (taken s u .expedited ≡ [])
+  -- and one on the expedited line, which tells of no signal then
+  pub takes-nothing-expedited : (s : Station) (u : List ℕ) → (refusalIn (takenExpedited s u .answer) ≡ 0 → ⊥)
+      → (takenExpedited s u .end ≡ s) × (takenExpedited s u .sent ≡ []) × (takenExpedited s u .expedited ≡ []) × (takenExpedited s u .answer .signalled ≡ false)
 
 -- ---- question 5
 
@@ -68,6 +76,7 @@ BytesOf allocate = Unit {0}
 BytesOf confirmed = Unit {0}
 BytesOf sendError = Unit {0}
 BytesOf sendPacingResponse = Unit {0}
+BytesOf requestToSend = Unit {0}
 BytesOf withdraw = Unit {0}
 BytesOf (sendData bytes) = AllBytes bytes
 BytesOf (close f b) = Unit {0}
@@ -78,9 +87,11 @@ BytesOf (receive buffer) = Unit {0}
 pub record StaysGood : Type 0 where
   pub was : (s : Station) (v : Verb) → refusalIn (called s v .answer) ≡ 0 → recordGood (s .end) ≡ true
   pub was-at-take : (s : Station) (u : List ℕ) → refusalIn (taken s u .answer) ≡ 0 → recordGood (s .end) ≡ true
+  pub was-at-expedited-take : (s : Station) (u : List ℕ) → refusalIn (takenExpedited s u .answer) ≡ 0 → recordGood (s .end) ≡ true
   pub is : (s : Station) (v : Verb) → BytesOf v → AllBytes (s .inbox) → refusalIn (called s v .answer) ≡ 0 → recordGood (called s v .end .end) ≡ true
   pub is-after-take : (s : Station) (u : List ℕ) → AllBytes u → refusalIn (taken s u .answer) ≡ 0
       → recordGood (taken s u .end .end) ≡ true
+  pub is-after-expedited-take : (s : Station) (u : List ℕ) → recordGood (takenExpedited s u .end .end) ≡ recordGood (s .end)
   pub is-opened : (s : Session) (send unit inbox : ℕ) → opened s send unit inbox .answer .refusal ≡ 0 → recordGood (opened s send unit inbox .end) ≡ true
 
 -- ---- credit and open
@@ -90,6 +101,7 @@ isSendPacingResponse allocate = false
 isSendPacingResponse confirmed = false
 isSendPacingResponse sendError = false
 isSendPacingResponse sendPacingResponse = true
+isSendPacingResponse requestToSend = false
 isSendPacingResponse withdraw = false
 isSendPacingResponse (sendData bytes) = false
 isSendPacingResponse (close f b) = false
@@ -107,6 +119,8 @@ pub record CreditExact : Type 0 where
       → openOf (taken s u .end .end) + count (eqb (refusalIn (taken s u .answer)) 0 && isRequest u) ≡ openOf (s .end)
   pub paced : (s : Station) (v : Verb)
       → openOf (called s v .end .end) ≡ openOf (s .end) + s .end .receiving .window .size * count (eqb (refusalIn (called s v .answer)) 0 && isSendPacingResponse v)
+  pub expedited : (s : Station) (u : List ℕ)
+      → (creditOf (takenExpedited s u .end .end) ≡ creditOf (s .end)) × (openOf (takenExpedited s u .end .end) ≡ openOf (s .end))
 
 -- ---- units
 
@@ -116,3 +130,6 @@ pub record UnitsFit : Type 0 where
   pub short : (s : Station) (v : Verb) → called s v .answer .answer .answer .unit ≤ 1029
   pub made-by-take : (s : Station) (u : List ℕ) → taken s u .answer .answer .answer .unit ≤ length (taken s u .end .unit)
   pub short-by-take : (s : Station) (u : List ℕ) → taken s u .answer .answer .answer .unit ≤ 1029
+  pub made-by-expedited-take : (s : Station) (u : List ℕ)
+      → takenExpedited s u .answer .answer .answer .unit ≤ length (takenExpedited s u .end .unit)
+  pub short-by-expedited-take : (s : Station) (u : List ℕ) → takenExpedited s u .answer .answer .answer .unit ≤ 1029

@@ -3,3 +3,4 @@ pub mod UnitCounts
 pub mod Laws
 pub mod DeferLaws
 pub mod ErrorLaws
+pub mod ExpeditedLaws

@@ -25,9 +25,16 @@ unfoldable pub requestsAmong : List (List ℕ) → ℕ
 requestsAmong [] = 0
 requestsAmong (u ∷ us) = count (isRequest u) + requestsAmong us
 
--- the accepted takes of pacing answers, on any lane
+-- a pacing answer: 83 01 00
 abbrev pub isPacingResponse : List ℕ → Bool
 isPacingResponse u = sameHeader (headerIn u) (bytes 0x83 0x01 0x00)
+
+-- on an expedited line, a signal: 4B 80 00; and the response to one: CB 80 00
+abbrev pub isSignalUnit : List ℕ → Bool
+isSignalUnit u = sameHeader (headerIn u) (bytes 0x4B 0x80 0x00)
+
+abbrev pub isResponseUnit : List ℕ → Bool
+isResponseUnit u = sameHeader (headerIn u) (bytes 0xCB 0x80 0x00)
 
 -- a negative confirmation: 87 30 00
 abbrev pub isNegativeConfirmation : List ℕ → Bool

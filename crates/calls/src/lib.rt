@@ -4,6 +4,7 @@
 ghost use Rattle.calls.specs.Laws.{Refusals, StaysGood, CreditExact, UnitsFit};
 ghost use Rattle.calls.specs.DeferLaws.{Deferring};
 ghost use Rattle.calls.specs.ErrorLaws.{Denying};
+ghost use Rattle.calls.specs.ExpeditedLaws.{Signalling};
 
 // A refused call gives the first number that fits and changes nothing.
 pub fn refused_calls()
@@ -34,4 +35,9 @@ pub fn deferring()
 // No confirmation, and then its cause: what send error leaves, what flush makes while the error is due, and what has to wait for it.
 pub fn denying()
     ensures { λ _. ⌜ Denying ⌝ }
+{}
+
+// Signals: what a request to send and a take on the expedited line leave, and that these lines are apart from all else of an end.
+pub fn signalling()
+    ensures { λ _. ⌜ Signalling ⌝ }
 {}

@@ -19,7 +19,7 @@ use Rattle.unit.specs.Ru.{errorRu}
 use Rattle.unit.specs.Unit.{RU-START, headerIn}
 use Rattle.control.proofs.States.{state-is, nothing-is}
 use Rattle.joined.specs.Joined.{acted, took}
-use Rattle.joined.specs.Ends.{normal}
+use Rattle.joined.specs.Ends.{normal, expedited}
 use Rattle.joined.specs.Histories.{Log}
 use Rattle.joined.specs.Denials.{unitsMade, unitsTaken, announcedBehind, announced, AsAnnounced, Denials}
 use Rattle.joined.proofs.Announced.{as-announced-split, announced-split}
@@ -42,6 +42,7 @@ kept-or-not false xs u = append-nil xs
 pub taken-are : (es : Log) → each tookUnit (story es) ≡ unitsTaken es
 unfolding unitsTaken
 taken-are [] = refl
+taken-are (took expedited u r us ∷ es) = goes-on tookUnit (took expedited u r us) es ∙ append-nil (each tookUnit (story es)) ∙ taken-are es
 taken-are (acted v r us ∷ es) = goes-on tookUnit (acted v r us) es ∙ append-nil (each tookUnit (story es)) ∙ taken-are es
 taken-are (took normal u r us ∷ es) =
     goes-on tookUnit (took normal u r us) es

@@ -14,6 +14,7 @@ use Rattle.joined.specs.Ends.{Lane, sameLane, acts, takes}
 use Rattle.calls.specs.Calls.{Verb}
 use Rattle.calls.proofs.ByteLists.{are-bytes}
 use Rattle.joined.specs.Claim.{Pair, Claim, TheRecords, LentBytes, AlwaysGood}
+use Rattle.joined.specs.Signals.{TheSignals}
 use Rattle.worked_examples.specs.Computed.{computed}
 use Rattle.claim_in_use.specs.OtherWords.{each, offered}
 use Rattle.claim_in_use.specs.Conversation.{speaker, bidder, lent, ends, calls, reordered, Happened, Asked, Said, OneConversation}
@@ -70,6 +71,9 @@ happened =
       held-back = refl;
       counts-one = (refl, refl, refl);
       counts-two = (refl, refl, refl);
+      signals-one = (refl, refl, refl);
+      signals-two = (refl, refl, refl);
+      flags = (refl, refl);
       state-one = refl;
       state-two = refl;
     }
@@ -88,13 +92,14 @@ asked =
 
 -- ---- what is said
 
-module _ (claim : Claim) (records : TheRecords) (always : AlwaysGood) (places : EveryPlaceCanEnd) where
+module _ (claim : Claim) (records : TheRecords) (always : AlwaysGood) (signals : TheSignals) (places : EveryPlaceCanEnd) where
   said : Said
   unfolding computed
   said =
       let parts = claim speaker bidder lent lent calls (asked .openings) in
       let joint = parts .0 in
       let r = records speaker bidder lent lent calls (asked .openings) in
+      let told = signals speaker bidder lent lent calls (asked .openings .one) (asked .openings .two) in
       let good = always speaker bidder lent lent calls (asked .openings .one) (asked .openings .two) lent-bytes lent-bytes
       (given-bytes calls (written-out (each offered calls) refl)) in
       record {
@@ -105,6 +110,10 @@ module _ (claim : Claim) (records : TheRecords) (always : AlwaysGood) (places : 
         bytes-back = joint .bytes-back;
         credit-one = joint .credit-one;
         credit-two = joint .credit-two;
+        signals-out = told .out .told;
+        signals-back = told .back .told;
+        unanswered-one = told .out .unanswered;
+        unanswered-two = told .back .unanswered;
         same = parts .1 reordered refl refl (asked .fed) (asked .fed-reordered);
         to-come-out = r .out .still-to-come;
         records-out = r .out .first-are-read;

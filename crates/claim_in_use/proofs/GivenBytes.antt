@@ -28,6 +28,7 @@ gives-bytes Verb.allocate h = tt
 gives-bytes Verb.confirmed h = tt
 gives-bytes Verb.sendError h = tt
 gives-bytes Verb.sendPacingResponse h = tt
+gives-bytes Verb.requestToSend h = tt
 gives-bytes (Verb.sendData bytes) h = all-bytes bytes h
 gives-bytes (Verb.close f b) h = tt
 gives-bytes Verb.withdraw h = tt

@@ -7,3 +7,4 @@ mod OtherWords
 mod Conversation
 mod Deferral
 mod Denial
+mod Signal

@@ -1,10 +1,11 @@
--- The claim in other words follows from the claim and from what is said of the records, of question 5 and of denials, and from nothing else that crate joined
--- proves but laws of its definitions.
+-- The claim in other words follows from the claim and from what is said of the records, of question 5, of denials and of signals, and from nothing
+-- else that crate joined proves but laws of its definitions.
 -- Assumes nothing.
 use Prim.Native.Nat.{ℕ, _+_, _*_}
 use mathlib.Core.Path.{_≡_, refl, sym, ap, _∙_}
 use mathlib.Core.Bool.{true, false, and-false}
-use mathlib.Core.List.{List, [], _++_}
+use mathlib.Core.List.{List, [], _∷_, _++_}
+use native.Mathlib.Omega.{arith}
 use lib.ListN.{length, take}
 use Rattle.logical_record.specs.Positions.{start}
 use Rattle.logical_record.specs.Walk.{walk}
@@ -18,15 +19,16 @@ use Rattle.control.proofs.States.{send-is}
 use Rattle.bools.proofs.Cases.{split}
 use Rattle.session.specs.declared.Session.{Session}
 use Rattle.joined.specs.Joined.{Call, At, run}
-use Rattle.joined.specs.Ends.{Lane, normal, sameLane, acts, takes, openedBoth, Buffers}
+use Rattle.joined.specs.Signals.{Signals, TheSignals}
+use Rattle.joined.specs.Ends.{Lane, normal, expedited, sameLane, acts, takes, openedBoth, Buffers}
 use Rattle.joined.specs.Histories.{bytesOnLine, breaches}
 use Rattle.joined.specs.Claim.{Claim, BytesConserved, CreditCounted, ReadsRight, RecordsArrive, TablesArrive, TheRecords, AlwaysGood}
 use Rattle.joined.specs.Denials.{TheDenials}
 use Rattle.claim_in_use.specs.OtherWords.{Numbers, speaker, bidder, Opens, InRange, story, each, made, request, pacingAnswer, creditLeft, Ends, OneEnd}
 use Rattle.claim_in_use.specs.OtherWords.{hasRead, AtOneEnd, OneWay, HasTurn, sends, prepared-turn, prepared-end, Agree, Interleaves, after, TakesFind}
-use Rattle.claim_in_use.specs.OtherWords.{SameEnd, AreBytes, offered, KeepsRules, Causes, InOtherWords, answer}
+use Rattle.claim_in_use.specs.OtherWords.{SameEnd, AreBytes, offered, KeepsRules, Causes, InOtherWords, answer, signal, response, SignalsTold}
 use Rattle.claim_in_use.proofs.Stories.{given-is, read-is, line-is, requests-are, answers-are, no-breach-in, never-in, no-bad-read, takes-not-complete}
-use Rattle.claim_in_use.proofs.Stories.{takes-no-more, ends-there, says-so, says-more, none-before}
+use Rattle.claim_in_use.proofs.Stories.{signals-in, responses-in, signals-are, told-are, takes-no-more, ends-there, says-so, says-more, none-before}
 use Rattle.claim_in_use.proofs.InRangeAccepted.{accepts, openings}
 use Rattle.claim_in_use.proofs.GivenBytes.{parted, all-bytes, given-bytes}
 use Rattle.claim_in_use.proofs.Causes.{causes-of}
@@ -90,6 +92,26 @@ one-way x y b r t =
           ∙ ap (λ (bs : List ℕ). wholeTables bs ++ t .still-to-come) (sym (read-is (y .log)));
     }
 
+-- none of two lists that have no item together has one
+none-of : {A : Type 0} (xs : List A) (n : ℕ) → length xs + n ≡ 0 → xs ≡ []
+none-of [] n e = refl
+none-of (x ∷ xs) n e = absurd (omega (arith, e))
+
+signals-told : (x y : OneEnd) → Signals x y → SignalsTold x y
+signals-told x y s =
+    let there = signals-in (y .waiting expedited) in
+    let back = responses-in (x .waiting expedited) in
+    let c = s .unanswered in
+    record {
+      each-told = let t = s .told in omega (arith, signals-are (x .log), t, told-are (y .log), there);
+      waits-for-answer = λ u. let d = rw u at c in omega (arith, d, there, back);
+      has-answer = λ u.
+          let d = rw u at c in (
+            none-of (each signal (y .waiting expedited)) 0 (omega (arith, d, there)),
+            none-of (each response (x .waiting expedited)) 0 (omega (arith, d, back)),
+          );
+    }
+
 same-end : (x y : OneEnd) → x ≡ y → SameEnd x y
 same-end x y e =
     record {
@@ -98,7 +120,7 @@ same-end x y e =
       answers = ap (λ (z : OneEnd). each answer (story (z .log))) e;
     }
 
-module _ (claim : Claim) (records : TheRecords) (always : AlwaysGood) (denials : TheDenials) (places : EveryPlaceCanEnd) where
+module _ (claim : Claim) (records : TheRecords) (always : AlwaysGood) (denials : TheDenials) (signals : TheSignals) (places : EveryPlaceCanEnd) where
   agrees : (n : Numbers) (b c : Buffers) → InRange n b c → (l : List (At Lane Verb)) → Agree n (after n b c l)
   agrees n b c r l =
       let p = after n b c l in
@@ -151,5 +173,12 @@ module _ (claim : Claim) (records : TheRecords) (always : AlwaysGood) (denials :
       let d = denials s t b c l (accepts s b o) (accepts t c q) in
       (causes-of (p .one) (p .two) (d .out), causes-of (p .two) (p .one) (d .back))
 
+  told-once : (s t : Session) (b c : Buffers) → Opens s b → Opens t c → (l : List (At Lane Verb))
+      → (let p = run sameLane acts takes (openedBoth s t b c) l in SignalsTold (p .one) (p .two) × SignalsTold (p .two) (p .one))
+  told-once s t b c o q l =
+      let p = run sameLane acts takes (openedBoth s t b c) l in
+      let d = signals s t b c l (accepts s b o) (accepts t c q) in
+      (signals-told (p .one) (p .two) (d .out), signals-told (p .two) (p .one) (d .back))
+
   pub in-other-words : InOtherWords
-  in-other-words = record { agree = agrees; same = alike; rules = keeps; causes = tells }
+  in-other-words = record { agree = agrees; same = alike; rules = keeps; causes = tells; signals = told-once }

@@ -15,14 +15,15 @@ use Rattle.logical_record.specs.Walk.{walk}
 use Rattle.logical_record.specs.Records.{ended, wholeRecords, lastBit}
 use Rattle.joined.specs.Lanes.{Lines}
 use Rattle.joined.specs.Joined.{Event, acted, took}
-use Rattle.joined.specs.Ends.{Lane, normal}
+use Rattle.joined.specs.Ends.{Lane, normal, expedited}
 use Rattle.joined.specs.Histories as H
 use Rattle.joined.specs.Histories.{Log, bytesAccepted, bytesRead, bytesOnLine, isBreach, breaches, refusedWith, isBadRead, badReads, requestsMade}
 use Rattle.joined.specs.Histories.{pacingResponsesTaken, CompleteIsRight, MoreIsRight, NoneCrosses}
 use Rattle.claim_in_use.specs.OtherWords.{Seen, story, each, All, numberOf, gave, copied, made, answer, takeAnswer, ofRead, readAnswer, request}
-use Rattle.claim_in_use.specs.OtherWords.{pacingAnswer, dataBytes}
+use Rattle.claim_in_use.specs.OtherWords.{pacingAnswer, dataBytes, madeExpedited, signal, response, told}
+use Rattle.joined.specs.Signals.{signalsAmong, responsesAmong, signalsMade, signalsTold}
 use Rattle.calls.specs.Calls.{Reply, Verb}
-use Rattle.calls.specs.UnitCounts.{count, requestsAmong, isPacingResponse}
+use Rattle.calls.specs.UnitCounts.{count, requestsAmong, isPacingResponse, isSignalUnit, isResponseUnit}
 
 -- ---- lists
 
@@ -54,6 +55,7 @@ gave-is Verb.allocate r us = gave-none (eqb (numberOf r) 0)
 gave-is Verb.confirmed r us = gave-none (eqb (numberOf r) 0)
 gave-is Verb.sendError r us = gave-none (eqb (numberOf r) 0)
 gave-is Verb.sendPacingResponse r us = gave-none (eqb (numberOf r) 0)
+gave-is Verb.requestToSend r us = gave-none (eqb (numberOf r) 0)
 gave-is (Verb.sendData bytes) r us = refl
 gave-is (Verb.close f b) r us = gave-none (eqb (numberOf r) 0)
 gave-is Verb.withdraw r us = gave-none (eqb (numberOf r) 0)
@@ -88,34 +90,73 @@ requests-in (u ∷ us) = by (on 0x80 (getD u 2 0)) (requests-in us)
     by true h = omega (arith, h)
     by false h = omega (arith, h)
 
-more-requests : (e : Seen) (us : List (List ℕ)) (es : Log) → made e ≡ us → length (each request (each made (story es))) ≡ requestsMade es
-    → length (each request (each made (story (e ∷ es)))) ≡ requestsAmong us + requestsMade es
-more-requests e us es m h =
-    ap (λ (x : List (List ℕ)). length (each request x)) (goes-on made e es ∙ ap (λ (x : List (List ℕ)). each made (story es) ++ x) m)
-    ∙ ap length (each-append request (each made (story es)) us)
-    ∙ length-append (each request (each made (story es))) (each request us)
-    ∙ (let r = requests-in us in omega (arith, h, r))
+-- units of the kind f among those made, with those that the last call made
+more-made : (f : List ℕ → List (List ℕ)) (make : Seen → List (List ℕ)) (e : Seen) (es : Log) (n k : ℕ)
+    → length (each f (each make (story es))) ≡ n → length (each f (make e)) ≡ k → length (each f (each make (story (e ∷ es)))) ≡ k + n
+more-made f make e es n k h r =
+    ap (λ (x : List (List ℕ)). length (each f x)) (goes-on make e es)
+    ∙ ap length (each-append f (each make (story es)) (make e))
+    ∙ length-append (each f (each make (story es))) (each f (make e))
+    ∙ omega (arith, h, r)
 
 pub requests-are : (es : Log) → length (each request (each made (story es))) ≡ requestsMade es
 unfolding requestsMade
 requests-are [] = refl
-requests-are (acted v r us ∷ es) = more-requests (acted v r us) (us normal) es refl (requests-are es)
-requests-are (took l u r us ∷ es) = more-requests (took l u r us) (us normal) es refl (requests-are es)
+requests-are (acted v r us ∷ es) = more-made request made (acted v r us) es _ _ (requests-are es) (requests-in (us normal))
+requests-are (took l u r us ∷ es) = more-made request made (took l u r us) es _ _ (requests-are es) (requests-in (us normal))
+
+-- one item more, if it is one
+one-counted : {B : Type 0} (f : Seen → List B) (e : Seen) (es : Log) (b : Bool) (x : B) (n : ℕ) → f e ≡ cond b (x ∷ []) [] → length (each f (story es)) ≡ n
+    → length (each f (story (e ∷ es))) ≡ count b + n
+one-counted {B} f e es b x n k h =
+    ap length (goes-on f e es) ∙ length-append (each f (story es)) (f e) ∙ ap (λ (y : List B). length (each f (story es)) + length y) k ∙ by b
+  where
+    by : (b : Bool) → length (each f (story es)) + length (cond b (x ∷ []) []) ≡ count b + n
+    by true = omega (arith, h)
+    by false = omega (arith, h)
 
 pub answers-are : (es : Log) → length (each pacingAnswer (story es)) ≡ pacingResponsesTaken es
 unfolding pacingResponsesTaken
 answers-are [] = refl
 answers-are (acted v r us ∷ es) =
     ap length (goes-on pacingAnswer (acted v r us) es ∙ append-nil (each pacingAnswer (story es))) ∙ answers-are es
-answers-are (took l u r us ∷ es) =
-    ap length (goes-on pacingAnswer (took l u r us) es)
-    ∙ length-append (each pacingAnswer (story es)) (pacingAnswer (took l u r us))
-    ∙ by (eqb (numberOf r) 0 && isPacingResponse u) (answers-are es)
+answers-are (took expedited u r us ∷ es) =
+    ap length (goes-on pacingAnswer (took expedited u r us) es ∙ append-nil (each pacingAnswer (story es))) ∙ answers-are es
+answers-are (took normal u r us ∷ es) =
+    one-counted pacingAnswer (took normal u r us) es (eqb (numberOf r) 0 && isPacingResponse u) u (pacingResponsesTaken es) refl (answers-are es)
+
+-- ---- signals
+
+-- a kind of units, and a count of them
+kind-in : (p : List ℕ → Bool) (total : List (List ℕ) → ℕ) → total [] ≡ 0 → ((u : List ℕ) (us : List (List ℕ)) → total (u ∷ us) ≡ count (p u) + total us)
+    → (us : List (List ℕ)) → length (each (λ (u : List ℕ). cond (p u) (u ∷ []) []) us) ≡ total us
+kind-in p total z more [] = sym z
+kind-in p total z more (u ∷ us) = by (p u) (kind-in p total z more us) ∙ sym (more u us)
   where
-    by : (b : Bool) → length (each pacingAnswer (story es)) ≡ pacingResponsesTaken es
-        → length (each pacingAnswer (story es)) + length (cond b (u ∷ []) []) ≡ count b + pacingResponsesTaken es
+    by : (b : Bool) → length (each (λ (v : List ℕ). cond (p v) (v ∷ []) []) us) ≡ total us
+        → length (cond b (u ∷ []) [] ++ each (λ (v : List ℕ). cond (p v) (v ∷ []) []) us) ≡ count b + total us
     by true h = omega (arith, h)
     by false h = omega (arith, h)
+
+pub signals-in : (us : List (List ℕ)) → length (each signal us) ≡ signalsAmong us
+unfolding signalsAmong
+signals-in = kind-in isSignalUnit signalsAmong refl (λ u us. refl)
+
+pub responses-in : (us : List (List ℕ)) → length (each response us) ≡ responsesAmong us
+unfolding responsesAmong
+responses-in = kind-in isResponseUnit responsesAmong refl (λ u us. refl)
+
+pub signals-are : (es : Log) → length (each signal (each madeExpedited (story es))) ≡ signalsMade es
+unfolding signalsMade
+signals-are [] = refl
+signals-are (acted v r us ∷ es) = more-made signal madeExpedited (acted v r us) es _ _ (signals-are es) (signals-in (us expedited))
+signals-are (took l u r us ∷ es) = more-made signal madeExpedited (took l u r us) es _ _ (signals-are es) (signals-in (us expedited))
+
+pub told-are : (es : Log) → length (each told (story es)) ≡ signalsTold es
+unfolding signalsTold
+told-are [] = refl
+told-are (acted v r us ∷ es) = one-counted told (acted v r us) es (r .signalled) r (signalsTold es) refl (told-are es)
+told-are (took l u r us ∷ es) = one-counted told (took l u r us) es (r .signalled) r (signalsTold es) refl (told-are es)
 
 -- ---- takes
 
@@ -160,6 +201,7 @@ not-bad Verb.allocate r e = tt
 not-bad Verb.confirmed r e = tt
 not-bad Verb.sendError r e = tt
 not-bad Verb.sendPacingResponse r e = tt
+not-bad Verb.requestToSend r e = tt
 not-bad (Verb.sendData bytes) r e = tt
 not-bad (Verb.close f b) r e = tt
 not-bad Verb.withdraw r e = tt

@@ -1,6 +1,6 @@
 -- One conversation, with the claim read off it: a turn that is prepared and carried out by confirm, a bid that is refused and pacing answers that cross
--- meanwhile, a table of two parts cut over three units and by a read, no confirmation of it and the error header that says so, and a way back that is under
--- way. What the claim says of it is written out in bytes and numbers.
+-- meanwhile, as a signal does, which is told and answered; a table of two parts cut over three units and by a read, no confirmation of it and the error header
+-- that says so, a signal that is on the line, and a way back that is under way. What the claim says of it is written out in bytes and numbers.
 -- Assumes nothing.
 use Prim.Native.Nat.{ℕ, _+_, _*_}
 use mathlib.Core.Path.{_≡_}
@@ -18,9 +18,10 @@ use Rattle.end.specs.Record.{recordGood, creditOf}
 use Rattle.session.specs.declared.Session.{Session}
 use Rattle.joined.specs.Joined as J
 use Rattle.joined.specs.Joined.{first, second, act, AllFed, run}
-use Rattle.joined.specs.Ends.{Lane, normal, sameLane, Buffers, JoinedOpenings, openedBoth, acts, takes}
+use Rattle.joined.specs.Ends.{Lane, normal, expedited, sameLane, Buffers, JoinedOpenings, openedBoth, acts, takes}
 use Rattle.joined.specs.Histories.{bytesAccepted, bytesRead, bytesInInbox, bytesOnLine, bytesInSendBuffer, requestsMade, pacingResponsesTaken, breaches}
 use Rattle.joined.specs.Histories.{refusedWith, badReads, CompleteIsRight, MoreIsRight, NoneCrosses}
+use Rattle.joined.specs.Signals.{signalsMade, signalsTold}
 use Rattle.joined.specs.Claim.{Pair}
 use Rattle.worked_examples.specs.Stations.{zeros, session}
 use Rattle.calls.specs.Calls.{Verb, flush, confirm}
@@ -70,6 +71,10 @@ reply3 = 0x00 ∷ 0x02 ∷ []
 abbrev pub reply4 : List ℕ
 reply4 = 0xAB ∷ 0x01 ∷ 0x02 ∷ 0x03 ∷ 0x04 ∷ 0x05 ∷ 0x06 ∷ 0x07 ∷ 0x08 ∷ []
 
+-- the first signal of an end
+abbrev pub aSignal : List ℕ
+aSignal = 0x00 ∷ 0x01 ∷ 0x4B ∷ 0x80 ∷ 0x00 ∷ 0xC9 ∷ 0x00 ∷ 0x01 ∷ 0x00 ∷ 0x00 ∷ []
+
 -- the bidder makes its bid, and the first speaker gives all of its table
 abbrev pub begun : List (J.At Lane Verb)
 begun =
@@ -85,15 +90,32 @@ abbrev pub early : List (J.At Lane Verb)
 early = begun ++ (first (act (Verb.defer deferral.Turn)) ∷ [])
 
 -- while the turn is prepared: the bid is refused, and pacing answers cross
-abbrev pub meanwhile : List (J.At Lane Verb)
-meanwhile =
+abbrev pub crossing : List (J.At Lane Verb)
+crossing =
     first (J.take normal)
     ∷ first (act Verb.sendPacingResponse)
     ∷ second (J.take normal)
-    ∷ second (act Verb.sendPacingResponse)
+    ∷ []
+
+-- the bidder, which receives, asks for the turn
+abbrev pub requesting : List (J.At Lane Verb)
+requesting = second (act Verb.requestToSend) ∷ []
+
+-- the first speaker is told of it, in Defer, and its end answers
+abbrev pub signalling : List (J.At Lane Verb)
+signalling = first (J.take expedited) ∷ []
+
+-- the response passes a pacing answer and the data
+abbrev pub settling : List (J.At Lane Verb)
+settling =
+    second (act Verb.sendPacingResponse)
+    ∷ second (J.take expedited)
     ∷ second (act (Verb.receive (zeros 5)))
     ∷ first (J.take normal)
     ∷ []
+
+abbrev pub meanwhile : List (J.At Lane Verb)
+meanwhile = crossing ++ (requesting ++ (signalling ++ settling))
 
 -- the turn is carried out, with a confirmation requested, and the bidder reads all
 abbrev pub asking : List (J.At Lane Verb)
@@ -116,11 +138,12 @@ denying = second (act Verb.sendError) ∷ []
 abbrev pub telling : List (J.At Lane Verb)
 telling = second (act flush) ∷ first (J.take normal) ∷ []
 
--- and then the error header, which it reads, while the bidder replies
+-- and then the error header, which it reads, and asks for the turn while the bidder replies
 abbrev pub late : List (J.At Lane Verb)
 late =
     first (J.take normal)
     ∷ first (act (Verb.receive (zeros 64)))
+    ∷ first (act Verb.requestToSend)
     ∷ second (act (Verb.sendData (0x80 ∷ 0x06 ∷ 0x20 ∷ 0x21 ∷ 0x22 ∷ 0x23 ∷ 0x00 ∷ 0x05 ∷ [])))
     ∷ second (act (Verb.sendData (0x30 ∷ 0x31 ∷ 0x32 ∷ 0x00 ∷ 0x02 ∷ 0xAB ∷ [])))
     ∷ first (J.take normal)
@@ -139,14 +162,17 @@ reordered =
     ∷ first (act (Verb.sendData given2))
     ∷ second (act Verb.allocate)
     ∷ second (J.take normal)
+    ∷ second (act Verb.requestToSend)
     ∷ second (act Verb.sendPacingResponse)
     ∷ first (act (Verb.sendData given3))
-    ∷ second (act (Verb.receive (zeros 5)))
-    ∷ second (J.take normal)
     ∷ first (act (Verb.defer deferral.Turn))
     ∷ first (J.take normal)
-    ∷ second (J.take normal)
     ∷ first (act Verb.sendPacingResponse)
+    ∷ first (J.take expedited)
+    ∷ second (J.take expedited)
+    ∷ second (act (Verb.receive (zeros 5)))
+    ∷ second (J.take normal)
+    ∷ second (J.take normal)
     ∷ second (J.take normal)
     ∷ first (J.take normal)
     ∷ first (act confirm)
@@ -162,6 +188,7 @@ reordered =
     ∷ second (act (Verb.sendData (0x01 ∷ 0x02 ∷ 0x03 ∷ 0x04 ∷ 0x05 ∷ 0x06 ∷ 0x07 ∷ 0x08 ∷ [])))
     ∷ first (J.take normal)
     ∷ first (act (Verb.receive (zeros 64)))
+    ∷ first (act Verb.requestToSend)
     ∷ first (J.take normal)
     ∷ first (act (Verb.receive (zeros 64)))
     ∷ []
@@ -183,6 +210,10 @@ pub record Happened : Type 0 where
   -- at each end: the requests made, the credit left, the pacing answers taken
   pub counts-one : (requestsMade (talked .one .log) ≡ 3) × (creditOf (talked .one .end .end) ≡ 1) × (pacingResponsesTaken (talked .one .log) ≡ 1)
   pub counts-two : (requestsMade (talked .two .log) ≡ 4) × (creditOf (talked .two .end .end) ≡ 0) × (pacingResponsesTaken (talked .two .log) ≡ 1)
+  -- the signal of each: the bidder's was told and answered, the first speaker's is on the line
+  pub signals-one : (signalsMade (talked .one .log) ≡ 1) × (signalsTold (talked .two .log) ≡ 0) × (talked .two .waiting expedited ≡ aSignal ∷ [])
+  pub signals-two : (signalsMade (talked .two .log) ≡ 1) × (signalsTold (talked .one .log) ≡ 1) × (talked .one .waiting expedited ≡ [])
+  pub flags : (talked .one .end .end .expedited .unanswered ≡ true) × (talked .two .end .end .expedited .unanswered ≡ false)
   -- the bidder has the turn, the first speaker waits
   pub state-one : talked .one .end .end .control .state ≡ Receive
   pub state-two : talked .two .end .end .control .state ≡ Send
@@ -211,6 +242,11 @@ pub record Said : Type 0 where
   -- one answer at each end, W 2: after three requests one credit is left, after four, the error header among them, none
   pub credit-one : 3 + 1 ≡ 2 * (1 + 1)
   pub credit-two : 4 + 0 ≡ 2 * (1 + 1)
+  -- signals made = told + on the line; unanswered = on the line + the response on the line back
+  pub signals-out : 1 ≡ 0 + 1
+  pub signals-back : 1 ≡ 1 + 0
+  pub unanswered-one : 1 ≡ 1 + 0
+  pub unanswered-two : 0 ≡ 0 + 0
   -- the same outcome
   pub same : talked ≡ run sameLane acts takes ends reordered
   -- the records read are the first of those given

@@ -22,7 +22,7 @@ use Rattle.session.specs.declared.Session.{Session}
 use Rattle.joined.specs.Lanes.{Lines}
 use Rattle.joined.specs.Joined as J
 use Rattle.joined.specs.Joined.{Call, At, first, second, Event, acted, took, Side, Both, run}
-use Rattle.joined.specs.Ends.{Lane, normal, sameLane, Buffers, acts, takes, openedBoth}
+use Rattle.joined.specs.Ends.{Lane, normal, expedited, sameLane, Buffers, acts, takes, openedBoth}
 use Rattle.calls.specs.Calls.{Reply, Station, Verb}
 
 -- ---- two sessions that are joined, by their numbers
@@ -93,6 +93,7 @@ bytesOf Verb.allocate = []
 bytesOf Verb.confirmed = []
 bytesOf Verb.sendError = []
 bytesOf Verb.sendPacingResponse = []
+bytesOf Verb.requestToSend = []
 bytesOf Verb.withdraw = []
 bytesOf (Verb.sendData bytes) = bytes
 bytesOf (Verb.close f b) = []
@@ -129,6 +130,7 @@ ofRead Verb.allocate r = []
 ofRead Verb.confirmed r = []
 ofRead Verb.sendError r = []
 ofRead Verb.sendPacingResponse r = []
+ofRead Verb.requestToSend r = []
 ofRead Verb.withdraw r = []
 ofRead (Verb.sendData bytes) r = []
 ofRead (Verb.close f b) r = []
@@ -143,10 +145,11 @@ readAnswer (took l u r us) = []
 abbrev pub request : List ℕ → List (List ℕ)
 request u = cond (on 0x80 (getD u 2 0)) [] (u ∷ [])
 
--- a unit that was taken, if its header is 83 01 00
+-- a unit that was taken on the normal lane, if its header is 83 01 00
 abbrev pub pacingAnswer : Seen → List (List ℕ)
 pacingAnswer (acted v r us) = []
-pacingAnswer (took l u r us) =
+pacingAnswer (took expedited u r us) = []
+pacingAnswer (took normal u r us) =
     cond (eqb (numberOf r) 0 && (eqb (getD u 2 0) 0x83 && (eqb (getD u 3 0) 0x01 && eqb (getD u 4 0) 0x00))) (u ∷ []) []
 
 -- the RU of a data unit, whose header begins with 00, 01, 02 or 03
@@ -275,10 +278,11 @@ pub record KeepsRules (x : OneEnd) : Type 0 where
 
 -- ---- no confirmation, and its cause
 
--- a unit that was taken
+-- a unit that was taken on the normal lane
 abbrev pub tookUnit : Seen → List (List ℕ)
 tookUnit (acted v r us) = []
-tookUnit (took l u r us) = cond (eqb (numberOf r) 0) (u ∷ []) []
+tookUnit (took expedited u r us) = []
+tookUnit (took normal u r us) = cond (eqb (numberOf r) 0) (u ∷ []) []
 
 -- it refuses a confirmation: its header is 87 30 00
 abbrev pub Denies : List ℕ → Type 0
@@ -303,6 +307,34 @@ pub record Causes (x y : OneEnd) : Type 0 where
   -- what x has made is what y has taken and what is on the line
   pub each-once : each made (story (x .log)) ≡ each tookUnit (story (y .log)) ++ y .waiting normal
 
+-- ---- signals
+
+-- the units that a call made on the expedited lane
+abbrev pub madeExpedited : Seen → List (List ℕ)
+madeExpedited (acted v r us) = us expedited
+madeExpedited (took l u r us) = us expedited
+
+-- a signal, whose header is 4B 80 00, and the response to one, CB 80 00
+abbrev pub signal : List ℕ → List (List ℕ)
+signal u = cond (eqb (getD u 2 0) 0x4B && (eqb (getD u 3 0) 0x80 && eqb (getD u 4 0) 0x00)) (u ∷ []) []
+
+abbrev pub response : List ℕ → List (List ℕ)
+response u = cond (eqb (getD u 2 0) 0xCB && (eqb (getD u 3 0) 0x80 && eqb (getD u 4 0) 0x00)) (u ∷ []) []
+
+-- an answer that told the program of a signal
+abbrev pub told : Seen → List Reply
+told (acted v r us) = cond (r .signalled) (r ∷ []) []
+told (took l u r us) = cond (r .signalled) (r ∷ []) []
+
+-- One way, of the signals of x: each was told at y, or is on the line; and x waits for an answer while its signal or the response to it is on a line.
+pub record SignalsTold (x y : OneEnd) : Type 0 where
+  pub each-told :
+      length (each signal (each madeExpedited (story (x .log)))) ≡ length (each told (story (y .log))) + length (each signal (y .waiting expedited))
+  pub waits-for-answer : x .end .end .expedited .unanswered ≡ true
+      → length (each signal (y .waiting expedited)) + length (each response (x .waiting expedited)) ≡ 1
+  pub has-answer : x .end .end .expedited .unanswered ≡ false
+      → (each signal (y .waiting expedited) ≡ []) × (each response (x .waiting expedited) ≡ [])
+
 -- ---- the whole, of every two sessions, buffers and lists
 
 pub record InOtherWords : Type 0 where
@@ -320,3 +352,6 @@ pub record InOtherWords : Type 0 where
   -- of these too: who refuses a confirmation says why, and next
   pub causes : (s t : Session) (b c : Buffers) → Opens s b → Opens t c → (l : List (At Lane Verb))
       → (let p = run sameLane acts takes (openedBoth s t b c) l in Causes (p .one) (p .two) × Causes (p .two) (p .one))
+  -- and each signal is told once
+  pub signals : (s t : Session) (b c : Buffers) → Opens s b → Opens t c → (l : List (At Lane Verb))
+      → (let p = run sameLane acts takes (openedBoth s t b c) l in SignalsTold (p .one) (p .two) × SignalsTold (p .two) (p .one))

@@ -1,17 +1,20 @@
-// The claim about two joined ends put to use: said once more in other words, and read off one conversation; the laws of Defer and of
-// an error that is due too. The functions do nothing but call those that carry the claim and the laws; their contracts follow from the
-// contracts of these.
+// The claim about two joined ends put to use: said once more in other words, and read off one conversation; the laws of Defer, of an
+// error that is due and of signals too. The functions do nothing but call those that carry the claim and the laws; their contracts
+// follow from the contracts of these.
 use calls::deferring;
 use calls::denying;
+use calls::signalling;
 use joined::always_good;
 use joined::denials;
 use joined::joined_ends;
+use joined::signals;
 use joined::the_records;
 use logical_record::theorems::record_places;
 ghost use Rattle.claim_in_use.specs.Conversation.{OneConversation};
 ghost use Rattle.claim_in_use.specs.Deferral.{OneDeferral};
 ghost use Rattle.claim_in_use.specs.Denial.{OneDenial};
 ghost use Rattle.claim_in_use.specs.OtherWords.{InOtherWords};
+ghost use Rattle.claim_in_use.specs.Signal.{OneSignal};
 
 // The claim in other words, of every two sessions and every list of calls.
 pub fn in_other_words()
@@ -21,6 +24,7 @@ pub fn in_other_words()
     the_records();
     always_good();
     denials();
+    signals();
     record_places();
 }
 
@@ -31,6 +35,7 @@ pub fn one_conversation()
     joined_ends();
     the_records();
     always_good();
+    signals();
     record_places();
 }
 
@@ -51,4 +56,14 @@ pub fn one_denial()
     the_records();
     denials();
     denying();
+}
+
+// The claims and the laws of signals, of the same conversation where its bidder asks for the turn.
+pub fn one_signal()
+    ensures { λ _. ⌜ OneSignal ⌝ }
+{
+    joined_ends();
+    signals();
+    signalling();
+    deferring();
 }

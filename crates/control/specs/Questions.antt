@@ -29,6 +29,10 @@ mayWithdraw c = isDefer (c .state)
 abbrev pub mayConfirm : Control → Bool
 mayConfirm c = isConfirmOwed (c .state)
 
+-- request to send: this end receives, or owes a confirmation
+abbrev pub mayRequest : Control → Bool
+mayRequest c = isReceive (c .state) || isConfirmOwed (c .state)
+
 -- ---- take
 
 -- 24: is "first" on exactly when no chain is open? A bid counts as first

@@ -15,7 +15,8 @@ use header::Follows;
 ghost use mathlib.Core.Path.{_≡_};
 ghost use Rattle.control.specs.StateTests.{isFirstSpeaker, isNothing};
 ghost use Rattle.control.specs.Within.{markInReceive, dueInSend, bidAtBidder, chainInSend, errorInSend, controlGood, mayHold};
-ghost use Rattle.control.specs.Questions.{mayAllocate, maySend, mayClose, mayWithdraw, mayConfirm, chainFits, bracketFits, bidFits, stateFits};
+ghost use Rattle.control.specs.Questions.{mayAllocate, maySend, mayClose, mayWithdraw, mayConfirm, mayRequest};
+ghost use Rattle.control.specs.Questions.{chainFits, bracketFits, bidFits, stateFits};
 ghost use Rattle.control.specs.Questions.{positiveResponseFits, negativeResponseFits, confirmationFits};
 
 impl Control {
@@ -127,6 +128,14 @@ impl Control {
     {
         let state = self.state;
         is_confirm_owed(state)
+    }
+
+    // Request to send: the partner has the turn, and this end receives or owes a confirmation.
+    pub fn may_request(self) -> bool
+        ensures { λ r. ⌜ r ≡ mayRequest self ⌝ }
+    {
+        let state = self.state;
+        is_receive(state) | is_confirm_owed(state)
     }
 
     pub fn chain_fits(self, first: bool) -> bool

@@ -1,7 +1,7 @@
 // The faults that look right, the window, cuts, marks and the full inbox.
 use crossing::named::goes;
 
-const RECORD_OVER_UNITS: [u8; 504] = *b"record_over_units\n\
+const RECORD_OVER_UNITS: [u8; 528] = *b"record_over_units\n\
     ends 3 8 3 8 24 24\n\
     1 allocate\n\
     1 send 000E564953434F53\n\
@@ -26,10 +26,10 @@ const RECORD_OVER_UNITS: [u8; 504] = *b"record_over_units\n\
     2 take 0\n\
     2 read 0 bytes 4954593D3436 complete\n\
     2 read 0 mark end\n\
-    1 Reset mark none send 0 inbox 0 credit 1 open 3 waiting 0\n\
-    2 Reset mark none send 0 inbox 0 credit 3 open 1 waiting 0\n";
+    1 Reset mark none send 0 inbox 0 credit 1 open 3 waiting 0 expedited 0\n\
+    2 Reset mark none send 0 inbox 0 credit 3 open 1 waiting 0 expedited 0\n";
 
-const TURN_AFTER_READING: [u8; 459] = *b"turn_after_reading\n\
+const TURN_AFTER_READING: [u8; 483] = *b"turn_after_reading\n\
     ends 3 64 3 64 192 192\n\
     1 allocate\n\
     1 send 0003AA\n\
@@ -56,10 +56,10 @@ const TURN_AFTER_READING: [u8; 459] = *b"turn_after_reading\n\
     2 send 7\n\
     2 read 0 mark turn\n\
     2 send 0\n\
-    1 Receive mark none send 0 inbox 0 credit 2 open 3 waiting 0\n\
-    2 Send mark none send 2 inbox 0 credit 3 open 2 waiting 0\n";
+    1 Receive mark none send 0 inbox 0 credit 2 open 3 waiting 0 expedited 0\n\
+    2 Send mark none send 2 inbox 0 credit 3 open 2 waiting 0 expedited 0\n";
 
-const BID_REFUSED_ONCE_ALLOCATED: [u8; 418] = *b"bid_refused_once_allocated\n\
+const BID_REFUSED_ONCE_ALLOCATED: [u8; 442] = *b"bid_refused_once_allocated\n\
     ends 3 64 3 64 192 192\n\
     2 allocate\n\
     1 allocate\n\
@@ -80,10 +80,10 @@ const BID_REFUSED_ONCE_ALLOCATED: [u8; 418] = *b"bid_refused_once_allocated\n\
     2 take 0\n\
     2 read 0 mark turn\n\
     2 send 0\n\
-    1 Receive mark none send 0 inbox 0 credit 2 open 2 waiting 0\n\
-    2 Send mark none send 2 inbox 0 credit 2 open 2 waiting 0\n";
+    1 Receive mark none send 0 inbox 0 credit 2 open 2 waiting 0 expedited 0\n\
+    2 Send mark none send 2 inbox 0 credit 2 open 2 waiting 0 expedited 0\n";
 
-const PACING_KEEPS_WHAT_WAS_LEFT: [u8; 709] = *b"pacing_keeps_what_was_left\n\
+const PACING_KEEPS_WHAT_WAS_LEFT: [u8; 733] = *b"pacing_keeps_what_was_left\n\
     ends 3 64 3 64 192 320\n\
     1 allocate\n\
     1 send 0002\n\
@@ -126,10 +126,10 @@ const PACING_KEEPS_WHAT_WAS_LEFT: [u8; 709] = *b"pacing_keeps_what_was_left\n\
     1 flush 0 unit 00060390000002\n\
     1 send 0\n\
     1 flush 10\n\
-    1 Send mark none send 2 inbox 0 credit 0 open 3 waiting 0\n\
-    2 Receive mark none send 0 inbox 0 credit 3 open 5 waiting 5\n";
+    1 Send mark none send 2 inbox 0 credit 0 open 3 waiting 0 expedited 0\n\
+    2 Receive mark none send 0 inbox 0 credit 3 open 5 waiting 5 expedited 0\n";
 
-const WINDOW_WRAP: [u8; 742] = *b"window_wrap\n\
+const WINDOW_WRAP: [u8; 766] = *b"window_wrap\n\
     ends 2 8 2 8 16 24\n\
     1 allocate\n\
     1 send 0002\n\
@@ -176,10 +176,10 @@ const WINDOW_WRAP: [u8; 742] = *b"window_wrap\n\
     1 flush 0 unit 00040390000002\n\
     2 take 0\n\
     2 read 0 bytes 0002 complete\n\
-    1 Send mark none send 0 inbox 0 credit 2 open 2 waiting 0\n\
-    2 Receive mark none send 0 inbox 0 credit 2 open 2 waiting 0\n";
+    1 Send mark none send 0 inbox 0 credit 2 open 2 waiting 0 expedited 0\n\
+    2 Receive mark none send 0 inbox 0 credit 2 open 2 waiting 0 expedited 0\n";
 
-const CUT_AFTER_BYTE_1: [u8; 445] = *b"cut_after_byte_1\n\
+const CUT_AFTER_BYTE_1: [u8; 469] = *b"cut_after_byte_1\n\
     ends 3 64 3 64 192 192\n\
     1 allocate\n\
     1 send 00\n\
@@ -204,10 +204,10 @@ const CUT_AFTER_BYTE_1: [u8; 445] = *b"cut_after_byte_1\n\
     2 read 0 bytes 0005414243 complete\n\
     2 read 0 mark end\n\
     2 read 12\n\
-    1 Reset mark none send 0 inbox 0 credit 1 open 3 waiting 0\n\
-    2 Reset mark none send 0 inbox 0 credit 3 open 1 waiting 0\n";
+    1 Reset mark none send 0 inbox 0 credit 1 open 3 waiting 0 expedited 0\n\
+    2 Reset mark none send 0 inbox 0 credit 3 open 1 waiting 0 expedited 0\n";
 
-const CUT_AFTER_BYTE_2: [u8; 451] = *b"cut_after_byte_2\n\
+const CUT_AFTER_BYTE_2: [u8; 475] = *b"cut_after_byte_2\n\
     ends 3 64 3 64 192 192\n\
     1 allocate\n\
     1 send 0005\n\
@@ -232,10 +232,10 @@ const CUT_AFTER_BYTE_2: [u8; 451] = *b"cut_after_byte_2\n\
     2 take 0\n\
     2 read 0 bytes 414243 complete\n\
     2 read 0 mark end\n\
-    1 Reset mark none send 0 inbox 0 credit 1 open 3 waiting 0\n\
-    2 Reset mark none send 0 inbox 0 credit 3 open 1 waiting 0\n";
+    1 Reset mark none send 0 inbox 0 credit 1 open 3 waiting 0 expedited 0\n\
+    2 Reset mark none send 0 inbox 0 credit 3 open 1 waiting 0 expedited 0\n";
 
-const CUT_AFTER_BYTE_3: [u8; 451] = *b"cut_after_byte_3\n\
+const CUT_AFTER_BYTE_3: [u8; 475] = *b"cut_after_byte_3\n\
     ends 3 64 3 64 192 192\n\
     1 allocate\n\
     1 send 000541\n\
@@ -260,10 +260,10 @@ const CUT_AFTER_BYTE_3: [u8; 451] = *b"cut_after_byte_3\n\
     2 take 0\n\
     2 read 0 bytes 4243 complete\n\
     2 read 0 mark end\n\
-    1 Reset mark none send 0 inbox 0 credit 1 open 3 waiting 0\n\
-    2 Reset mark none send 0 inbox 0 credit 3 open 1 waiting 0\n";
+    1 Reset mark none send 0 inbox 0 credit 1 open 3 waiting 0 expedited 0\n\
+    2 Reset mark none send 0 inbox 0 credit 3 open 1 waiting 0 expedited 0\n";
 
-const CUT_AT_BYTE_1_BY_READS: [u8; 438] = *b"cut_at_byte_1_by_reads\n\
+const CUT_AT_BYTE_1_BY_READS: [u8; 462] = *b"cut_at_byte_1_by_reads\n\
     ends 3 64 3 64 192 192\n\
     1 allocate\n\
     1 send 0005414243\n\
@@ -286,10 +286,10 @@ const CUT_AT_BYTE_1_BY_READS: [u8; 438] = *b"cut_at_byte_1_by_reads\n\
     2 read 0 bytes 41\n\
     2 read 0 bytes 4243 complete\n\
     2 read 0 mark end\n\
-    1 Reset mark none send 0 inbox 0 credit 2 open 3 waiting 0\n\
-    2 Reset mark none send 0 inbox 0 credit 3 open 2 waiting 0\n";
+    1 Reset mark none send 0 inbox 0 credit 2 open 3 waiting 0 expedited 0\n\
+    2 Reset mark none send 0 inbox 0 credit 3 open 2 waiting 0 expedited 0\n";
 
-const MARK_TURN: [u8; 354] = *b"mark_turn\n\
+const MARK_TURN: [u8; 378] = *b"mark_turn\n\
     ends 3 64 3 64 192 192\n\
     1 allocate\n\
     1 send 0002\n\
@@ -308,10 +308,10 @@ const MARK_TURN: [u8; 354] = *b"mark_turn\n\
     2 read 0 bytes 0002 complete\n\
     2 read 0 mark turn\n\
     2 read 12\n\
-    1 Receive mark none send 0 inbox 0 credit 2 open 3 waiting 0\n\
-    2 Send mark none send 0 inbox 0 credit 3 open 2 waiting 0\n";
+    1 Receive mark none send 0 inbox 0 credit 2 open 3 waiting 0 expedited 0\n\
+    2 Send mark none send 0 inbox 0 credit 3 open 2 waiting 0 expedited 0\n";
 
-const MARK_END: [u8; 349] = *b"mark_end\n\
+const MARK_END: [u8; 373] = *b"mark_end\n\
     ends 3 64 3 64 192 192\n\
     1 allocate\n\
     1 send 0002\n\
@@ -330,10 +330,10 @@ const MARK_END: [u8; 349] = *b"mark_end\n\
     2 read 0 bytes 0002 complete\n\
     2 read 0 mark end\n\
     2 read 12\n\
-    1 Reset mark none send 0 inbox 0 credit 2 open 3 waiting 0\n\
-    2 Reset mark none send 0 inbox 0 credit 3 open 2 waiting 0\n";
+    1 Reset mark none send 0 inbox 0 credit 2 open 3 waiting 0 expedited 0\n\
+    2 Reset mark none send 0 inbox 0 credit 3 open 2 waiting 0 expedited 0\n";
 
-const MARK_CONFIRM: [u8; 424] = *b"mark_confirm\n\
+const MARK_CONFIRM: [u8; 448] = *b"mark_confirm\n\
     ends 3 64 3 64 192 192\n\
     1 allocate\n\
     1 send 0002\n\
@@ -356,10 +356,10 @@ const MARK_CONFIRM: [u8; 424] = *b"mark_confirm\n\
     2 read 12\n\
     2 confirmed 0 unit 0001832000\n\
     1 take 0\n\
-    1 Send mark none send 0 inbox 0 credit 2 open 3 waiting 0\n\
-    2 Receive mark none send 0 inbox 0 credit 3 open 2 waiting 0\n";
+    1 Send mark none send 0 inbox 0 credit 2 open 3 waiting 0 expedited 0\n\
+    2 Receive mark none send 0 inbox 0 credit 3 open 2 waiting 0 expedited 0\n";
 
-const MARK_CONFIRM_TURN: [u8; 444] = *b"mark_confirm_turn\n\
+const MARK_CONFIRM_TURN: [u8; 468] = *b"mark_confirm_turn\n\
     ends 3 64 3 64 192 192\n\
     1 allocate\n\
     1 send 0002\n\
@@ -382,10 +382,10 @@ const MARK_CONFIRM_TURN: [u8; 444] = *b"mark_confirm_turn\n\
     2 read 12\n\
     2 confirmed 0 unit 0001832000\n\
     1 take 0\n\
-    1 Receive mark none send 0 inbox 0 credit 2 open 3 waiting 0\n\
-    2 Send mark none send 0 inbox 0 credit 3 open 2 waiting 0\n";
+    1 Receive mark none send 0 inbox 0 credit 2 open 3 waiting 0 expedited 0\n\
+    2 Send mark none send 0 inbox 0 credit 3 open 2 waiting 0 expedited 0\n";
 
-const MARK_CONFIRM_END: [u8; 439] = *b"mark_confirm_end\n\
+const MARK_CONFIRM_END: [u8; 463] = *b"mark_confirm_end\n\
     ends 3 64 3 64 192 192\n\
     1 allocate\n\
     1 send 0002\n\
@@ -408,10 +408,10 @@ const MARK_CONFIRM_END: [u8; 439] = *b"mark_confirm_end\n\
     2 read 12\n\
     2 confirmed 0 unit 0001832000\n\
     1 take 0\n\
-    1 Reset mark none send 0 inbox 0 credit 2 open 3 waiting 0\n\
-    2 Reset mark none send 0 inbox 0 credit 3 open 2 waiting 0\n";
+    1 Reset mark none send 0 inbox 0 credit 2 open 3 waiting 0 expedited 0\n\
+    2 Reset mark none send 0 inbox 0 credit 3 open 2 waiting 0 expedited 0\n";
 
-const INBOX_FULL: [u8; 681] = *b"inbox_full\n\
+const INBOX_FULL: [u8; 705] = *b"inbox_full\n\
     ends 2 8 1 8 8 16\n\
     1 allocate\n\
     1 send 0012303132333435\n\
@@ -450,8 +450,8 @@ const INBOX_FULL: [u8; 681] = *b"inbox_full\n\
     2 take 0\n\
     2 read 0 bytes 4546 complete\n\
     2 read 0 mark end\n\
-    1 Reset mark none send 0 inbox 0 credit 1 open 1 waiting 0\n\
-    2 Reset mark none send 0 inbox 0 credit 1 open 1 waiting 0\n";
+    1 Reset mark none send 0 inbox 0 credit 1 open 1 waiting 0 expedited 0\n\
+    2 Reset mark none send 0 inbox 0 credit 1 open 1 waiting 0 expedited 0\n";
 
 // The case of that name; an unknown one is bad.
 pub fn conversations(name: &[u8]) -> bool {

@@ -2,7 +2,7 @@
 use crossing::named::goes;
 
 // 80 05 41 42 43, 80 02 and 00 04 44 45, cut behind the first byte, and where the second unit is full.
-const TABLE_OF_THREE_PARTS: [u8; 682] = *b"table_of_three_parts\n\
+const TABLE_OF_THREE_PARTS: [u8; 706] = *b"table_of_three_parts\n\
     ends 3 8 3 8 24 24\n\
     1 allocate\n\
     1 send 80\n\
@@ -41,10 +41,10 @@ const TABLE_OF_THREE_PARTS: [u8; 682] = *b"table_of_three_parts\n\
     2 take 0\n\
     2 read 0 bytes 4445 complete\n\
     2 read 0 mark turn\n\
-    1 Receive mark none send 0 inbox 0 credit 0 open 3 waiting 0\n\
-    2 Send mark none send 0 inbox 0 credit 3 open 0 waiting 0\n";
+    1 Receive mark none send 0 inbox 0 credit 0 open 3 waiting 0 expedited 0\n\
+    2 Send mark none send 0 inbox 0 credit 3 open 0 waiting 0 expedited 0\n";
 
-const PART_ALONE: [u8; 477] = *b"part_alone\n\
+const PART_ALONE: [u8; 501] = *b"part_alone\n\
     ends 3 64 3 64 192 192\n\
     1 allocate\n\
     1 send 8002\n\
@@ -71,11 +71,11 @@ const PART_ALONE: [u8; 477] = *b"part_alone\n\
     2 take 0\n\
     2 read 0 bytes 0002 complete\n\
     2 read 0 mark turn\n\
-    1 Receive mark none send 0 inbox 0 credit 1 open 3 waiting 0\n\
-    2 Send mark none send 0 inbox 0 credit 3 open 1 waiting 0\n";
+    1 Receive mark none send 0 inbox 0 credit 1 open 3 waiting 0 expedited 0\n\
+    2 Send mark none send 0 inbox 0 credit 3 open 1 waiting 0 expedited 0\n";
 
 // FF FF is the longest length, and another part follows; FF alone is no LL yet.
-const PART_OF_32767: [u8; 379] = *b"part_of_32767\n\
+const PART_OF_32767: [u8; 403] = *b"part_of_32767\n\
     ends 3 64 3 64 192 192\n\
     1 allocate\n\
     1 send FF\n\
@@ -98,8 +98,8 @@ const PART_OF_32767: [u8; 379] = *b"part_of_32767\n\
     2 take 0\n\
     2 read 0 bytes FF\n\
     2 read 0 bytes FF\n\
-    1 Send mark none send 0 inbox 0 credit 2 open 3 waiting 0\n\
-    2 Receive mark none send 0 inbox 0 credit 3 open 2 waiting 0\n";
+    1 Send mark none send 0 inbox 0 credit 2 open 3 waiting 0 expedited 0\n\
+    2 Receive mark none send 0 inbox 0 credit 3 open 2 waiting 0 expedited 0\n";
 
 // The case of that name; an unknown one is bad.
 pub fn parts(name: &[u8]) -> bool {

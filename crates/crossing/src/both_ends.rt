@@ -1,7 +1,7 @@
 // Two joined ends. A call is made at the near one; for a call at the other they are swapped, and swapped back.
 use crate::handing::Met;
+use bench::Pair;
 use end::End;
-use unit_lines::Line;
 use unit_lines::empty;
 
 // An end and what the program lends it at each call; of the inbox it lends as many cells as the end's record says. The buffers
@@ -12,12 +12,12 @@ pub struct Side {
     pub end: End,
 }
 
-// The two sides, the units that wait for each, and what was met.
+// The two sides, the lines between them, and what was met. Of each flow one line leads to the near end, and one to the other.
 pub struct Joined {
     pub near: Side,
     pub away: Side,
-    pub to_near: Line,
-    pub to_away: Line,
+    pub normal: Pair,
+    pub expedited: Pair,
     pub met: Met,
 }
 
@@ -29,28 +29,42 @@ fn lent(end: End) -> Side {
     }
 }
 
+fn no_units() -> Pair {
+    Pair {
+        from: empty(),
+        to: empty(),
+    }
+}
+
 // Both ends as opened, the first near.
 pub fn join(first: End, second: End, met: Met) -> Joined {
     Joined {
         near: lent(first),
         away: lent(second),
-        to_near: empty(),
-        to_away: empty(),
+        normal: no_units(),
+        expedited: no_units(),
         met,
     }
+}
+
+// The two lines as they are seen from the other end.
+fn turned(lines: Pair) -> Pair {
+    let from = lines.to;
+    let to = lines.from;
+    Pair { from, to }
 }
 
 pub fn swapped(joined: Joined) -> Joined {
     let near = joined.away;
     let away = joined.near;
-    let to_near = joined.to_away;
-    let to_away = joined.to_near;
+    let normal = turned(joined.normal);
+    let expedited = turned(joined.expedited);
     let met = joined.met;
     Joined {
         near,
         away,
-        to_near,
-        to_away,
+        normal,
+        expedited,
         met,
     }
 }

@@ -4,11 +4,13 @@ use crate::both_ends::Side;
 use crate::handing::Met;
 use crate::handing::hand_front;
 use crate::step_text::step_text;
+use bench::Pair;
 use bench::Stepped;
+use bench::request_flow;
 use bench::step;
 use end::End;
+use script::Flow;
 use script::Request;
-use unit_lines::Line;
 ghost use Prim.Native.Nat.{_≤_};
 
 // What a step leaves: what it hands back, and each buffer that was lent to it.
@@ -40,9 +42,8 @@ fn make(
     side: Side,
     request: Request,
     given: &[u8],
-    from: Line,
+    lines: Pair,
     waiting: &mut [u8],
-    to: Line,
     far: &mut [u8],
 ) -> Made {
     let end = side.end;
@@ -60,9 +61,8 @@ fn make(
         &mut unit,
         &mut inbox[0..room],
         &mut buffer[0..count],
-        from,
+        lines,
         waiting,
-        to,
         far,
     );
     Made {
@@ -83,25 +83,52 @@ fn hand_made(expected: &[u8], met: Met, second: bool, request: Request, made: Ma
     hand_front(expected, met, &out, length)
 }
 
-// Both ends after the step.
-fn left(joined: Joined, made: Made, met: Met) -> Joined {
+// The near side after the step.
+fn near_side(made: Made) -> Side {
     let stepped = made.stepped;
-    let end = stepped.end;
+    let told = stepped.told;
     let send = made.send;
     let inbox = made.inbox;
-    let away = joined.away;
-    let to_near = stepped.from;
-    let to_away = stepped.to;
-    Joined {
-        near: Side { send, inbox, end },
-        away,
-        to_near,
-        to_away,
-        met,
-    }
+    let end = told.end;
+    Side { send, inbox, end }
 }
 
-// The step at the near end: the first one, or the second.
+// Both ends after the step, with the lines of its flow as it left them.
+fn left(joined: Joined, flow: Flow, made: Made, met: Met) -> Joined {
+    let stepped = made.stepped;
+    let lines = stepped.lines;
+    let mut after = joined;
+    after.near = near_side(made);
+    after.met = met;
+    match flow {
+        Flow::Normal => after.normal = lines,
+        Flow::Expedited => after.expedited = lines,
+    }
+    after
+}
+
+// The step at the near end, the first one or the second, with the lines of its flow.
+fn on_lines(
+    expected: &[u8],
+    joined: Joined,
+    second: bool,
+    request: Request,
+    given: &[u8],
+    flow: Flow,
+    waiting: &mut [u8],
+    far: &mut [u8],
+) -> Joined {
+    let side = joined.near;
+    let lines = match flow {
+        Flow::Normal => joined.normal,
+        Flow::Expedited => joined.expedited,
+    };
+    let made = make(side, request, given, lines, waiting, far);
+    let told = hand_made(expected, joined.met, second, request, made);
+    left(joined, flow, made, told)
+}
+
+// The step at the near end. The normal lines are in `waiting` and `far`, the expedited ones in `signals` and `beyond`.
 pub fn at_near(
     expected: &[u8],
     joined: Joined,
@@ -110,11 +137,21 @@ pub fn at_near(
     given: &[u8],
     waiting: &mut [u8],
     far: &mut [u8],
+    signals: &mut [u8],
+    beyond: &mut [u8],
 ) -> Joined {
-    let side = joined.near;
-    let from = joined.to_near;
-    let to = joined.to_away;
-    let made = make(side, request, given, from, waiting, to, far);
-    let told = hand_made(expected, joined.met, second, request, made);
-    left(joined, made, told)
+    let flow = request_flow(request);
+    match flow {
+        Flow::Normal => on_lines(expected, joined, second, request, given, flow, waiting, far),
+        Flow::Expedited => on_lines(
+            expected,
+            joined,
+            second,
+            request,
+            given,
+            flow,
+            signals,
+            beyond,
+        ),
+    }
 }

@@ -36,12 +36,23 @@ fn run_text(
     number: usize,
     line1: &mut [u8],
     line2: &mut [u8],
+    signals1: &mut [u8],
+    signals2: &mut [u8],
 ) -> Joined {
     let text = &line[0..text_length(line)];
     if passed_over(text) {
         return joined;
     }
-    line_at(expected, joined, text, number, line1, line2)
+    line_at(
+        expected,
+        joined,
+        text,
+        number,
+        line1,
+        line2,
+        signals1,
+        signals2,
+    )
 }
 
 // One line.
@@ -51,6 +62,8 @@ fn run_line(
     script: &[u8],
     line1: &mut [u8],
     line2: &mut [u8],
+    signals1: &mut [u8],
+    signals2: &mut [u8],
 ) -> Ran {
     let at = before.at;
     let number = before.number;
@@ -59,7 +72,16 @@ fn run_line(
         return before;
     }
     let ends = before.joined;
-    let joined = run_text(expected, ends, &script[at..end], number, line1, line2);
+    let joined = run_text(
+        expected,
+        ends,
+        &script[at..end],
+        number,
+        line1,
+        line2,
+        signals1,
+        signals2,
+    );
     Ran {
         joined,
         at: std::num::wrapping_add_usize(end, 1),
@@ -74,12 +96,14 @@ fn run_lines(
     script: &[u8],
     line1: &mut [u8],
     line2: &mut [u8],
+    signals1: &mut [u8],
+    signals2: &mut [u8],
 ) -> Ran {
     let mut ran = before;
     let mut turns = script.len();
     while 0 < turns {
         if ran.at < script.len() {
-            ran = run_line(expected, ran, script, line1, line2);
+            ran = run_line(expected, ran, script, line1, line2, signals1, signals2);
             turns = turns - 1;
         } else {
             turns = 0;
@@ -88,16 +112,33 @@ fn run_lines(
     ran
 }
 
-// The lines after the first, with nothing on the two lines between the ends.
+// The lines after the first, with nothing on the four lines between the ends.
 fn run_opened(expected: &[u8], before: Ran, script: &[u8]) -> Joined {
     let mut line1 = [0u8; 527872];
     let mut line2 = [0u8; 527872];
-    let ran = run_lines(expected, before, script, &mut line1, &mut line2);
+    let mut signals1 = [0u8; 527872];
+    let mut signals2 = [0u8; 527872];
+    let ran = run_lines(
+        expected,
+        before,
+        script,
+        &mut line1,
+        &mut line2,
+        &mut signals1,
+        &mut signals2,
+    );
     ran.joined
 }
 
-// How an end stands when the script has ended.
-fn hand_last(expected: &[u8], met: Met, second: bool, end: End, to: Line) -> Met {
+// How an end stands when the script has ended, with the two lines to it.
+fn hand_last(
+    expected: &[u8],
+    met: Met,
+    second: bool,
+    end: End,
+    normal: Line,
+    expedited: Line,
+) -> Met {
     let mut out = [0u8; 8192];
     let control = end.control;
     let state = control.state;
@@ -114,7 +155,8 @@ fn hand_last(expected: &[u8], met: Met, second: bool, end: End, to: Line) -> Met
         receiving.held,
         outgoing.credit(),
         incoming.credit(),
-        to.units as usize,
+        normal.units as usize,
+        expedited.units as usize,
         &mut out,
     );
     hand_front(expected, met, &out, length)
@@ -125,11 +167,11 @@ fn hand_both(expected: &[u8], joined: Joined) -> Met {
     let away = joined.away;
     let one = near.end;
     let two = away.end;
-    let to_one = joined.to_near;
-    let to_two = joined.to_away;
+    let normal = joined.normal;
+    let expedited = joined.expedited;
     let met = joined.met;
-    let first = hand_last(expected, met, false, one, to_one);
-    hand_last(expected, first, true, two, to_two)
+    let first = hand_last(expected, met, false, one, normal.from, expedited.from);
+    hand_last(expected, first, true, two, normal.to, expedited.to)
 }
 
 // The lines after the one that opens the ends; then how the ends stand.

@@ -17,6 +17,8 @@ fn call_asked(
     given: &[u8],
     line1: &mut [u8],
     line2: &mut [u8],
+    signals1: &mut [u8],
+    signals2: &mut [u8],
 ) -> Joined {
     let request = asked.request;
     if asked.second {
@@ -28,9 +30,21 @@ fn call_asked(
             given,
             line2,
             line1,
+            signals2,
+            signals1,
         ));
     }
-    at_near(expected, joined, false, request, given, line1, line2)
+    at_near(
+        expected,
+        joined,
+        false,
+        request,
+        given,
+        line1,
+        line2,
+        signals1,
+        signals2,
+    )
 }
 
 fn hand_bad(expected: &[u8], joined: Joined, number: usize) -> Joined {
@@ -49,13 +63,24 @@ pub fn line_at(
     number: usize,
     line1: &mut [u8],
     line2: &mut [u8],
+    signals1: &mut [u8],
+    signals2: &mut [u8],
 ) -> Joined {
     let mut given = [0u8; 2048];
     let parsed = call_line(text, &mut given);
     match parsed {
         Parsed::Call(asked) => {
             let n = cells(asked.count);
-            call_asked(expected, joined, asked, &given[0..n], line1, line2)
+            call_asked(
+                expected,
+                joined,
+                asked,
+                &given[0..n],
+                line1,
+                line2,
+                signals1,
+                signals2,
+            )
         }
         Parsed::Bad => hand_bad(expected, joined, number),
     }

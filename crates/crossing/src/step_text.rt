@@ -1,7 +1,7 @@
 // The text of a step.
 use bench::Outcome;
 use bench::Stepped;
-use end::ReadAnswer;
+use bench::Told;
 use report::answer_line::answer_line;
 use report::other_lines::line_full;
 use report::other_lines::nothing_waiting;
@@ -10,11 +10,12 @@ use script::Request;
 fn answer_text(
     second: bool,
     request: Request,
-    answer: ReadAnswer,
+    told: Told,
     unit: &[u8],
     buffer: &[u8],
     out: &mut [u8],
 ) -> usize {
+    let answer = told.answer;
     let plain = answer.answer;
     let mark = answer.mark;
     let made = plain.unit;
@@ -35,6 +36,7 @@ fn answer_text(
         &buffer[0..copied],
         answer.complete,
         answer.more,
+        told.signalled,
         mark,
         out,
     )
@@ -48,11 +50,11 @@ pub fn step_text(
     buffer: &[u8],
     out: &mut [u8],
 ) -> usize {
-    let answer = stepped.answer;
+    let told = stepped.told;
     let outcome = stepped.outcome;
     match outcome {
-        Outcome::Answered => answer_text(second, request, answer, unit, buffer, out),
-        Outcome::NothingWaiting => nothing_waiting(second, out),
+        Outcome::Answered => answer_text(second, request, told, unit, buffer, out),
+        Outcome::NothingWaiting => nothing_waiting(second, request, out),
         Outcome::Full => line_full(second, request, out),
     }
 }

@@ -1,5 +1,6 @@
 // Named cases that no script can ask for: each makes the delivered calls itself and compares every byte.
 mod deferred;
+mod expedited_calls;
 mod forged;
 mod forged_defer;
 mod forged_error;
@@ -10,6 +11,13 @@ mod wrapping;
 
 use check::same;
 use deferred::prepared_as_at_once;
+use expedited_calls::expedited_take_in_each_state;
+use expedited_calls::refusal_4_expedited;
+use expedited_calls::refusal_5_forged_expedited;
+use expedited_calls::refusal_7_before_30;
+use expedited_calls::refusal_30_forged;
+use expedited_calls::seq_expedited;
+use expedited_calls::signal_unanswered_in_each_state;
 use forged::refusal_5_forged_receives;
 use forged::refusal_5_forged_sends;
 use forged::refusal_5_forged_unit_calls;
@@ -66,7 +74,17 @@ fn error_due(name: &[u8]) -> bool {
         | (same(name, b"error_header_within_record") & error_header_within_record())
 }
 
+fn expedited(name: &[u8]) -> bool {
+    (same(name, b"seq_expedited") & seq_expedited())
+        | (same(name, b"refusal_4_expedited") & refusal_4_expedited())
+        | (same(name, b"refusal_5_forged_expedited") & refusal_5_forged_expedited())
+        | (same(name, b"refusal_7_before_30") & refusal_7_before_30())
+        | (same(name, b"refusal_30_forged") & refusal_30_forged())
+        | (same(name, b"expedited_take_in_each_state") & expedited_take_in_each_state())
+        | (same(name, b"signal_unanswered_in_each_state") & signal_unanswered_in_each_state())
+}
+
 // Whether the case of that name went as it should; an unknown name is bad. Every case is run whatever the name: they are short.
 pub fn run(name: &[u8]) -> bool {
-    opened_and_forged(name) | lent(name) | in_defer(name) | error_due(name)
+    opened_and_forged(name) | lent(name) | in_defer(name) | error_due(name) | expedited(name)
 }

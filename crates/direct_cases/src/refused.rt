@@ -41,14 +41,28 @@ fn deny(end: End, unit: &mut [u8]) -> u8 {
     refusal_of(end.send_error(unit))
 }
 
+pub fn request(end: End, unit: &mut [u8]) -> u8 {
+    refusal_of(end.request_to_send(unit))
+}
+
+// Takes the first signal on the expedited line.
+pub fn take_expedited(end: End, unit: &mut [u8]) -> u8 {
+    let taken = end.receive_expedited(b"\x00\x01\x4B\x80\x00\xC9\x00\x01\x00\x00", unit);
+    let answer = taken.answer;
+    let inner = answer.answer;
+    inner.refusal
+}
+
 fn pace(end: End, unit: &mut [u8]) -> u8 {
     refusal_of(end.send_pacing_response(unit))
 }
 
-// The calls that are lent nothing but a unit buffer.
+// The calls that are lent no buffer to be written but a unit buffer, and no send buffer.
 pub fn unit_calls(end: End, number: u8, unit: &mut [u8]) -> bool {
     (begin(end, unit) == number)
         & (pace(end, unit) == number)
         & (confirm(end, unit) == number)
         & (deny(end, unit) == number)
+        & (request(end, unit) == number)
+        & (take_expedited(end, unit) == number)
 }

@@ -8,3 +8,4 @@ mod RoomToReceive
 mod UnitFacts
 mod ReceiveUnitRows
 mod ReceiveUnitCells
+mod ExpeditedCells

@@ -14,9 +14,10 @@ use Rattle.header.specs.declared.Header.{Header}
 use Rattle.header.specs.declared.Header.the-variants.{Data, Bid, ErrorDescription, PositiveBidResponse, NegativeBidResponse, Confirmation}
 use Rattle.header.specs.declared.Header.the-variants.{NegativeConfirmation, PacingResponse}
 use Rattle.answers.specs.FirstNo.{firstNo}
-use Rattle.answers.specs.Answers.{SHORT-UNIT, BAD-HEADER, accepted, refused, refusedNaming}
+use Rattle.answers.specs.Answers.{SHORT-UNIT, BAD-HEADER}
 use Rattle.answers.specs.declared.Answer.{Answer}
 use Rattle.answers.proofs.Rows.{yes}
+use Rattle.answers.proofs.Naming.{naming}
 use Rattle.answers.proofs.TwoRows.{pass, stop, never}
 use Rattle.end.specs.Record.{recordGood, inboxLent, unitLent}
 use Rattle.end.specs.Outcome.{Decision, refuse, lengthOut, doneOf}
@@ -80,10 +81,6 @@ take-by-kind e taken inbox unit q l g = rw (receive-kind e taken inbox unit q l 
 -- ---- the rule named
 
 -- none, where the refusal is not 21
-naming : (b : Bool) (n q rule : ℕ) → (q ≡ BAD-HEADER → ⊥) → cond b (accepted n) (refused q) ≡ cond b (accepted n) (refusedNaming rule q)
-naming true n q rule h = refl
-naming false n q rule h = rw (ne-eqb q BAD-HEADER h)
-
 pub unnamed : (taken : List ℕ) (r : Done) (d : Decision) → r ≡ doneOf d → (d .refusal ≡ BAD-HEADER → ⊥) → r ≡ doneNaming taken d
 unnamed taken r d e h =
     rw e (ap (λ (a : Answer). record { answer = a; end = d .end }) (naming (eqb (d .refusal) 0) (lengthOut (d .out)) (d .refusal) (ruleNamed taken) h))

@@ -17,7 +17,7 @@ use Rattle.end.specs.declared.End.{End}
 use Rattle.bools.proofs.Tests.{both}
 
 -- the longest unit that holds no data, an error header, has twelve bytes: M is at least 8
-fixed-room : (e : End) (n : ℕ) → unitLent e n ≡ true → recordGood e ≡ true → 12 ≤ n
+pub fixed-room : (e : End) (n : ℕ) → unitLent e n ≡ true → recordGood e ≡ true → 12 ≤ n
 fixed-room e n u g =
     let l = leb-true (e .sending .max + 5) n u in
     let s = facts e g .sending in

@@ -7,7 +7,9 @@ pub mod Close
 pub mod Defer
 pub mod Confirmed
 pub mod SendError
+pub mod RequestToSend
 pub mod ReceiveUnit
+pub mod ReceiveExpedited
 pub mod Receive
 pub mod SendPacingResponse
 pub mod Results

@@ -4,9 +4,11 @@ mod close;
 mod confirmed;
 mod defer;
 mod receive;
+mod receive_expedited;
 mod receive_unit;
 mod record;
 mod record_parts;
+mod request_to_send;
 mod requests;
 pub mod results;
 mod send_data;
@@ -16,18 +18,22 @@ mod unit_effects;
 mod unit_refusals;
 
 pub use answers::Answer;
+pub use answers::ExpeditedAnswer;
 pub use answers::ReadAnswer;
 use control::Control;
+pub use expedited::Expedited;
 pub use receiving::Receiving;
 pub use sending::Sending;
 
-// The end's record. `bidding` is the bid's number, `owed` the number owed a confirmation.
+// The end's record. `bidding` is the bid's number, `owed` the number owed a confirmation; `expedited` is what it keeps of its expedited
+// lines, which no other part depends on.
 pub struct End {
     pub control: Control,
     pub sending: Sending,
     pub receiving: Receiving,
     pub bidding: u16,
     pub owed: u16,
+    pub expedited: Expedited,
 }
 
 // What a call hands back: its answer and the new end.
@@ -38,5 +44,10 @@ pub struct Done {
 
 pub struct ReadDone {
     pub answer: ReadAnswer,
+    pub end: End,
+}
+
+pub struct ExpeditedDone {
+    pub answer: ExpeditedAnswer,
     pub end: End,
 }

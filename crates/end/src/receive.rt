@@ -86,11 +86,11 @@ impl End {
     pub fn receive(self, inbox: &mut [u8], buffer: &mut [u8]) -> ReadDone
         ensures { λ r. ⌜ copiedBy r (now (inbox .exit)) (now (buffer .exit)) ≡ receive self (now (inbox .entry)) (now (buffer .entry)) ⌝ }
     {
+        let held = self.receiving.held as usize;
         let done = self.receive_decision(inbox, buffer.len());
         if done.answer.copied == 0 {
             return done;
         }
-        let held = self.receiving.held as usize;
         hand_over(inbox, held, done.answer.copied, buffer);
         done
     }

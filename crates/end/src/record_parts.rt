@@ -1,10 +1,11 @@
 // Parts of a record changed.
 use crate::End;
 use control::Control;
+use expedited::Expedited;
 use receiving::Receiving;
 use sending::Sending;
 ghost use mathlib.Core.Path.{_≡_};
-ghost use Rattle.end.specs.Outcome.{withControl, withSending, withReceiving};
+ghost use Rattle.end.specs.Outcome.{withControl, withSending, withReceiving, withExpedited};
 
 impl End {
     pub(crate) fn with_control(mut self, control: Control) -> End
@@ -25,6 +26,13 @@ impl End {
         ensures { λ r. ⌜ r ≡ withReceiving receiving self ⌝ }
     {
         self.receiving = receiving;
+        self
+    }
+
+    pub(crate) fn with_expedited(mut self, expedited: Expedited) -> End
+        ensures { λ r. ⌜ r ≡ withExpedited expedited self ⌝ }
+    {
+        self.expedited = expedited;
         self
     }
 }

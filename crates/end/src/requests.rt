@@ -4,8 +4,10 @@ use crate::End;
 use crate::results::accepted;
 use header::ChainEnd;
 use header::DataHeader;
+use header::ExpeditedHeader;
 use header::Header;
 use transitions::begin_of;
+use unit::expedited::write_expedited;
 use unit::write::fixed_length;
 use unit::write::write_fixed;
 ghost use mathlib.Core.Path.{_≡_};
@@ -15,6 +17,7 @@ ghost use lib.Dec.{eqb};
 ghost use lib.ListN.{length};
 ghost use Rattle.unit.specs.Ru.{fixedRu};
 ghost use Rattle.unit.specs.Unit.{RU-START, cellsMade};
+ghost use Rattle.unit.specs.ExpeditedUnit.{expeditedMade};
 ghost use Rattle.answers.specs.Answers.{accepted};
 ghost use Rattle.end.specs.Requests.{dataHeader};
 
@@ -34,6 +37,21 @@ pub(crate) fn write_made(made: usize, number: u16, header: Header, unit: &mut [u
         return;
     }
     write_fixed(unit, number, header);
+}
+
+// The same of a unit for the expedited line.
+pub(crate) fn write_expedited_made(
+    made: usize,
+    number: u16,
+    header: ExpeditedHeader,
+    unit: &mut [u8],
+)
+    ensures { λ _. ⌜ now (unit .exit) ≡ cond (eqb made 0) (now (unit .entry)) (expeditedMade number header (now (unit .entry))) ⌝ }
+{
+    if made == 0 {
+        return;
+    }
+    write_expedited(unit, number, header);
 }
 
 impl End {

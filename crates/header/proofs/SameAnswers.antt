@@ -92,7 +92,7 @@ either dr1 dr2 exception =
     at-byte-and forms (λ f y. formIs (byte1 y) (f .0) (f .1 .0) (f .1 .1))
     (λ f y. eqb y (formByte (f .0) (f .1 .0) (f .1 .1)) || eqb y (formByte (f .0) (f .1 .0) (f .1 .1) + PACING)) refl (dr1, (dr2, exception))
 
-unpaced : (dr1 dr2 exception : Bool) (y : ℕ) → y < 256
+pub unpaced : (dr1 dr2 exception : Bool) (y : ℕ) → y < 256
     → not (on PACING y) && formIs (byte1 y) dr1 dr2 exception ≡ eqb y (formByte dr1 dr2 exception)
 unpaced dr1 dr2 exception =
     at-byte-and forms (λ f y. not (on PACING y) && formIs (byte1 y) (f .0) (f .1 .0) (f .1 .1))
@@ -103,7 +103,7 @@ positive : (y : ℕ) → y < 256 → formIs (byte1 y) false (not (on PACING y)) 
 positive = at-byte (λ y. formIs (byte1 y) false (not (on PACING y)) false) (λ y. eqb y 0x20 || eqb y 0x01) refl
 
 -- byte 2, with BB or without
-bracket : (bb : Bool) (z : ℕ) → z < 256 → bracketIs (byte2 z) bb ≡ eqb z (bit bb BB)
+pub bracket : (bb : Bool) (z : ℕ) → z < 256 → bracketIs (byte2 z) bb ≡ eqb z (bit bb BB)
 bracket = at-byte-and bools (λ bb z. bracketIs (byte2 z) bb) (λ bb z. eqb z (bit bb BB)) refl
 
 -- what H2 says where this is left of its list

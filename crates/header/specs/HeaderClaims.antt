@@ -1,7 +1,7 @@
 -- What is claimed of headers, for a reader to find. Proved in proofs/, and promised by the function `theorems::headers`.
 -- Assumes nothing.
 use mathlib.Core.Path.{_≡_}
-use mathlib.Core.Bool.{true, cond}
+use mathlib.Core.Bool.{Bool, true, cond}
 use Prim.Native.Nat.{ℕ, zero, suc, _+_, _≤_}
 use Rattle.header.specs.Rules.{bytes, breaks, ruleNumber, headerGood}
 use Rattle.header.specs.Header.{headerBytes, readHeader}
@@ -33,10 +33,10 @@ abbrev pub sumBelow : (ℕ → ℕ) → ℕ → ℕ
 sumBelow f zero = 0
 sumBelow f (suc n) = f n + sumBelow f n
 
--- how many of the 256 × 256 × 256 headers are good
-unfoldable pub goodHeaders : ℕ
-goodHeaders = sumBelow (λ x. sumBelow (λ y. sumBelow (λ z. cond (headerGood (bytes x y z)) 1 0) 256) 256) 256
+-- how many of the 256 × 256 × 256 headers a test finds good
+unfoldable pub howMany : (HeaderBytes → Bool) → ℕ
+howMany good = sumBelow (λ x. sumBelow (λ y. sumBelow (λ z. cond (good (bytes x y z)) 1 0) 256) 256) 256
 
--- exactly 51 of them
+-- on the normal line exactly 51 of them
 abbrev pub FiftyOne : Type 0
-FiftyOne = goodHeaders ≡ 51
+FiftyOne = howMany headerGood ≡ 51

@@ -5,3 +5,6 @@ pub mod HeaderClaims
 pub mod Indicators
 pub mod HeaderSteps
 pub mod ManualOrder
+pub mod ExpeditedHeader
+pub mod ExpeditedSteps
+pub mod ExpeditedClaims

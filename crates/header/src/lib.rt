@@ -1,5 +1,6 @@
 // The request/response header of three bytes: its fields, its rules, how it is built and how it is read.
 pub mod build;
+pub mod expedited;
 pub mod indicators;
 pub mod read_header;
 pub mod theorems;
@@ -67,5 +68,17 @@ pub enum Rule {
 // What three bytes say: the fields, or the lowest rule that they break.
 pub enum HeaderRead {
     Good(Header),
+    Breaks(Rule),
+}
+
+// The fields of a header on an expedited line: a signal (document 000: SIG), or its response, document 02's answer.
+pub enum ExpeditedHeader {
+    Signal,
+    SignalResponse,
+}
+
+// What three bytes say there: the fields, or the rule that they break, H1 or H2.
+pub enum ExpeditedRead {
+    Good(ExpeditedHeader),
     Breaks(Rule),
 }

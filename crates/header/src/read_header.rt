@@ -36,14 +36,14 @@ fn keeps_h1(b: Byte0) -> bool
 }
 
 // "Form of Response Requested", "Response Type": the three bits are these, in the order of figure D-2.
-fn form_is(b: Byte1, dr1: bool, dr2: bool, exception: bool) -> bool
+pub(crate) fn form_is(b: Byte1, dr1: bool, dr2: bool, exception: bool) -> bool
     ensures { λ r. ⌜ r ≡ formIs b dr1 dr2 exception ⌝ }
 {
     !b.other & ((b.dr1 == dr1) & ((b.dr2 == dr2) & (b.exception == exception)))
 }
 
 // "Bracket Control", "Change Direction Indicator": BB is on, or off, and no other bit is on.
-fn bracket_is(b: Byte2, bb: bool) -> bool
+pub(crate) fn bracket_is(b: Byte2, bb: bool) -> bool
     ensures { λ r. ⌜ r ≡ bracketIs b bb ⌝ }
 {
     !b.other & ((b.bb == bb) & (!b.cd & !b.ceb))

@@ -26,6 +26,7 @@ use denote.Struct.Struct.{layout}
 use denote.Struct.Field.{rows}
 use Rattle.end.specs.declared.Done.{Done}
 use Rattle.end.specs.declared.ReadDone.{ReadDone}
+use Rattle.end.specs.declared.ExpeditedDone.{ExpeditedDone}
 use Rattle.end.proofs.End as T
 use Rattle.end.proofs.End.Laws as T′
 use Rattle.answers.proofs.Answer as N
@@ -34,7 +35,10 @@ use Rattle.end.proofs.Done as P
 use Rattle.answers.proofs.ReadAnswer as RN
 use Rattle.answers.proofs.ReadAnswer.Laws as RN′
 use Rattle.end.proofs.ReadDone as RP
-use Rattle.host.specs.InPlace.{doneBy, readDoneBy}
+use Rattle.answers.proofs.ExpeditedAnswer as XN
+use Rattle.answers.proofs.ExpeditedAnswer.Laws as XN′
+use Rattle.end.proofs.ExpeditedDone as XP
+use Rattle.host.specs.InPlace.{doneBy, readDoneBy, expeditedDoneBy}
 
 -- the types of a call: the record that it changes, its answer, and the struct in which the method hands both back, which is made of the two
 pub record Called : Type 2 where
@@ -65,7 +69,7 @@ both Q = record {
 abbrev pub both-laws : (Q : Called) → LL.Laws (both Q)
 both-laws Q = (LL.field-laws (Q .answer) (Q .answer-laws) (Q .answer-low), (LL.field-laws (Q .end) (Q .end-laws) (Q .end-low), tt))
 
--- the calls whose answer is an `Answer`, and the read
+-- the calls whose answer is an `Answer`, the read, and the take on the expedited line
 abbrev pub calls : Called
 calls = record {
   end = T.the-type;
@@ -98,6 +102,23 @@ reads = record {
   both-of = readDoneBy;
   both-is = λ d. refl;
   one = RP.the-type .to-one;
+}
+
+abbrev pub expedites : Called
+expedites = record {
+  end = T.the-type;
+  answer = XN.the-type;
+  end-laws = T′.the-laws;
+  answer-laws = XN′.the-laws;
+  end-low = T′.lowers;
+  answer-low = XN′.lowers;
+  name = XP.the-type .name;
+  Both = ExpeditedDone;
+  answer-in = λ d. d .answer;
+  end-in = λ d. d .end;
+  both-of = expeditedDoneBy;
+  both-is = λ d. refl;
+  one = XP.the-type .to-one;
 }
 
 -- the end's record as a caller by value holds it

@@ -8,7 +8,7 @@ use lib.Dec.{leb}
 use lib.ListN.{length}
 use borrow.Author.Tests.{eqb-true}
 use Rattle.end.specs.declared.End.{End}
-use Rattle.image.specs.ImageParts.{byteAt, flagGood, numberBytes, numberAt, windowBytes, windowAt, placeBytes, placeAt, placeGood, firstByte}
+use Rattle.image.specs.ImageParts.{byteAt, flagByte, flagAt, flagGood, numberBytes, numberAt, windowBytes, windowAt, placeBytes, placeAt, placeGood, firstByte}
 use Rattle.image.specs.Image.{IMAGE, FORMAT, imageOf, recordIn, controlBytes, controlIn, formatGood, codesGood, flagsGood, placesGood, imageGood, imageRead}
 use Rattle.image.specs.declared.ImageRead.the-variants.{Record}
 use Rattle.image.proofs.BackAndForth.{role-back, state-back, follows-back, mark-back, flag-back, number-back, place-back, role-good, state-good, follows-good, mark-good, flag-good, place-good, role-there, state-there, follows-there, mark-there, flag-there, number-there, place-there}
@@ -43,6 +43,9 @@ module _ (e : End) (g : firstByte (e .sending .given) < 256) (t : firstByte (e .
         place-back (e .receiving .read) r,
         number-back (e .bidding),
         number-back (e .owed),
+        flag-back (e .expedited .unanswered),
+        number-back (e .expedited .sent),
+        number-back (e .expedited .taken),
       )
 
   image-good : imageGood (imageOf e) ≡ true
@@ -60,6 +63,7 @@ module _ (e : End) (g : firstByte (e .sending .given) < 256) (t : firstByte (e .
         flag-good (e .control .inchain),
         flag-good (e .sending .window .pending),
         flag-good (e .receiving .window .pending),
+        flag-good (e .expedited .unanswered),
         place-good (e .sending .given) g,
         place-good (e .receiving .taken) t,
         place-good (e .receiving .read) r,
@@ -83,10 +87,13 @@ module _ (image : List ℕ) (bytes : (i : ℕ) → byteAt image i < 256) where
   abbrev flags : List Bool
   flags =
       flagGood image 5 ∷ flagGood image 6 ∷ flagGood image 7 ∷ flagGood image 8
-      ∷ flagGood image 11 ∷ flagGood image 23 ∷ flagGood image 42 ∷ []
+      ∷ flagGood image 11 ∷ flagGood image 23 ∷ flagGood image 42 ∷ flagGood image 43 ∷ []
 
   numbers : (at : ℕ) → numberBytes (numberAt image at) ≡ byteAt image at ∷ byteAt image (at + 1) ∷ []
   numbers at = number-there (byteAt image at) (byteAt image (at + 1)) (bytes at)
+
+  flagged : (at : ℕ) → flagGood image at ≡ true → _≡_ {A = List ℕ} (flagByte (flagAt image at) ∷ []) (byteAt image at ∷ [])
+  flagged at h = rw (flag-there (byteAt image at) h)
 
   windows : (at : ℕ) → flagGood image (at + 2) ≡ true
       → windowBytes (windowAt image at) ≡ byteAt image at ∷ byteAt image (at + 1) ∷ byteAt image (at + 2) ∷ []
@@ -123,7 +130,8 @@ module _ (image : List ℕ) (bytes : (i : ℕ) → byteAt image i < 256) where
       let sizes = beside (beside (beside (beside (windows 21 (l 5)) (numbers 24)) (numbers 26)) (numbers 28)) (numbers 30) in
       let receiving = beside (beside sizes (places 32 (p 1))) (places 35 (p 2)) in
       let parts = beside (beside (beside (beside (controls (t 0) (t 1) (t 2)) sending) receiving) (numbers 38)) (numbers 40) in
-      beside parts (rw (flag-there (byteAt image 42) (l 6)))
+      let lines = beside (beside (flagged 43 (l 7)) (numbers 44)) (numbers 46) in
+      beside (beside parts (flagged 42 (l 6))) lines
 
   pub read-is-written : (e : End) → imageRead image ≡ Record e → imageOf e ≡ image
   read-is-written e h =

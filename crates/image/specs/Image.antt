@@ -1,4 +1,4 @@
--- An end's record as an image of 43 bytes, with no padding; a host keeps it in memory of its own.
+-- An end's record as an image of 48 bytes, with no padding; a host keeps it in memory of its own.
 -- Assumes nothing.
 use Prim.Native.Nat.{ℕ}
 use mathlib.Core.Bool.{Bool, cond, _&&_}
@@ -9,6 +9,7 @@ use Rattle.control.specs.StateTests.{roleNumber, stateNumber, markNumber}
 use Rattle.control.specs.declared.Control.{Control}
 use Rattle.answers.specs.Answers.{BAD-BUFFER, BAD-RECORD}
 use Rattle.control.specs.StateTests.{roleOf}
+use Rattle.expedited.specs.declared.Expedited.{Expedited}
 use Rattle.end.specs.declared.End.{End}
 use Rattle.sending.specs.declared.Sending.{Sending}
 use Rattle.receiving.specs.declared.Receiving.{Receiving}
@@ -19,12 +20,12 @@ use Rattle.image.specs.declared.ImageRead.the-variants.{Record, Refused}
 
 -- the length of an image
 abbrev pub IMAGE : ℕ
-IMAGE = 43
+IMAGE = 48
 
 -- an image's first byte, raised with each change by which an image would be read as another record; a code more does not raise it. Images without one
 -- began with the role, 0 or 1
 abbrev pub FORMAT : ℕ
-FORMAT = 4
+FORMAT = 5
 
 -- ---- a record written
 
@@ -44,11 +45,15 @@ receivingBytes r =
     windowBytes (r .window) ++ numberBytes (r .max) ++ numberBytes (r .inbox) ++ numberBytes (r .held) ++ numberBytes (r .number)
     ++ placeBytes (r .taken) ++ placeBytes (r .read)
 
+-- bytes 43 to 47
+abbrev pub expeditedBytes : Expedited → List ℕ
+expeditedBytes x = (flagByte (x .unanswered) ∷ numberBytes (x .sent)) ++ numberBytes (x .taken)
+
 -- the format is byte 0, the bid's number bytes 38 and 39, the number owed bytes 40 and 41, the error-due flag byte 42
 unfoldable pub imageOf : End → List ℕ
 imageOf e =
     (FORMAT ∷ controlBytes (e .control)) ++ sendingBytes (e .sending) ++ receivingBytes (e .receiving) ++ numberBytes (e .bidding)
-    ++ numberBytes (e .owed) ++ (flagByte (e .control .error) ∷ [])
+    ++ numberBytes (e .owed) ++ (flagByte (e .control .error) ∷ expeditedBytes (e .expedited))
 
 -- written only over cells that are as many as an image has
 unfoldable pub imageWritten : End → List ℕ → List ℕ
@@ -92,6 +97,9 @@ receivingIn image =
       read = placeAt image 35;
     }
 
+abbrev pub expeditedIn : List ℕ → Expedited
+expeditedIn image = record { unanswered = flagAt image 43; sent = numberAt image 44; taken = numberAt image 46 }
+
 unfoldable pub recordIn : List ℕ → End
 recordIn image =
     record {
@@ -100,6 +108,7 @@ recordIn image =
       receiving = receivingIn image;
       bidding = numberAt image 38;
       owed = numberAt image 40;
+      expedited = expeditedIn image;
     }
 
 -- ---- is every value one that a record has?
@@ -113,7 +122,8 @@ codesGood image = leb (byteAt image 1) 1 && (leb (byteAt image 2) 6 && (leb (byt
 abbrev pub flagsGood : List ℕ → Bool
 flagsGood image =
     flagGood image 5
-    && (flagGood image 6 && (flagGood image 7 && (flagGood image 8 && (flagGood image 11 && (flagGood image 23 && flagGood image 42)))))
+    && (flagGood image 6
+    && (flagGood image 7 && (flagGood image 8 && (flagGood image 11 && (flagGood image 23 && (flagGood image 42 && flagGood image 43))))))
 
 abbrev pub placesGood : List ℕ → Bool
 placesGood image = placeGood image 18 && (placeGood image 32 && placeGood image 35)

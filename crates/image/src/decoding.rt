@@ -16,12 +16,13 @@ use control::state_tests::role_of;
 use end::End;
 use end::Receiving;
 use end::Sending;
+use expedited::Expedited;
 use logical_record::Position;
 use pacing::Window;
 ghost use mathlib.Core.Path.{_≡_};
 ghost use lib.ListN.{length};
 ghost use Rattle.image.specs.ImageParts.{placeAt};
-ghost use Rattle.image.specs.Image.{IMAGE, formatGood, codesGood, flagsGood, sendingIn, receivingIn, recordIn, imageRead};
+ghost use Rattle.image.specs.Image.{IMAGE, formatGood, codesGood, flagsGood, sendingIn, receivingIn, expeditedIn, recordIn, imageRead};
 
 fn format_good(image: &[u8]) -> bool
     requires { ⌜ length (now image) ≡ IMAGE ⌝ }
@@ -44,7 +45,9 @@ fn flags_good(image: &[u8]) -> bool
     (image[5] <= 1)
         & ((image[6] <= 1)
             & ((image[7] <= 1)
-                & ((image[8] <= 1) & ((image[11] <= 1) & ((image[23] <= 1) & (image[42] <= 1))))))
+                & ((image[8] <= 1)
+                    & ((image[11] <= 1)
+                        & ((image[23] <= 1) & ((image[42] <= 1) & (image[43] <= 1)))))))
 }
 
 // The record places are read first, by `read_image`: they are the parts whose reading branches. A window is written out, and not
@@ -85,6 +88,17 @@ fn receiving_in(image: &[u8], taken: Position, read: Position) -> Receiving
     }
 }
 
+fn expedited_in(image: &[u8]) -> Expedited
+    requires { ⌜ length (now image) ≡ IMAGE ⌝ }
+    ensures { λ r. ⌜ r ≡ expeditedIn (now (image .entry)) ⌝ }
+{
+    Expedited {
+        unanswered: image[43] >= 1,
+        sent: number_at(image, 44),
+        taken: number_at(image, 46),
+    }
+}
+
 // The control is written out here, and not by a function of its own, so that its first eight bytes are moved as they are.
 fn record_in(image: &[u8], given: Position, taken: Position, read: Position) -> End
     requires { ⌜ (length (now image) ≡ IMAGE) × (given ≡ placeAt (now image) 18) × (taken ≡ placeAt (now image) 32) × (read ≡ placeAt (now image) 35) ⌝ }
@@ -106,6 +120,7 @@ fn record_in(image: &[u8], given: Position, taken: Position, read: Position) -> 
         receiving: receiving_in(image, taken, read),
         bidding: number_at(image, 38),
         owed: number_at(image, 40),
+        expedited: expedited_in(image),
     }
 }
 

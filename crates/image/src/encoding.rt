@@ -13,13 +13,14 @@ use crate::image_parts::write_window;
 use end::End;
 use end::Receiving;
 use end::Sending;
+use expedited::Expedited;
 ghost use mathlib.Core.Path.{_≡_};
 ghost use mathlib.Core.List.{_∷_};
 ghost use lib.ListN.{length};
 ghost use Rattle.cells.specs.Cells.{written};
-ghost use Rattle.image.specs.Image.{IMAGE, FORMAT, controlBytes, sendingBytes, receivingBytes, imageWritten};
+ghost use Rattle.image.specs.Image.{IMAGE, FORMAT, controlBytes, sendingBytes, receivingBytes, expeditedBytes, imageWritten};
 
-// The format and the control but for the error-due flag, which is the image's last byte. It is given the whole record, and not the
+// The format and the control but for the error-due flag, which stands behind the numbers. It is given the whole record, and not the
 // control alone: nine bytes passed on their own would be taken apart bit by bit.
 fn write_control(image: &mut [u8], e: End)
     requires { ⌜ length (now image) ≡ IMAGE ⌝ }
@@ -70,6 +71,15 @@ fn write_receiving(image: &mut [u8], r: Receiving)
     write_place(image, 35, read);
 }
 
+fn write_expedited(image: &mut [u8], x: Expedited)
+    requires { ⌜ length (now image) ≡ IMAGE ⌝ }
+    ensures { λ _. ⌜ now (image .exit) ≡ written 43 (expeditedBytes x) (now (image .entry)) ⌝ }
+{
+    write_flag(image, 43, x.unanswered);
+    write_number(image, 44, x.sent);
+    write_number(image, 46, x.taken);
+}
+
 // Writes the record over an image. Where the length is not an image's, nothing is written.
 pub fn write_image(end: End, image: &mut [u8])
     ensures { λ _. ⌜ now (image .exit) ≡ imageWritten end (now (image .entry)) ⌝ }
@@ -80,10 +90,12 @@ pub fn write_image(end: End, image: &mut [u8])
     let sending = end.sending;
     let receiving = end.receiving;
     let error = end.control.error;
+    let expedited = end.expedited;
     write_control(image, end);
     write_sending(image, sending);
     write_receiving(image, receiving);
     write_number(image, 38, end.bidding);
     write_number(image, 40, end.owed);
     write_flag(image, 42, error);
+    write_expedited(image, expedited);
 }

@@ -2,14 +2,14 @@
 -- Assumes nothing.
 use Rattle.joined.proofs.JoinedWords.{ℕ, _+_, length, Bool, true, false, List, [], _∷_, _≡_, refl, arith, cases, Session, recordGood, Station, Verb}
 use Rattle.joined.proofs.JoinedWords.{count, opened-is, Pair, Lane, normal, acts, takes, sameLane, Buffers, OpeningAccepted, openedWith, openedBoth}
-use Rattle.joined.proofs.JoinedWords.{Log, At, Call, act, first, second, takeOldest, apply, step, run, Lines}
+use Rattle.joined.proofs.JoinedWords.{expedited, _∙_, Log, At, Call, act, first, second, takeOldest, apply, step, run, Lines}
 use Rattle.joined.specs.Joined as J
 use Rattle.joined.specs.Histories.{refusedWith}
 use Rattle.calls.proofs.ByteLists.{AllUnits, append-units}
-use Rattle.calls.proofs.RecordStaysGood.{good-acts, good-opened, good-takes}
-use Rattle.calls.proofs.Refusals.{never-5, take-never-5}
+use Rattle.calls.proofs.RecordStaysGood.{good-acts, good-opened, good-takes, expedited-good}
+use Rattle.calls.proofs.Refusals.{never-5, take-never-5, expedited-never-5}
 use Rattle.joined.specs.Claim.{LentBytes, BytesIn, BytesAt, BytesOfAll, AlwaysGood}
-use Rattle.calls.proofs.CellsStayBytes.{Cells, cells-acts, cells-takes}
+use Rattle.calls.proofs.CellsStayBytes.{Cells, cells-acts, cells-takes, cells-takes-expedited}
 
 -- ---- lists of calls
 
@@ -42,6 +42,21 @@ one-take e es w (u ∷ us) s f g z =
       never = one-more _ _ (take-never-5 e (s .good) u) z;
     }
 
+-- us are the line of the expedited lane
+one-expedited : (e : Station) (es : Log) (w : Lines Lane (List ℕ)) (us : List (List ℕ)) → Sound e → AllUnits (w normal) → refusedWith 5 es ≡ 0
+    → (let r = takeOldest sameLane acts takes e es w expedited us in
+    Rests (r .side .end) (r .side .waiting normal) (r .sent normal) (r .side .log))
+unfolding refusedWith acts takes
+one-expedited e es w [] s f z = record { end = s; line = f; made = tt; never = z }
+one-expedited e es w (u ∷ us) s f z =
+    let q = cells-takes-expedited e (s .cells) u in
+    record {
+      end = record { good = expedited-good e u ∙ s .good; cells = q .0 };
+      line = f;
+      made = q .1;
+      never = one-more _ _ (expedited-never-5 e (s .good) u) z;
+    }
+
 one-call : (e : Station) (es : Log) (w : Lines Lane (List ℕ)) (c : Call Lane Verb) → BytesIn c → Sound e → AllUnits (w normal) → refusedWith 5 es ≡ 0
     → (let r = apply sameLane acts takes e es w c in Rests (r .side .end) (r .side .waiting normal) (r .sent normal) (r .side .log))
 unfolding refusedWith acts takes
@@ -54,6 +69,7 @@ one-call e es w (act v) b s f z =
       never = one-more _ _ (never-5 e (s .good) v) z;
     }
 one-call e es w (J.take normal) b s f z = one-take e es w (w normal) s f f z
+one-call e es w (J.take expedited) b s f z = one-expedited e es w (w expedited) s f z
 
 record Good (p : Pair) : Type 0 where
   one : Sound (p .one .end)

@@ -6,7 +6,7 @@ use Rattle.joined.proofs.JoinedWords.{isFirstSpeaker, isReset, isReceiv
 use Rattle.joined.proofs.JoinedWords.{closed, spilled, confirmationMade, confirmationDenied, errorMade, dataReceived, errorReceived, deferred, withdrawn}
 use Rattle.joined.proofs.JoinedWords.{negativeConfirmationReceived, requestMade, bidMade, bytesRead, headerReceived, ruReceived, dataJoined, bidAnswered}
 use Rattle.joined.proofs.JoinedWords.{errorMarked, creditRaised, dataHeader, heldBytes, bytesKept, bytesSpilled, facts, closing}
-use Rattle.joined.proofs.JoinedWords.{Station, Reply, Verb, allocate-cases, bidNumber, close-cases, confirmed-cases, send-error-cases}
+use Rattle.joined.proofs.JoinedWords.{Station, Reply, Verb, allocate-cases, bidNumber, close-cases, confirmed-cases, send-error-cases, request-cases}
 use Rattle.joined.proofs.JoinedWords.{pacing-response-cases, read-cases, send-cases, defer-cases, withdraw-cases, spilledRu, sortOf, isAsking}
 use Rattle.joined.proofs.JoinedWords.{TakeAsked, Lane, normal, acts, takes, Acted, Took}
 use Rattle.header.specs.declared.Header.the-variants.{Data, Bid, ErrorDescription, PositiveBidResponse, NegativeBidResponse, Confirmation}
@@ -74,6 +74,7 @@ module _ (s : Station) (us : List (List ℕ)) (t : Tells (s .end .control .error
   tells-acts Verb.sendError =
       send-error-cases (Laned After) s (λ q n. tells-none t)
       (λ g a. tells-more t (s .end .owed) NegativeConfirmation negativeConfirmationRu true (λ r. never r) refl)
+  tells-acts Verb.requestToSend = request-cases (Laned After) s (λ q n. tells-none t) (λ a. tells-none t)
   tells-acts Verb.sendPacingResponse =
       pacing-response-cases (Laned After) s (λ q n. tells-none t) (λ g a. tells-past t 0 PacingResponse [] refl refl)
   tells-acts (Verb.sendData bytes) =
@@ -145,6 +146,7 @@ module _ (s : Station) (x : Bool) (w : Awaits x (s .end .control)) where
       confirmed-cases (Laned Stays) s (λ q n. w) (λ g a y. not-here ConfirmOwed (state-is (s .end .control .state) .2 a) refl y)
   awaits-acts Verb.sendError =
       send-error-cases (Laned Stays) s (λ q n. w) (λ g a y. not-here ConfirmOwed (state-is (s .end .control .state) .2 a) refl y)
+  awaits-acts Verb.requestToSend = request-cases (Laned Stays) s (λ q n. w) (λ a. w)
   awaits-acts Verb.sendPacingResponse = pacing-response-cases (Laned Stays) s (λ q n. w) (λ g a. w)
   awaits-acts (Verb.sendData bytes) =
       send-cases (Laned Stays) s bytes (λ q n. w) (λ a k y. not-sending (sends (a .sending)) y) (λ a k h y. not-sending (sends (a .sending)) y)

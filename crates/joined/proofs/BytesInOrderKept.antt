@@ -9,7 +9,7 @@ use Rattle.joined.proofs.JoinedWords.{Station, Reply, Verb, allocate-ca
 use Rattle.joined.proofs.JoinedWords.{send-cases, spilledRu, take-cases, ReadAsked, SendAsked, readCount, spilledUnit, Sort, sortOf, answer-sort, dataOf}
 use Rattle.joined.proofs.JoinedWords.{Lane, normal, acts, takes, onNormal, bytesInSendBuffer, Log, bytesAccepted, bytesInInbox, Acted, Took, took, acted}
 use Rattle.header.specs.declared.Header.the-variants.{Bid, ErrorDescription, Confirmation, NegativeConfirmation, PacingResponse}
-use Rattle.joined.proofs.JoinedWords.{errorMarked, send-error-cases, errorRu, negativeConfirmationRu}
+use Rattle.joined.proofs.JoinedWords.{errorMarked, send-error-cases, request-cases, errorRu, negativeConfirmationRu}
 use Rattle.calls.proofs.RecordStaysGood.{none-held}
 use Rattle.end.specs.Receive.{inboxMoved}
 use Rattle.end.specs.Receive as R
@@ -17,6 +17,7 @@ use Rattle.joined.specs.Histories as H
 use Rattle.cells.proofs.Fronts.{front-of, written-bytes}
 use Rattle.calls.proofs.CallBytes.{spilled-parts, inbox-room, read-parts, read-copied, moved-left}
 use Rattle.joined.proofs.CallsOnLanes.{Laned, LanedTake}
+use Rattle.calls.specs.Calls.{readReply}
 use Rattle.joined.proofs.OneEnd.{refused-accepts}
 use Rattle.joined.proofs.BytesInOrder.{Carried, carried-kept, carried-sent, carried-other, carried-read, carried-taken}
 
@@ -31,7 +32,7 @@ module _ (s : Station) (xs : Log) (line : List (List ℕ)) (read inbox : List �
   quiet d = rw (append-nil (bytesAccepted xs), append-nil line) d
 
   refuses : (v : Verb) (q : ℕ) (buffer : List ℕ) → eqb q 0 ≡ false
-      → Carried (bytesAccepted (acted v (record { answer = readRefused q; buffer = buffer }) (onNormal []) ∷ xs)) (bytesInSendBuffer s) (line ++ []) read inbox
+      → Carried (bytesAccepted (acted v (readReply (readRefused q) buffer) (onNormal []) ∷ xs)) (bytesInSendBuffer s) (line ++ []) read inbox
   refuses v q buffer n = rw (refused-accepts v q buffer (onNormal []) xs n, append-nil line) c
 
   -- a unit with no bytes goes out
@@ -69,6 +70,8 @@ module _ (s : Station) (xs : Log) (line : List (List ℕ)) (read inbox : List �
   bytes-acts Verb.sendError =
       send-error-cases (Laned (After Verb.sendError)) s (λ q n. refuses Verb.sendError q [] n)
       (λ g a. other (s .end .owed) NegativeConfirmation negativeConfirmationRu refl)
+  bytes-acts Verb.requestToSend =
+      request-cases (Laned (After Verb.requestToSend)) s (λ q n. refuses Verb.requestToSend q [] n) (λ a. quiet c)
   bytes-acts Verb.sendPacingResponse =
       pacing-response-cases (Laned (After Verb.sendPacingResponse)) s (λ q n. refuses Verb.sendPacingResponse q [] n) (λ g a. other 0 PacingResponse [] refl)
   bytes-acts (Verb.sendData bytes) =
@@ -124,6 +127,7 @@ module _ (s : Station) (xs : Log) (acc held : List ℕ) (back : List (List ℕ))
     bytes-in-acts Verb.allocate = allocate-cases (Laned (AfterIn Verb.allocate)) s (λ q n. quiet-in) (λ g a w. quiet-in) (λ g a w k. quiet-in)
     bytes-in-acts Verb.confirmed = confirmed-cases (Laned (AfterIn Verb.confirmed)) s (λ q n. quiet-in) (λ g a. quiet-in)
     bytes-in-acts Verb.sendError = send-error-cases (Laned (AfterIn Verb.sendError)) s (λ q n. quiet-in) (λ g a. quiet-in)
+    bytes-in-acts Verb.requestToSend = request-cases (Laned (AfterIn Verb.requestToSend)) s (λ q n. quiet-in) (λ a. quiet-in)
     bytes-in-acts Verb.sendPacingResponse = pacing-response-cases (Laned (AfterIn Verb.sendPacingResponse)) s (λ q n. quiet-in) (λ g a. quiet-in)
     bytes-in-acts (Verb.sendData bytes) = send-cases (Laned (AfterIn (Verb.sendData bytes))) s bytes (λ q n. quiet-in) (λ a k. quiet-in) (λ a k h. quiet-in)
     bytes-in-acts (Verb.close f b) =

@@ -5,7 +5,14 @@ use Prim.Native.Nat.{_+_, _*_}
 use Rattle.joined.proofs.JoinedWords.{Bidder, Session, freshEnd, Station, Reply, Verb, opened-is, Pair, Lane, normal, acts, takes, sameLane}
 use Rattle.joined.proofs.JoinedWords.{Buffers, OpeningAccepted, openedWith, openedBoth, bytesInSendBuffer, Log, bytesAccepted, bytesOnLine}
 use Rattle.joined.proofs.JoinedWords.{bytesInInbox, requestsMade, pacingResponsesTaken, breaches, badReads, CompleteIsRight, MoreIsRight, NoneCrosses}
-use Rattle.joined.proofs.JoinedWords.{At, Lines}
+use Rattle.joined.proofs.JoinedWords.{At, Lines, append-nil, cond, Expedited, withExpedited, expedited, onExpedited, expedited-cases, Took, took, join, put}
+use Rattle.joined.proofs.JoinedWords.{isBreach, accepted, false}
+use Rattle.joined.specs.Lanes.{none}
+use Rattle.answers.specs.declared.ExpeditedAnswer.{ExpeditedAnswer}
+use Rattle.calls.specs.Calls.{expeditedReply}
+use Rattle.joined.proofs.CallsOnLanes.{LanedTake}
+use Rattle.joined.proofs.Courses.{halves-flip}
+use Rattle.joined.proofs.HalvesKept.{HalvesOf, halves-acts, halves-takes, halves-takes-expedited, halves-opened, no-expedited-breach}
 use Rattle.logical_record.specs.Records.{wholeRecords, tablesFrom}
 use Rattle.logical_record.proofs.WholeRecords.{whole-records-append}
 use Rattle.logical_record.proofs.WholeTables.{tables-append}
@@ -17,7 +24,7 @@ use Rattle.joined.proofs.Confluence.{confluent}
 use Rattle.joined.proofs.EveryList.{Fact, Keeps, AfterAct, AfterTake, Ways, run-ways}
 use Rattle.calls.proofs.WindowSizes.{sizeOf, size-acts, size-takes}
 use Rattle.joined.proofs.TwoLines.{other}
-use Rattle.joined.proofs.FloorsAndBids.{Order, order-flip, order-fresh, not-both}
+use Rattle.joined.proofs.FloorsAndBids.{Order, order-flip, order-apart, order-fresh, not-both}
 use Rattle.joined.proofs.FloorsAndBidsKept.{order-acts, order-takes}
 use Rattle.joined.proofs.RequestStream.{outsideOf, insideOf, Stream, stream-fresh}
 use Rattle.joined.proofs.RequestStreamKept.{stream-acts, stream-takes, stream-in-acts, stream-in-takes}
@@ -25,7 +32,7 @@ use Rattle.joined.proofs.PacingFlags.{paces-flip, paces-fresh}
 use Rattle.joined.proofs.PacingFlagsKept.{PacesOf, paces-acts, paces-takes}
 use Rattle.joined.proofs.BytesInOrder.{Carried}
 use Rattle.joined.proofs.BytesInOrderKept.{bytes-acts, bytes-takes, bytes-in-acts, bytes-in-takes}
-use Rattle.joined.proofs.OneEnd.{valuesOf, Local}
+use Rattle.joined.proofs.OneEnd.{valuesOf, Local, local-took-expedited}
 use Rattle.joined.proofs.OneEndKept.{local-acts, local-takes}
 use Rattle.joined.proofs.NoBreach.{no-breach}
 
@@ -48,9 +55,9 @@ record Inv (r : Role) (v w : ℕ) (e : Station) (xs : Log) (line back : List (Li
   here : Here v e xs
   there : Here w f ys
 
--- the same of the lines: what it says is of the normal lane
+-- the same of the lines: what it says is of the normal lane; and the expedited half beside it
 abbrev Held : Role → ℕ → ℕ → Fact Lane Station Verb Reply (List ℕ)
-Held r v w e xs line back f ys = Inv r v w e xs (line normal) (back normal) f ys
+Held r v w e xs line back f ys = Inv r v w e xs (line normal) (back normal) f ys × HalvesOf e f (line expedited) (back expedited)
 
 -- seen from the other end too
 both :
@@ -71,14 +78,23 @@ unfolding takes
 size-took e u = size-takes e u
 
 module _ (r : Role) (v w : ℕ) where
+  -- both halves, seen from both ends
+  held-both :
+      (v′ w′ : ℕ) (e : Station) (xs : Log) (line back : Lines Lane (List ℕ)) (f : Station) (ys : Log)
+      → HalvesOf e f (line expedited) (back expedited)
+      → Inv r v′ w′ e xs (line normal) (back normal) f ys
+      → Held r v′ w′ e xs line back f ys × Held (other r) w′ v′ f ys back line e xs
+  held-both v′ w′ e xs line back f ys h i = let j = both i in ((j .0, h), (j .1, halves-flip h))
+
   act-kept :
       (e : Station) (xs : Log) (line back : Lines Lane (List ℕ)) (f : Station) (ys : Log) (c : Verb)
       → Held r v w e xs line back f ys
       → AfterAct sameLane acts takes (Held r v w) (Held (other r) w v) xs line back f ys c (acts e c)
-  act-kept e xs line back f ys c i =
+  act-kept e xs line back f ys c held =
       let us = line normal in
       let vs = back normal in
-      both
+      let i = held .0 in
+      held-both _ _ (acts e c .end) _ (join line (acts e c .sent)) back f ys (halves-acts e f (line expedited) (back expedited) (held .1) c)
       (record {
         order = order-acts r e (f .end) us vs (i .order) c;
         paces = paces-acts e f us vs (i .paces) c;
@@ -100,10 +116,13 @@ module _ (r : Role) (v w : ℕ) where
   take-kept :
       (e : Station) (xs : Log) (line back : Lines Lane (List ℕ)) (f : Station) (ys : Log) (u : List ℕ) (vs : List (List ℕ))
       → Inv r v w e xs (line normal) (u ∷ vs) f ys
+      → HalvesOf e f (line expedited) (back expedited)
       → AfterTake sameLane acts takes (Held r v w) (Held (other r) w v) xs line back f ys normal u vs (takes normal e u)
-  take-kept e xs line back f ys u vs i =
+  take-kept e xs line back f ys u vs i h =
       let us = line normal in
-      both
+      let t = takes normal e u in
+      held-both _ _ (t .end) _ (join line (t .sent)) (put sameLane normal (cond (t .removed) vs (u ∷ vs)) back) f ys
+      (halves-takes e f (line expedited) (back expedited) h u)
       (record {
         order = order-takes r e (f .end) u us vs (i .order);
         paces = paces-takes e f us vs u (i .paces);
@@ -125,6 +144,47 @@ module _ (r : Role) (v w : ℕ) where
         there = i .there;
       })
 
+  -- a take on the expedited lane leaves the normal half: it is told of in the log, and there it is no breach
+  apart :
+      (e : Station) (xs : Log) (line back : List (List ℕ)) (f : Station) (ys : Log) (x : Expedited) (cells u : List ℕ) (a : ExpeditedAnswer)
+      (us : List (List ℕ))
+      → isBreach (a .answer .refusal) ≡ false
+      → Inv r v w e xs line back f ys
+      → Inv r v w (record { end = withExpedited x (e .end); send = e .send; unit = cells; inbox = e .inbox })
+      (took expedited u (expeditedReply a) (onExpedited us) ∷ xs) (line ++ []) back f ys
+  unfolding bytesAccepted bytesRead
+  apart e xs line back f ys x cells u a us q i =
+      record {
+        order = rw (append-nil line) (order-apart (i .order));
+        paces = rw (append-nil line) (i .paces);
+        out = record { stream = rw (append-nil line) (i .out .stream); carried = rw (append-nil line) (i .out .carried) };
+        into = record { stream = i .into .stream; carried = i .into .carried };
+        here = record { local = local-took-expedited u a (onExpedited us) (i .here .local) q refl; size = i .here .size };
+        there = i .there;
+      }
+
+  -- u waits on the expedited lane, before vs
+  module _ (e : Station) (xs : Log) (line back : Lines Lane (List ℕ)) (f : Station) (ys : Log) (u : List ℕ) (vs : List (List ℕ))
+      (i : Inv r v w e xs (line normal) (back normal) f ys) (h : HalvesOf e f (line expedited) (u ∷ vs)) where
+    abbrev Left : Took Lane Station Reply (List ℕ) → Type 0
+    Left t = Inv r v w (t .end) (took expedited u (t .answer) (t .sent) ∷ xs) (line normal ++ t .sent normal) (back normal) f ys
+
+    taken-apart : Left (takes expedited e u)
+    unfolding takes
+    taken-apart =
+        expedited-cases (LanedTake Left) e u
+        (λ q z n.
+        apart e xs (line normal) (back normal) f ys (e .end .expedited) (e .unit) u _ []
+        (subst (λ (k : ℕ). isBreach k ≡ false) (sym z) (no-expedited-breach e f (line expedited) u vs h)) i)
+        (λ a k. apart e xs (line normal) (back normal) f ys _ _ u _ _ refl i)
+        (λ a k. apart e xs (line normal) (back normal) f ys _ (e .unit) u (record { answer = accepted 0; signalled = false }) [] refl i)
+
+    expedited-kept : AfterTake sameLane acts takes (Held r v w) (Held (other r) w v) xs line back f ys expedited u vs (takes expedited e u)
+    expedited-kept =
+        let t = takes expedited e u in
+        held-both _ _ (t .end) _ (join line (t .sent)) (put sameLane expedited (cond (t .removed) vs (u ∷ vs)) back) f ys
+        (halves-takes-expedited e f (line expedited) u vs h) taken-apart
+
   -- a take, by its lane
   lane-kept :
       (e : Station) (xs : Log) (line back : Lines Lane (List ℕ)) (f : Station) (ys : Log) (l : Lane) (u : List ℕ) (us : List (List ℕ))
@@ -132,7 +192,9 @@ module _ (r : Role) (v w : ℕ) where
       → Held r v w e xs line back f ys
       → AfterTake sameLane acts takes (Held r v w) (Held (other r) w v) xs line back f ys l u us (takes l e u)
   lane-kept e xs line back f ys normal u us p i =
-      take-kept e xs line back f ys u us (subst (λ (vs : List (List ℕ)). Inv r v w e xs (line normal) vs f ys) p i)
+      take-kept e xs line back f ys u us (subst (λ (vs : List (List ℕ)). Inv r v w e xs (line normal) vs f ys) p (i .0)) (i .1)
+  lane-kept e xs line back f ys expedited u us p i =
+      expedited-kept e xs line back f ys u us (i .0) (subst (λ (vs : List (List ℕ)). HalvesOf e f (line expedited) vs) p (i .1))
 
   keeps : Keeps sameLane acts takes (Held r v w) (Held (other r) w v)
   keeps =
@@ -207,10 +269,12 @@ opened-kept : (s t : Session) (b c : Buffers) → JoinedOpenings s t b c
 opened-kept s t b c j =
     let x = opened-as FirstSpeaker s b (ap roleOf (j .speaker)) (j .one) in
     let y = opened-as Bidder t c (ap roleOf (j .bidder)) (j .two) in
-    both
-    (subst (λ (e : Station). Inv FirstSpeaker (s .outwindow) (t .outwindow) e [] [] [] (openedWith t c .end) []) (sym x)
+    let i =
+    subst (λ (e : Station). Inv FirstSpeaker (s .outwindow) (t .outwindow) e [] [] [] (openedWith t c .end) []) (sym x)
     (subst (λ (e : Station). Inv FirstSpeaker (s .outwindow) (t .outwindow) (station FirstSpeaker s b) [] [] [] e []) (sym y)
-    (fresh-kept s t b c (j .window-out) (j .window-back) (j .max-out) (j .max-back))))
+    (fresh-kept s t b c (j .window-out) (j .window-back) (j .max-out) (j .max-back))) in
+    held-both FirstSpeaker (s .outwindow) (t .outwindow) (s .outwindow) (t .outwindow) (openedWith s b .end) [] none none (openedWith t c .end) []
+    (halves-opened s t b c (j .one) (j .two)) i
 
 every-list : (s t : Session) (b c : Buffers) (l : List (At Lane Verb)) → JoinedOpenings s t b c
     → (let p = after s t b c l in
@@ -228,7 +292,8 @@ counted-as requests credits size w n e h = h ∙ ap (λ (k : ℕ). k * (1 + n)) 
 joint-of : (s t : Session) (p : Pair)
     → Held FirstSpeaker (s .outwindow) (t .outwindow) (p .one .end) (p .one .log) (p .two .waiting) (p .one .waiting) (p .two .end) (p .two .log)
     → Joint s t p
-joint-of s t p i =
+joint-of s t p held =
+    let i = held .0 in
     record {
       not-both = λ x y. not-both (i .order) x y;
       no-breach-one = i .here .local .no-breach;
@@ -275,7 +340,7 @@ reads-of x l =
 pub the-records : TheRecords
 the-records s t b c l j =
     let p = after s t b c l in
-    let i = every-list s t b c l j in
+    let i = every-list s t b c l j .0 in
     let out = arrive (p .one) (p .two) (i .out .carried .bytes) in
     let back = arrive (p .two) (p .one) (i .into .carried .bytes) in
     record {

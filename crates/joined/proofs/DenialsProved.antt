@@ -2,12 +2,13 @@
 -- Assumes nothing.
 use Rattle.joined.proofs.JoinedWords.{ℕ, length, Bool, true, false, cond, List, [], _∷_, _++_, _≡_, refl, sym, ap, _∙_, subst, never, Session}
 use Rattle.joined.proofs.JoinedWords.{Station, Reply, Verb, opened-is, Lane, normal, acts, takes, sameLane, Buffers, OpeningAccepted, openedWith}
-use Rattle.joined.proofs.JoinedWords.{openedBoth, Log, Lines, acted, took}
+use Rattle.joined.proofs.JoinedWords.{openedBoth, Log, Lines, acted, took, Took, expedited, expedited-cases}
 use mathlib.Core.List.{append-assoc}
 use Rattle.joined.specs.Denials.{unitsMade, unitsTaken, announcedBehind, announced, AsAnnounced, Denials, TheDenials}
 use Rattle.joined.specs.Claim.{JoinedEnd}
 use Rattle.joined.proofs.EveryList.{Fact, Keeps, AfterAct, AfterTake, run-ways}
-use Rattle.joined.proofs.Announced.{Tells, tells-fresh, announced-split, as-announced-split}
+use Rattle.joined.proofs.CallsOnLanes.{LanedTake}
+use Rattle.joined.proofs.Announced.{Tells, tells-fresh, tells-none, announced-split, as-announced-split}
 use Rattle.joined.proofs.AnnouncedKept.{Awaits, tells-acts, tells-takes, awaits-acts, awaits-takes}
 
 -- ---- an end by itself, and one way between two ends
@@ -49,6 +50,16 @@ alone-takes e xs u a =
           (awaits-takes e (announced false (unitsTaken xs)) (a .awaits) u);
     }
 
+-- a take on the expedited lane is no concern of the normal one
+alone-takes-expedited : (e : Station) (xs : Log) (u : List ℕ) → Alone e xs
+    → Alone (takes expedited e u .end) (took expedited u (takes expedited e u .answer) (takes expedited e u .sent) ∷ xs)
+unfolding unitsMade unitsTaken takes
+alone-takes-expedited e xs u a =
+    expedited-cases (LanedTake (λ (t : Took Lane Station Reply (List ℕ)). Alone (t .end) (took expedited u (t .answer) (t .sent) ∷ xs))) e u
+    (λ q w n. record { tells = tells-none (a .tells); awaits = a .awaits })
+    (λ b k. record { tells = tells-none (a .tells); awaits = a .awaits })
+    (λ b k. record { tells = tells-none (a .tells); awaits = a .awaits })
+
 -- units made join the line
 made-joins : (made taken line new : List (List ℕ)) → made ≡ taken ++ line → made ++ new ≡ taken ++ (line ++ new)
 made-joins made taken line new e = ap (λ (us : List (List ℕ)). us ++ new) e ∙ append-assoc taken line new
@@ -84,6 +95,14 @@ take-kept e xs line back f ys normal u us p i j =
         alone = j .alone;
         conserved = j .conserved ∙ ap (λ (vs : List (List ℕ)). unitsTaken xs ++ vs) p ∙ taken-leaves (t .removed) (unitsTaken xs) us u;
       },
+    )
+take-kept e xs line back f ys expedited u us p i j =
+    let t = takes expedited e u in (
+      record {
+        alone = alone-takes-expedited e xs u (i .alone);
+        conserved = made-joins (unitsMade xs) (unitsTaken ys) (line normal) (t .sent normal) (i .conserved);
+      },
+      record { alone = j .alone; conserved = j .conserved },
     )
 
 keeps : Keeps sameLane acts takes Held Held

@@ -1,5 +1,6 @@
 -- The order of a conversation at two joined ends: floors and bids fit, whatever is still under way.
 -- Assumes nothing.
+use Rattle.joined.proofs.JoinedWords.{Expedited, withExpedited}
 use Rattle.joined.proofs.JoinedWords.{ℕ, eqb, Bool, true, false, cond, _&&_, List, [], _∷_, _≡_, refl, sym, ap, _∙_, subst, on, left, beginsBracket, DataHeader}
 use Rattle.joined.proofs.JoinedWords.{Header, numberIn, confirmationFits, isBidder, isReset, isReceive, isConfirmAwaited, isNothing, holdsSend, Role}
 use Rattle.joined.proofs.JoinedWords.{FirstSpeaker}
@@ -27,6 +28,10 @@ pub record Order (r : Role) (e f : End) (line back : List (List ℕ)) : Type 0 w
 pub order-flip : {r : Role} {e f : End} {line back : List (List ℕ)} → Order r e f line back → Order (other r) f e back line
 order-flip {r} i =
     record { role = i .partner; partner = i .role ∙ sym (other-other r); floors = led-flip (i .floors); bids = led-flip (i .bids) }
+
+-- what an end keeps of the expedited lanes is not looked at
+pub order-apart : {r : Role} {e f : End} {line back : List (List ℕ)} {x : Expedited} → Order r e f line back → Order r (withExpedited x e) f line back
+order-apart i = record { role = i .role; partner = i .partner; floors = i .floors; bids = i .bids }
 
 pub order-fresh :
     (w m w′ m′ inbox v k v′ k′ inbox′ : ℕ)

@@ -5,7 +5,7 @@ use Rattle.joined.proofs.JoinedWords.{left, or-right, beginsBracket, Ch
 use Rattle.joined.proofs.JoinedWords.{confirmationFits, isFirstSpeaker, isBidder, isReset, isReceive, isNothing, holdsSend, Control, Role, FirstSpeaker}
 use Rattle.joined.proofs.JoinedWords.{Bidder, WhatReceived, send-is, sending-holds, closing, deferred, withdrawn, defer-cases, withdraw-cases}
 use Rattle.joined.proofs.JoinedWords.{afterLast, afterOwed, markOf, beginOf, closed, spilled, confirmationMade, confirmationDenied, errorMade}
-use Rattle.joined.proofs.JoinedWords.{errorReceived, negativeConfirmationReceived, errorMarked, send-error-cases, sentEnd, errorRu, negativeConfirmationRu}
+use Rattle.joined.proofs.JoinedWords.{errorReceived, negativeConfirmationReceived, errorMarked, send-error-cases, request-cases, sentEnd, errorRu, negativeConfirmationRu}
 use Rattle.joined.proofs.JoinedWords.{sending-clear}
 use Rattle.joined.proofs.JoinedWords.{dataReceived, requestReceived, requestMade, nextNumber, bidMade, bytesRead, headerReceived, ruReceived}
 use Rattle.joined.proofs.JoinedWords.{dataJoined, bidAnswered, creditRaised, recordGood, dataHeader, heldBytes, bytesKept, bytesSpilled, End, facts}
@@ -34,7 +34,7 @@ use Rattle.joined.proofs.Floor.{confirmed-floor, last-floor, mark-floor
 use Rattle.joined.proofs.Bids.{Pending, none, some, bidAt, bidOf, bidMoves, bidOn, Bids, bids-moved, bid-speaker, bid-off}
 use Rattle.calls.proofs.CallCases.{kind-cases, tookKind}
 use Rattle.joined.proofs.CallsOnLanes.{Laned, LanedTake}
-use Rattle.joined.proofs.FloorsAndBids.{Order, floor-in, floor-holding, data-moves, bid-moves, positive-response-moves, bid-answered, confirmation-moves}
+use Rattle.joined.proofs.FloorsAndBids.{order-apart, Order, floor-in, floor-holding, data-moves, bid-moves, positive-response-moves, bid-answered, confirmation-moves}
 use Rattle.joined.proofs.FloorsAndBids.{order-fits-confirmation}
 use Rattle.joined.proofs.FloorsAndBids as taken
 
@@ -194,6 +194,7 @@ module _ (r : Role) (s : Station) (f : End) (line back : List (List ℕ)) (i : O
       (led-moved (e .owed) Confirmation [] (afterOwedFloor (c .follows)) refl (confirmed-moves r (c .follows) (e .owed))
       (led-as (floor-in e ConfirmOwed p) (i .floors))))
       (led-past (e .owed) Confirmation [] (λ v. refl) (i .bids)) i)
+  order-acts Verb.requestToSend = request-cases (Laned After) s (λ q n. rw append-nil i) (λ a. rw append-nil (order-apart i))
   order-acts Verb.sendError =
       send-error-cases (Laned After) s (λ q n. rw append-nil i)
       (λ g a.

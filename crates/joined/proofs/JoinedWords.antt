@@ -46,18 +46,20 @@ unfoldable pub use Rattle.end.specs.{SendData.bytesKept, SendData.bytesSpilled}
 pub use Rattle.end.specs.{Close.closing, Receive.recordRest, ReceiveUnit.headerReceived, ReceiveUnit.ruReceived, ReceiveUnit.ruleNamed, Record.recordGood}
 pub use Rattle.end.specs.{SendData.heldBytes}
 pub use Rattle.end.specs.{SendData.gone, declared.End.End}
+pub use Rattle.end.specs.{Outcome.withExpedited}
+pub use Rattle.expedited.specs.{declared.Expedited.Expedited}
 pub use Rattle.end.proofs.{RecordGood.facts}
 pub use Rattle.calls.specs.{Calls.Station, Calls.Reply, Calls.Verb, UnitCounts.count, UnitCounts.isPacingResponse}
 unfoldable pub use Rattle.calls.specs.{UnitCounts.requestsAmong}
 pub use Rattle.calls.proofs.{CallCases.allocate-cases, CallCases.bidNumber, CallCases.close-cases, CallCases.confirmed-cases}
-pub use Rattle.calls.proofs.{CallCases.defer-cases, CallCases.withdraw-cases, CallCases.send-error-cases, CallCases.sentEnd}
+pub use Rattle.calls.proofs.{CallCases.defer-cases, CallCases.withdraw-cases, CallCases.send-error-cases, CallCases.request-cases, CallCases.expedited-cases, CallCases.sentEnd}
 pub use Rattle.calls.proofs.{CallCases.pacing-response-cases, CallCases.read-cases, CallCases.send-cases, CallCases.spilledRu, CallCases.take-cases}
 pub use Rattle.calls.proofs.{CallCases.ReadAsked, CallCases.SendAsked, CallCases.readCount, CallCases.spilledUnit, CallCases.control-within}
 pub use Rattle.calls.proofs.{CallCases.TakeAsked, ControlMoved.allocate-moves, ControlMoved.mark-moves, RecordStaysGood.opened-is, UnitsByHeader.Sort}
 pub use Rattle.calls.proofs.{UnitsByHeader.sortOf, UnitsByHeader.isAsking, UnitsByHeader.taken-header, UnitsByHeader.isPacing, UnitsByHeader.bitOf}
 pub use Rattle.calls.proofs.{UnitsByHeader.answer-sort, UnitsByHeader.dataOf}
 pub use Rattle.joined.specs.{Claim.Pair, Ends.Lane, Ends.normal, Ends.sameLane, Ends.Buffers, Ends.OpeningAccepted, Ends.openedWith}
-pub use Rattle.joined.specs.{Ends.openedBoth, Ends.onNormal, Histories.bytesInSendBuffer, Histories.Log, Histories.bytesInInbox}
+pub use Rattle.joined.specs.{Ends.openedBoth, Ends.onNormal, Ends.onExpedited, Ends.expedited, Histories.bytesInSendBuffer, Histories.Log, Histories.bytesInInbox}
 pub use Rattle.joined.specs.{Histories.isBreach, Joined.Acted, Joined.Took, Joined.At, Joined.Call, Joined.act, Joined.first, Joined.second}
 pub use Rattle.joined.specs.{Joined.Both, Joined.Local, Joined.Event, Joined.took, Joined.takeOldest, Joined.apply, Joined.run, Joined.acted}
 pub use Rattle.joined.specs.{Lanes.Lines, Lanes.join, Lanes.put}

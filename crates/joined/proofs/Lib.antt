@@ -17,8 +17,11 @@ pub mod PacingFlagsKept
 pub mod BytesInOrderKept
 pub mod NoBreach
 pub mod OneEndKept
+pub mod Courses
+pub mod HalvesKept
 pub mod ClaimProved
 pub mod AlwaysGood
 pub mod Announced
 pub mod AnnouncedKept
 pub mod DenialsProved
+pub mod SignalsProved

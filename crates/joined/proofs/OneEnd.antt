@@ -14,7 +14,9 @@ use Rattle.control.specs.declared.WhatReceived.the-variants as mark
 use Rattle.answers.specs.Answers.{refused, refusedNaming}
 use Rattle.answers.specs.declared.Answer.{Answer}
 use Rattle.joined.specs.Histories.{given, bytesRead, isBadRead}
-use Rattle.calls.specs.Calls.{plain}
+use Rattle.calls.specs.Calls.{plain, readReply, expeditedReply}
+use Rattle.answers.specs.declared.ExpeditedAnswer.{ExpeditedAnswer}
+use Rattle.joined.specs.Ends.{expedited}
 
 -- The values of an end that its log speaks of: those that only reads and takes change, and the window's size; the others.
 pub record Inner : Type 0 where
@@ -62,7 +64,7 @@ walk-more bs new p q e f = walk-append start bs new ∙ ap (λ (w : Walked). the
 -- ---- a call that copies no byte: bytes may be given, units made, a mark answered
 
 abbrev pub reply : Answer → WhatReceived → List ℕ → Reply
-reply a m buffer = record { answer = record { answer = a; copied = 0; complete = false; more = false; mark = m }; buffer = buffer }
+reply a m buffer = record { answer = record { answer = a; copied = 0; complete = false; more = false; mark = m }; buffer = buffer; signalled = false }
 
 pub local-act :
     {v : Values} {xs : Log} (verb : Verb) (a : Answer) (m : WhatReceived) (buffer : List ℕ) (us : Lines Lane (List ℕ)) (w : Values)
@@ -93,6 +95,7 @@ refused-gives Verb.allocate q e = refl
 refused-gives Verb.confirmed q e = refl
 refused-gives Verb.sendError q e = refl
 refused-gives Verb.sendPacingResponse q e = refl
+refused-gives Verb.requestToSend q e = refl
 refused-gives Verb.withdraw q e = refl
 refused-gives (Verb.sendData bytes) q e = rw e
 refused-gives (Verb.close f b) q e = refl
@@ -100,7 +103,7 @@ refused-gives (Verb.defer d) q e = refl
 refused-gives (Verb.receive buffer) q e = refl
 
 pub refused-accepts : (verb : Verb) (q : ℕ) (buffer : List ℕ) (us : Lines Lane (List ℕ)) (xs : Log) → eqb q 0 ≡ false
-    → bytesAccepted (acted verb (record { answer = readRefused q; buffer = buffer }) us ∷ xs) ≡ bytesAccepted xs
+    → bytesAccepted (acted verb (readReply (readRefused q) buffer) us ∷ xs) ≡ bytesAccepted xs
 unfolding bytesAccepted
 refused-accepts verb q buffer us xs e = rw (refused-gives verb q e) (append-nil (bytesAccepted xs))
 
@@ -109,7 +112,7 @@ pub local-refused :
     → eqb q 0 ≡ false
     → isBadRead verb q ≡ false
     → Local v xs
-    → Local v (acted verb (record { answer = readRefused q; buffer = buffer }) (onNormal []) ∷ xs)
+    → Local v (acted verb (readReply (readRefused q) buffer) (onNormal []) ∷ xs)
 unfolding thenWalk requestsAmong
 local-refused {v} verb q buffer e b l =
     local-act verb (refused q) mark.Nothing buffer (onNormal []) v l (rw (refused-gives verb q e)) (l .whole) refl (zero-add (v .credit)) b
@@ -132,7 +135,7 @@ pub local-read :
     → w .credit ≡ v .credit
     → Local w
     (acted (Verb.receive asked)
-    (record { answer = record { answer = accepted 0; copied = k; complete = isBetween (w .inner .read); more = moreFollows (w .inner .read); mark = mark.Nothing }; buffer = buffer })
+    (record { answer = record { answer = accepted 0; copied = k; complete = isBetween (w .inner .read); more = moreFollows (w .inner .read); mark = mark.Nothing }; buffer = buffer; signalled = false })
     (onNormal []) ∷ xs)
 unfolding bytesAccepted bytesRead requestsAmong requestsMade pacingResponsesTaken CompleteIsRight MoreIsRight NoneCrosses badReads breaches
 local-read {v} {xs} asked k first rest buffer w l some f i r within b d g t z c =
@@ -167,7 +170,7 @@ counts true new old w v size n e f = omega (arith, e, f)
 counts false new old w v size n e f = omega (arith, e, f)
 
 pub local-took :
-    {v : Values} {xs : Log} (lane : Lane) (u : List ℕ) (a : Answer) (us : Lines Lane (List ℕ)) (b : Bool) (w : Values)
+    {v : Values} {xs : Log} (u : List ℕ) (a : Answer) (us : Lines Lane (List ℕ)) (b : Bool) (w : Values)
     → Local v xs
     → eqb (a .refusal) 0 && isPacingResponse u ≡ b
     → isBreach (a .refusal) ≡ false
@@ -177,9 +180,9 @@ pub local-took :
     → walk (w .inner .read) (w .inner .inbox) ≡ At (w .inner .taken)
     → w .inner .size ≡ v .inner .size
     → requestsAmong (us normal) + w .credit ≡ v .credit + v .inner .size * count b
-    → Local w (took lane u (plain a) us ∷ xs)
+    → Local w (took normal u (plain a) us ∷ xs)
 unfolding bytesAccepted bytesRead requestsMade pacingResponsesTaken CompleteIsRight MoreIsRight NoneCrosses badReads breaches
-local-took {v} {xs} lane u a us b w l p q g h r i z c =
+local-took {v} {xs} u a us b w l p q g h r i z c =
     record {
       given = rw g (l .given);
       whole = h;
@@ -196,11 +199,33 @@ local-took {v} {xs} lane u a us b w l p q g h r i z c =
     }
 
 pub local-take-refused :
-    {v : Values} {xs : Log} (lane : Lane) (u : List ℕ) (rule q : ℕ)
+    {v : Values} {xs : Log} (u : List ℕ) (rule q : ℕ)
     → eqb q 0 ≡ false
     → isBreach q ≡ false
     → Local v xs
-    → Local v (took lane u (plain (refusedNaming rule q)) (onNormal []) ∷ xs)
+    → Local v (took normal u (plain (refusedNaming rule q)) (onNormal []) ∷ xs)
 unfolding requestsAmong
-local-take-refused {v} lane u rule q e b l =
-    local-took lane u (refusedNaming rule q) (onNormal []) false v l (rw e) b refl (l .whole) refl (l .inbox) refl (omega arith)
+local-take-refused {v} u rule q e b l =
+    local-took u (refusedNaming rule q) (onNormal []) false v l (rw e) b refl (l .whole) refl (l .inbox) refl (omega arith)
+
+-- a take on the expedited lane, whatever it leaves there: no value of the end is its concern
+pub local-took-expedited :
+    {v : Values} {xs : Log} (u : List ℕ) (a : ExpeditedAnswer) (us : Lines Lane (List ℕ))
+    → Local v xs
+    → isBreach (a .answer .refusal) ≡ false
+    → us normal ≡ []
+    → Local v (took expedited u (expeditedReply a) us ∷ xs)
+unfolding bytesAccepted bytesRead requestsAmong requestsMade pacingResponsesTaken CompleteIsRight MoreIsRight NoneCrosses badReads breaches
+local-took-expedited {v} {xs} u a us l q n =
+    record {
+      given = l .given;
+      whole = l .whole;
+      read = l .read;
+      inbox = l .inbox;
+      counted = rw n (let q = l .counted in omega (arith, q));
+      complete = (refl, l .complete);
+      more = (refl, l .more);
+      apart = l .apart;
+      never-8 = l .never-8;
+      no-breach = rw q (zero-add (breaches xs) ∙ l .no-breach);
+    }

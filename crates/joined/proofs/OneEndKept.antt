@@ -18,7 +18,7 @@ use Rattle.logical_record.specs.declared.Walked.the-variants.{At, BadLength}
 use Rattle.logical_record.specs.declared.Rest.{Rest}
 use Rattle.logical_record.specs.declared.Rest.the-variants as restIs
 use Rattle.header.specs.declared.Header.the-variants.{Bid, ErrorDescription, Confirmation, NegativeConfirmation, PacingResponse}
-use Rattle.joined.proofs.JoinedWords.{errorMade, errorMarked, send-error-cases, errorRu, negativeConfirmationRu}
+use Rattle.joined.proofs.JoinedWords.{errorMade, errorMarked, send-error-cases, request-cases, onExpedited, errorRu, negativeConfirmationRu}
 use Rattle.control.specs.declared.WhatReceived.the-variants as mark
 use Rattle.control.proofs.States.{not-holding, in-defer}
 use mathlib.Core.Bool.{and-false}
@@ -26,6 +26,7 @@ use Rattle.joined.proofs.JoinedWords.{isSend}
 use Rattle.end.specs.Receive.{someHeld, receiveQuestions, receiveRefusal, markRead}
 use Rattle.receiving.specs.BytesRead.{restGood}
 use Rattle.joined.specs.Histories as H
+use Rattle.calls.specs.Calls.{readReply}
 use mathlib.Core.Bool.{true≢false as never}
 use Rattle.calls.proofs.Credit.{data-asks, none-made, once, other-made, request-made}
 use Rattle.calls.proofs.Refusals.{not-first}
@@ -48,7 +49,7 @@ module _ (s : Station) (xs : Log) (l : Local (valuesOf s) xs) where
   here = refl
 
   refuses : (v : Verb) → ((q : ℕ) → H.isBadRead v q ≡ false) → (q : ℕ) → eqb q 0 ≡ false
-      → Local (valuesOf s) (acted v (record { answer = readRefused q; buffer = [] }) (onNormal []) ∷ xs)
+      → Local (valuesOf s) (acted v (readReply (readRefused q) []) (onNormal []) ∷ xs)
   refuses v b q n = local-refused v q [] n (b q) l
 
   closes : (f : Follows) (c : Bool) → After (Verb.close f c) (acts s (Verb.close f c))
@@ -162,6 +163,11 @@ module _ (s : Station) (xs : Log) (l : Local (valuesOf s) xs) where
       local-act Verb.sendError (accepted 9) mark.Nothing [] (onNormal (unitOf (s .end .owed) NegativeConfirmation negativeConfirmationRu ∷ [])) _ l here
       (λ n. l .whole (denied-moves (s .end .control) (control-within (s .end) g) a .send n)) refl
       (other-made (s .end .owed) (credit (s .end .sending .window)) NegativeConfirmation negativeConfirmationRu refl) refl)
+  local-acts Verb.requestToSend =
+      request-cases (Laned (After Verb.requestToSend)) s (refuses Verb.requestToSend (λ q. refl))
+      (λ a.
+      local-act Verb.requestToSend (accepted 10) mark.Nothing [] (onExpedited _) _ l here (l .whole) refl
+      (none-made (credit (s .end .sending .window))) refl)
   local-acts Verb.sendPacingResponse =
       pacing-response-cases (Laned (After Verb.sendPacingResponse)) s (refuses Verb.sendPacingResponse (λ q. refl))
       (λ g a.
@@ -212,21 +218,21 @@ module _ (s : Station) (xs : Log) (u : List ℕ) (l : Local (valuesOf s) xs) whe
       let r = s .end .receiving in
       let w = s .end .sending .window in
       let same = no-rise (credit w) (w .size) in
-      take-cases (LanedTake Left) s u (λ q x n. local-take-refused normal u (ruleNamed u) q n (nb q x) l)
+      take-cases (LanedTake Left) s u (λ q x n. local-take-refused u (ruleNamed u) q n (nb q x) l)
       (λ d a e k.
-      local-took normal u (accepted 0) (onNormal []) false _ l (counts-pacing _ e a) refl refl (λ m. l .whole (rw (not-holding (s .end .control .state) (k .away)))) refl
+      local-took u (accepted 0) (onNormal []) false _ l (counts-pacing _ e a) refl refl (λ m. l .whole (rw (not-holding (s .end .control .state) (k .away)))) refl
       (ap (walk (r .read)) (written-bytes (r .held) ru (s .inbox) (inbox-room s (a .inbox) (a .good)))
       ∙ walk-append (r .read) (bytesInInbox s) ru ∙ ap (λ (x : Walked). thenWalk x ru) (l .inbox) ∙ k .walked) refl same)
       (λ p a e k m.
-      local-took normal u (accepted (RU-START + length (fixedRu h))) (onNormal (unitOf (numberIn u) h (fixedRu h) ∷ [])) false _ l
+      local-took u (accepted (RU-START + length (fixedRu h))) (onNormal (unitOf (numberIn u) h (fixedRu h) ∷ [])) false _ l
       (counts-pacing _ e a) refl refl
       (λ n. l .whole (m .send n)) refl (l .inbox) refl
       (other-made (numberIn u) (credit w) h (fixedRu h) (ap isAsking (answer-sort (s .end .control)))
       ∙ (let y : credit w ≡ credit w + w .size * 0 = omega arith in y)))
       (λ p a e k m.
-      local-took normal u (accepted 0) (onNormal []) false _ l (counts-pacing _ e a) refl refl (λ n. l .whole (m .send n)) refl (l .inbox) refl same)
+      local-took u (accepted 0) (onNormal []) false _ l (counts-pacing _ e a) refl refl (λ n. l .whole (m .send n)) refl (l .inbox) refl same)
       (λ c a e m.
-      local-took normal u (accepted 0) (onNormal []) false _ l (counts-pacing _ e a) refl refl (λ n. l .whole (m .send n)) refl (l .inbox) refl same)
+      local-took u (accepted 0) (onNormal []) false _ l (counts-pacing _ e a) refl refl (λ n. l .whole (m .send n)) refl (l .inbox) refl same)
       (λ a e k.
-      local-took normal u (accepted 0) (onNormal []) true _ l (counts-pacing _ e a) refl refl (l .whole) refl (l .inbox) refl
+      local-took u (accepted 0) (onNormal []) true _ l (counts-pacing _ e a) refl refl (l .whole) refl (l .inbox) refl
       (none-made (credit (answered w)) ∙ response-raises w k ∙ once (credit w) (w .size)))

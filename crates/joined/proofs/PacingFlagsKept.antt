@@ -9,7 +9,7 @@ use Rattle.joined.proofs.JoinedWords.{confirmed-cases, pacing-response-
 use Rattle.joined.proofs.JoinedWords.{bitOf, answer-sort, Lane, normal, acts, takes, Acted, Took}
 use mathlib.Core.Bool.{or-false}
 use Rattle.header.specs.declared.Header.the-variants.{Bid, ErrorDescription, Confirmation, NegativeConfirmation, PacingResponse}
-use Rattle.joined.proofs.JoinedWords.{errorMarked, send-error-cases, errorRu, negativeConfirmationRu}
+use Rattle.joined.proofs.JoinedWords.{errorMarked, send-error-cases, request-cases, errorRu, negativeConfirmationRu}
 use Rattle.joined.proofs.CallsOnLanes.{Laned, LanedTake}
 use Rattle.pacing.proofs.Windows.{no-flag-at-start}
 use Rattle.joined.proofs.PacingFlags.{Paces, paces-out, paces-answer, paces-took}
@@ -52,6 +52,7 @@ module _ (s f : Station) (line back : List (List ℕ)) (p : PacesOf s f line bac
   paces-acts Verb.sendError =
       send-error-cases (Laned After) s (λ q n. rw append-nil p)
       (λ g a. paces-past (s .end .owed) NegativeConfirmation negativeConfirmationRu refl refl p)
+  paces-acts Verb.requestToSend = request-cases (Laned After) s (λ q n. rw append-nil p) (λ a. rw append-nil p)
   paces-acts Verb.sendPacingResponse =
       pacing-response-cases (Laned After) s (λ q n. rw append-nil p) (λ g a. paces-answer 0 PacingResponse [] refl refl (left (owedOf s) _ a) p)
   paces-acts (Verb.sendData bytes) =

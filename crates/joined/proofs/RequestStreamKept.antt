@@ -25,7 +25,7 @@ use Rattle.calls.proofs.RecordStaysGood.{none-held}
 use Rattle.calls.proofs.ErrorLaws.{closed-chain}
 use mathlib.Core.Bool.{and-false}
 use Rattle.joined.proofs.JoinedWords.{isSend}
-use Rattle.joined.proofs.JoinedWords.{confirmationDenied, errorMade, errorMarked, send-error-cases, sentEnd, errorRu, maySend, recordGood}
+use Rattle.joined.proofs.JoinedWords.{confirmationDenied, errorMade, errorMarked, send-error-cases, request-cases, sentEnd, errorRu, maySend, recordGood}
 
 -- ---- one field at a time
 
@@ -112,6 +112,7 @@ module _ (s : Station) (i : Inside) (line : List (List ℕ)) (st : Stream (outsi
   stream-acts w Verb.confirmed = confirmed-cases (Laned After) s (λ q n. rw append-nil st) (λ g a. stream-response (s .end .owed) Confirmation st refl)
   stream-acts w Verb.sendError =
       send-error-cases (Laned After) s (λ q n. rw append-nil st) (λ g a. stream-response (s .end .owed) NegativeConfirmation st refl)
+  stream-acts w Verb.requestToSend = request-cases (Laned After) s (λ q n. rw append-nil st) (λ a. rw append-nil st)
   stream-acts w Verb.sendPacingResponse = pacing-response-cases (Laned After) s (λ q n. rw append-nil st) (λ g a. stream-response 0 PacingResponse st refl)
   stream-acts w (Verb.sendData bytes) =
       let o = s .end .sending in
@@ -157,6 +158,7 @@ module _ (s : Station) (o : Outside) (back : List (List ℕ)) where
       allocate-cases (Laned AfterIn) s (λ q n. st) (λ g a w. same-link _ (allocate-moves c (control-within (s .end) g) a .into) st)
       (λ g a w k. same-link _ (allocate-moves c (control-within (s .end) g) a .into) st)
   stream-in-acts st Verb.confirmed = confirmed-cases (Laned AfterIn) s (λ q n. st) (λ g a. st)
+  stream-in-acts st Verb.requestToSend = request-cases (Laned AfterIn) s (λ q n. st) (λ a. st)
   stream-in-acts st Verb.sendError = send-error-cases (Laned AfterIn) s (λ q n. st) (λ g a. st)
   stream-in-acts st Verb.sendPacingResponse = pacing-response-cases (Laned AfterIn) s (λ q n. st) (λ g a. st)
   stream-in-acts st (Verb.sendData bytes) = send-cases (Laned AfterIn) s bytes (λ q n. st) (λ a k. st) (λ a k h. st)

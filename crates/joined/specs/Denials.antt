@@ -11,7 +11,7 @@ use Rattle.session.specs.declared.Session.{Session}
 use Rattle.calls.specs.Calls.{Verb, refusalIn}
 use Rattle.calls.specs.UnitCounts.{isRequest, isNegativeConfirmation, isErrorHeader}
 use Rattle.joined.specs.Joined.{At, acted, took}
-use Rattle.joined.specs.Ends.{Lane, normal, Buffers, OpeningAccepted}
+use Rattle.joined.specs.Ends.{Lane, normal, expedited, Buffers, OpeningAccepted}
 use Rattle.joined.specs.Histories.{Log}
 use Rattle.joined.specs.Claim.{JoinedEnd, Pair, after}
 
@@ -27,6 +27,7 @@ unitsMade (took l u r us ∷ es) = unitsMade es ++ us normal
 unfoldable pub unitsTaken : Log → List (List ℕ)
 unitsTaken [] = []
 unitsTaken (acted v r us ∷ es) = unitsTaken es
+unitsTaken (took expedited u r us ∷ es) = unitsTaken es
 unitsTaken (took normal u r us ∷ es) = cond (eqb (refusalIn r) 0) (unitsTaken es ++ (u ∷ [])) (unitsTaken es)
 
 -- ---- an error header is announced

@@ -9,32 +9,43 @@ use lib.Dec.{eqb}
 use lib.ListN.{length}
 use Rattle.session.specs.Opening as O
 use Rattle.session.specs.declared.Session.{Session}
-use Rattle.calls.specs.Calls.{Station, Verb, Reply, refusalIn, Called, called, taken}
-use Rattle.joined.specs.Lanes.{Lines, none, only}
+use Rattle.calls.specs.Calls.{Station, Verb, Reply, refusalIn, Called, called, taken, takenExpedited}
+use Rattle.joined.specs.Lanes.{Lines, none}
 use Rattle.joined.specs.Joined.{Acted, Took, Side, Both}
 
--- The lanes between two ends.
+-- The lanes between two ends: the normal one, and the expedited one, on which signals and their responses run.
 pub data Lane : Type 0 where
   normal : Lane
+  expedited : Lane
   deriving Discrete as sameLane
 
--- units on the normal lane, and none on any other
-abbrev pub onNormal : List (List ℕ) → Lines Lane (List ℕ)
-onNormal us = only sameLane normal us
+-- units of the normal lane, and units of the expedited one
+abbrev pub byLane : List (List ℕ) → List (List ℕ) → Lines Lane (List ℕ)
+byLane us vs normal = us
+byLane us vs expedited = vs
 
--- what a call leaves, its unit on the normal lane
+-- units on the normal lane, and none on the other
+abbrev pub onNormal : List (List ℕ) → Lines Lane (List ℕ)
+onNormal us = byLane us []
+
+-- units on the expedited lane, and none on the other
+abbrev pub onExpedited : List (List ℕ) → Lines Lane (List ℕ)
+onExpedited us = byLane [] us
+
+-- what a call leaves, its unit on the lane that it is for
 abbrev pub onLanes : Called → Acted Lane Station Reply (List ℕ)
-onLanes m = record { end = m .end; answer = m .answer; sent = onNormal (m .sent) }
+onLanes m = record { end = m .end; answer = m .answer; sent = byLane (m .sent) (m .expedited) }
 
 unfoldable pub acts : Station → Verb → Acted Lane Station Reply (List ℕ)
 acts s v = onLanes (called s v)
 
 -- a unit that is taken goes from its line unless it is refused
 abbrev pub tookOnLanes : Called → Took Lane Station Reply (List ℕ)
-tookOnLanes m = record { end = m .end; answer = m .answer; sent = onNormal (m .sent); removed = eqb (refusalIn (m .answer)) 0 }
+tookOnLanes m = record { end = m .end; answer = m .answer; sent = byLane (m .sent) (m .expedited); removed = eqb (refusalIn (m .answer)) 0 }
 
 unfoldable pub takes : Lane → Station → List ℕ → Took Lane Station Reply (List ℕ)
 takes normal s u = tookOnLanes (taken s u)
+takes expedited s u = tookOnLanes (takenExpedited s u)
 
 -- ---- openings
 

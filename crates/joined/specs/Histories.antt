@@ -13,8 +13,9 @@ use Rattle.header.specs.Rules.{bytes}
 use Rattle.answers.specs.Answers.{BAD-LL}
 use Rattle.calls.specs.UnitCounts.{count, dataRu, requestsAmong, isPacingResponse}
 use Rattle.joined.specs.Joined.{Event, acted, took}
-use Rattle.joined.specs.Ends.{Lane, normal}
-use Rattle.calls.specs.Calls.{Reply, Station, Verb, allocate, close, confirmed, defer, sendError, sendPacingResponse, receive, refusalIn, sendData, withdraw}
+use Rattle.joined.specs.Ends.{Lane, normal, expedited}
+use Rattle.calls.specs.Calls.{Reply, Station, Verb, allocate, close, confirmed, defer, sendError, sendPacingResponse, receive, refusalIn, requestToSend}
+use Rattle.calls.specs.Calls.{sendData, withdraw}
 
 abbrev pub Log : Type 0
 Log = List (Event Lane Verb Reply (List ℕ))
@@ -27,6 +28,7 @@ given allocate q = []
 given confirmed q = []
 given sendError q = []
 given sendPacingResponse q = []
+given requestToSend q = []
 given withdraw q = []
 given (sendData bytes) q = cond (eqb q 0) bytes []
 given (close f b) q = []
@@ -58,16 +60,18 @@ bytesInSendBuffer s = take (s .end .sending .held) (s .send)
 
 -- ---- counts
 
--- among the units made on the normal lane
+-- among the units made on the normal lane: signals are not counted
 unfoldable pub requestsMade : Log → ℕ
 requestsMade [] = 0
 requestsMade (acted v r us ∷ es) = requestsAmong (us normal) + requestsMade es
 requestsMade (took l u r us ∷ es) = requestsAmong (us normal) + requestsMade es
 
+-- the accepted takes of pacing answers, which run on the normal lane
 unfoldable pub pacingResponsesTaken : Log → ℕ
 pacingResponsesTaken [] = 0
 pacingResponsesTaken (acted v r us ∷ es) = pacingResponsesTaken es
-pacingResponsesTaken (took l u r us ∷ es) = count (eqb (refusalIn r) 0 && isPacingResponse u) + pacingResponsesTaken es
+pacingResponsesTaken (took normal u r us ∷ es) = count (eqb (refusalIn r) 0 && isPacingResponse u) + pacingResponsesTaken es
+pacingResponsesTaken (took expedited u r us ∷ es) = pacingResponsesTaken es
 
 -- ---- breaches
 
@@ -97,6 +101,7 @@ isBadRead allocate q = false
 isBadRead confirmed q = false
 isBadRead sendError q = false
 isBadRead sendPacingResponse q = false
+isBadRead requestToSend q = false
 isBadRead withdraw q = false
 isBadRead (sendData bytes) q = false
 isBadRead (close f b) q = false

@@ -4,3 +4,4 @@ pub mod Ends
 pub mod Histories
 pub mod Claim
 pub mod Denials
+pub mod Signals

@@ -4,17 +4,18 @@ use mathlib.Core.Path.{_≡_, sym, ap, subst, _∙_}
 use mathlib.Core.List.{List}
 use Prim.Native.Nat.{ℕ, _<_}
 use lib.ListN.{length}
-use Rattle.end.specs.Outcome.{Made, Sent, Taken, Copied}
-use Rattle.end.specs.Results.{madeBy, sentBy, takenBy, copiedBy}
+use Rattle.end.specs.Outcome.{Made, Sent, Taken, TakenExpedited, Copied}
+use Rattle.end.specs.Results.{madeBy, sentBy, takenBy, expeditedBy, copiedBy}
 use Rattle.end.specs.declared.End.{End}
 use Rattle.end.specs.declared.Done.{Done}
 use Rattle.end.specs.declared.ReadDone.{ReadDone}
+use Rattle.end.specs.declared.ExpeditedDone.{ExpeditedDone}
 use Rattle.image.specs.Image.{IMAGE, imageRead}
 use Rattle.image.specs.declared.ImageRead.{ImageRead}
 use Rattle.image.specs.declared.ImageRead.the-variants.{Record, Refused}
 use Rattle.image.proofs.WhatIsRead.{record-known}
-use Rattle.lu62.specs.Handing.{answerNumbers, readNumbers, refusalNumbers, Handed, handed, handedOut, Left, left, onImage, onImageAlone}
-use Rattle.lu62.specs.Exported.{doneOut, madeOut, sentOut, takenOut, copiedOut}
+use Rattle.lu62.specs.Handing.{answerNumbers, readNumbers, expeditedNumbers, refusalNumbers, Handed, handed, handedOut, Left, left, onImage, onImageAlone}
+use Rattle.lu62.specs.Exported.{doneOut, madeOut, sentOut, takenOut, expeditedOut, copiedOut}
 use Rattle.lu62.proofs.LengthsFit.{WORD, small, small-alone}
 
 -- ---- the image is refused
@@ -82,9 +83,16 @@ module _ {d : Done} {inbox unit : List ℕ} {m : Taken} (p : takenBy d inbox uni
   pub taken-unit : m .done .answer .unit < WORD → d .answer .unit < WORD
   taken-unit h = subst (λ (x : Taken). x .done .answer .unit < WORD) (sym p) h
 
-pub ruleset handed-out = (record-arm, made-out, sent-out, taken-out, copied-out)
+module _ {d : ExpeditedDone} {unit : List ℕ} {m : TakenExpedited} (p : expeditedBy d unit ≡ m) where
+  pub expedited-out : {h : Handed} → h ≡ handedOut (expeditedNumbers (d .answer)) (d .end) → left h unit ≡ expeditedOut m
+  expedited-out {h} k = rw k (ap (λ (x : TakenExpedited). expeditedOut x) p)
 
-pub ruleset units = (whole, made-unit, sent-unit, taken-unit, copied-unit, copied-count)
+  pub expedited-unit : m .done .answer .answer .unit < WORD → d .answer .answer .unit < WORD
+  expedited-unit h = subst (λ (x : TakenExpedited). x .done .answer .answer .unit < WORD) (sym p) h
+
+pub ruleset handed-out = (record-arm, made-out, sent-out, taken-out, expedited-out, copied-out)
+
+pub ruleset units = (whole, made-unit, sent-unit, taken-unit, expedited-unit, copied-unit, copied-count)
 
 pub ruleset arms = (refused-arm, handed-out, units, small)
 

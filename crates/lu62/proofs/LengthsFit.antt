@@ -16,15 +16,17 @@ use Rattle.end.specs.Close.{close}
 use Rattle.end.specs.Defer.{defer, withdraw}
 use Rattle.end.specs.Confirmed.{confirmed}
 use Rattle.end.specs.SendError.{sendError}
+use Rattle.end.specs.RequestToSend.{requestToSend}
 use Rattle.end.specs.SendPacingResponse.{sendPacingResponse}
 use Rattle.end.specs.ReceiveUnit.{receiveUnit}
+use Rattle.end.specs.ReceiveExpedited.{receiveExpedited}
 use Rattle.end.specs.Receive.{bytesRead, markRead, receive}
 use Rattle.end.specs.declared.End.{End}
 use Rattle.end.specs.declared.Done.{Done}
-use Rattle.calls.specs.Calls.{Station, Verb, Called, called, taken}
+use Rattle.calls.specs.Calls.{Station, Verb, Called, called, taken, takenExpedited}
 use Rattle.calls.proofs.CallCases.{read-cases}
 use Rattle.calls.proofs.CallBytes.{count-held}
-use Rattle.calls.proofs.UnitSizes.{Fits, acts-fit, takes-fit}
+use Rattle.calls.proofs.UnitSizes.{Fits, acts-fit, takes-fit, expedited-fit}
 
 -- one more than the greatest number of 32 bits
 abbrev pub WORD : ℕ
@@ -57,6 +59,10 @@ pub error-small : (e : End) (unit : List ℕ) → sendError e unit .done .answer
 unfolding called
 error-small e unit = word _ _ (acts-fit (at e [] unit []) Verb.sendError)
 
+pub request-small : (e : End) (unit : List ℕ) → requestToSend e unit .done .answer .unit < WORD
+unfolding called
+request-small e unit = word _ _ (acts-fit (at e [] unit []) Verb.requestToSend)
+
 pub pacing-response-small : (e : End) (unit : List ℕ) → sendPacingResponse e unit .done .answer .unit < WORD
 unfolding called
 pacing-response-small e unit = word _ _ (acts-fit (at e [] unit []) Verb.sendPacingResponse)
@@ -81,6 +87,10 @@ pub take-small : (e : End) (u inbox unit : List ℕ) → receiveUnit e u inbox u
 unfolding taken
 take-small e u inbox unit = word _ _ (takes-fit (at e [] unit inbox) u)
 
+pub expedited-small : (e : End) (u unit : List ℕ) → receiveExpedited e u unit .done .answer .answer .unit < WORD
+unfolding takenExpedited
+expedited-small e u unit = word _ _ (expedited-fit (at e [] unit []) u)
+
 -- a read makes no unit, and copies at most the bytes held
 module _ (e : End) (inbox buffer : List ℕ) where
   pub read-small : receive e inbox buffer .done .answer .answer .unit < WORD
@@ -93,6 +103,18 @@ module _ (e : End) (inbox buffer : List ℕ) where
       read-cases (λ (m : Called). m .answer .answer .copied < WORD) (at e [] [] inbox) buffer
       (λ q w n. omega arith) (λ a k. omega (arith, count-held (at e [] [] inbox) buffer, h)) (λ a k m. omega arith)
 
-pub ruleset small = (allocate-small, confirmed-small, error-small, pacing-response-small, close-small, send-small, take-small, read-small, count-small)
+pub ruleset small = (
+  allocate-small,
+  confirmed-small,
+  error-small,
+  request-small,
+  pacing-response-small,
+  close-small,
+  send-small,
+  take-small,
+  expedited-small,
+  read-small,
+  count-small,
+)
 
 pub ruleset small-alone = (defer-small, withdraw-small)

@@ -14,19 +14,21 @@ use Rattle.end.specs.Close.{close}
 use Rattle.end.specs.Defer.{defer, withdraw}
 use Rattle.end.specs.Confirmed.{confirmed}
 use Rattle.end.specs.SendError.{sendError}
+use Rattle.end.specs.RequestToSend.{requestToSend}
 use Rattle.end.specs.SendPacingResponse.{sendPacingResponse}
 use Rattle.end.specs.ReceiveUnit.{receiveUnit}
+use Rattle.end.specs.ReceiveExpedited.{receiveExpedited}
 use Rattle.end.specs.Receive.{receive}
 use Rattle.end.specs.declared.End.{End}
 use Rattle.end.specs.declared.Done.{Done}
-use Rattle.calls.specs.Calls.{Station, Verb, hands, makes, called, taken}
-use Rattle.calls.proofs.Refusals.{refused-nothing, refused-buffer, refused-take-nothing}
+use Rattle.calls.specs.Calls.{Station, Verb, hands, makes, called, taken, takenExpedited}
+use Rattle.calls.proofs.Refusals.{refused-nothing, refused-buffer, refused-take-nothing, refused-expedited-nothing}
 use Rattle.image.specs.Image.{imageOf, imageRead}
 use Rattle.image.specs.declared.ImageRead.{ImageRead}
 use Rattle.image.specs.declared.ImageRead.the-variants.{Record, Refused}
 use Rattle.image.proofs.ImageRoundTrip.{read-is-written}
 use Rattle.lu62.specs.Handing.{Handed, Left, left, byReading, onImage, onImageAlone}
-use Rattle.lu62.specs.Exported.{doneOut, madeOut, sentOut, takenOut, copiedOut, closeOn}
+use Rattle.lu62.specs.Exported.{doneOut, madeOut, sentOut, takenOut, expeditedOut, copiedOut, closeOn}
 use Rattle.lu62.specs.Untouched.{Bytes, Untouched, ImageUntouched, RefusedChangesNothing}
 use Rattle.lu62.proofs.LengthsFit.{at}
 
@@ -69,6 +71,18 @@ module _ (e : End) where
       let h = refused-take-nothing (at e [] unit inbox) u n .0 in
       (ap (λ (s : Station). imageOf (s .end)) h, ap (λ (s : Station). (s .inbox, s .unit)) h)
 
+  request-refused : (unit : List ℕ) → Untouched (imageOf e) unit (madeOut (requestToSend e unit))
+  unfolding called
+  request-refused unit n =
+      let h = refused-nothing (at e [] unit []) Verb.requestToSend n .0 in
+      (ap (λ (s : Station). imageOf (s .end)) h, ap (λ (s : Station). s .unit) h)
+
+  expedited-refused : (u unit : List ℕ) → Untouched (imageOf e) unit (expeditedOut (receiveExpedited e u unit))
+  unfolding takenExpedited
+  expedited-refused u unit n =
+      let h = refused-expedited-nothing (at e [] unit []) u n .0 in
+      (ap (λ (s : Station). imageOf (s .end)) h, ap (λ (s : Station). s .unit) h)
+
   read-refused : (inbox buffer : List ℕ) → Untouched (imageOf e) (inbox, buffer) (copiedOut (receive e inbox buffer))
   unfolding called
   read-refused inbox buffer n =
@@ -95,7 +109,9 @@ refused-changes-nothing =
       withdraw = λ image b. on-image-alone image _ b (λ e. done-refused e Verb.withdraw (withdraw e) refl);
       confirmed = λ image unit b. on-image image unit _ b (λ e. made-refused e [] unit Verb.confirmed (confirmed e unit) refl);
       sendError = λ image unit b. on-image image unit _ b (λ e. made-refused e [] unit Verb.sendError (sendError e unit) refl);
+      requestToSend = λ image unit b. on-image image unit _ b (λ e. request-refused e unit);
       sendPacingResponse = λ image unit b. on-image image unit _ b (λ e. made-refused e [] unit Verb.sendPacingResponse (sendPacingResponse e unit) refl);
       receiveUnit = λ taken image inbox unit b. on-image image (inbox, unit) _ b (λ e. take-refused e taken inbox unit);
+      receiveExpedited = λ taken image unit b. on-image image unit _ b (λ e. expedited-refused e taken unit);
       receive = λ image inbox buffer b. on-image image (inbox, buffer) _ b (λ e. read-refused e inbox buffer);
     }

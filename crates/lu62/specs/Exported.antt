@@ -1,4 +1,4 @@
--- Opening and the thirteen calls on an image: each is the end's own definition at the record that the image holds.
+-- Opening and the fifteen calls on an image: each is the end's own definition at the record that the image holds.
 -- Assumes nothing.
 use Prim.Native.Nat.{ℕ}
 use mathlib.Core.Bool.{Bool, true, false, cond}
@@ -9,7 +9,7 @@ use Rattle.header.specs.declared.Follows.{Follows}
 use Rattle.header.specs.declared.Follows.the-variants.{Stay, ChangeDirection, EndBracket}
 use Rattle.control.specs.declared.Deferred.{Deferred}
 use Rattle.answers.specs.Answers.{BAD-BUFFER}
-use Rattle.end.specs.Outcome.{Made, Sent, Taken, Copied}
+use Rattle.end.specs.Outcome.{Made, Sent, Taken, TakenExpedited, Copied}
 use Rattle.session.specs.Opening.{opened}
 use Rattle.end.specs.Allocate.{allocate}
 use Rattle.end.specs.SendData.{sendData}
@@ -17,13 +17,15 @@ use Rattle.end.specs.Close.{close}
 use Rattle.end.specs.Defer.{defer, withdraw}
 use Rattle.end.specs.Confirmed.{confirmed}
 use Rattle.end.specs.SendError.{sendError}
+use Rattle.end.specs.RequestToSend.{requestToSend}
 use Rattle.end.specs.SendPacingResponse.{sendPacingResponse}
 use Rattle.end.specs.ReceiveUnit.{receiveUnit}
+use Rattle.end.specs.ReceiveExpedited.{receiveExpedited}
 use Rattle.end.specs.Receive.{receive}
 use Rattle.session.specs.declared.Session.{Session}
 use Rattle.end.specs.declared.Done.{Done}
 use Rattle.image.specs.Image.{IMAGE}
-use Rattle.lu62.specs.Handing.{answerNumbers, readNumbers, Handed, handedOut, handedBack, Left, left, onImage, onImageAlone}
+use Rattle.lu62.specs.Handing.{answerNumbers, readNumbers, expeditedNumbers, Handed, handedOut, handedBack, Left, left, onImage, onImageAlone}
 
 -- ---- what each kind of call leaves, with its cells
 
@@ -40,6 +42,10 @@ sentOut m = left (doneOut (m .done)) (m .send, m .unit)
 -- the inbox and the unit buffer
 abbrev pub takenOut : Taken → Left (List ℕ × List ℕ)
 takenOut m = left (doneOut (m .done)) (m .inbox, m .unit)
+
+-- the unit buffer, behind a take on the expedited line
+abbrev pub expeditedOut : TakenExpedited → Left (List ℕ)
+expeditedOut m = left (handedOut (expeditedNumbers (m .done .answer)) (m .done .end)) (m .unit)
 
 -- the inbox and the caller's buffer
 abbrev pub copiedOut : Copied → Left (List ℕ × List ℕ)
@@ -92,11 +98,19 @@ confirmedOn image unit = onImage image unit (λ e. madeOut (confirmed e unit))
 abbrev pub sendErrorOn : List ℕ → List ℕ → Left (List ℕ)
 sendErrorOn image unit = onImage image unit (λ e. madeOut (sendError e unit))
 
+-- document 02: request to send
+abbrev pub requestToSendOn : List ℕ → List ℕ → Left (List ℕ)
+requestToSendOn image unit = onImage image unit (λ e. madeOut (requestToSend e unit))
+
 abbrev pub sendPacingResponseOn : List ℕ → List ℕ → Left (List ℕ)
 sendPacingResponseOn image unit = onImage image unit (λ e. madeOut (sendPacingResponse e unit))
 
 abbrev pub receiveUnitOn : List ℕ → List ℕ → List ℕ → List ℕ → Left (List ℕ × List ℕ)
 receiveUnitOn taken image inbox unit = onImage image (inbox, unit) (λ e. takenOut (receiveUnit e taken inbox unit))
+
+-- document 02: take on the expedited line
+abbrev pub receiveExpeditedOn : List ℕ → List ℕ → List ℕ → Left (List ℕ)
+receiveExpeditedOn taken image unit = onImage image unit (λ e. expeditedOut (receiveExpedited e taken unit))
 
 abbrev pub receiveOn : List ℕ → List ℕ → List ℕ → Left (List ℕ × List ℕ)
 receiveOn image inbox buffer = onImage image (inbox, buffer) (λ e. copiedOut (receive e inbox buffer))

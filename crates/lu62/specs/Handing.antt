@@ -1,4 +1,4 @@
--- What an exported call hands out: the value returned, the answer's eight numbers, the image and the cells lent, as they are when it returns.
+-- What an exported call hands out: the value returned, the answer's nine numbers, the image and the cells lent, as they are when it returns.
 -- Assumes nothing.
 use Prim.Native.Nat.{ℕ}
 use mathlib.Core.List.{List, [], _∷_}
@@ -6,25 +6,30 @@ use lib.ListN.{getD}
 use Rattle.control.specs.StateTests.{markNumber}
 use Rattle.answers.specs.declared.Answer.{Answer}
 use Rattle.answers.specs.declared.ReadAnswer.{ReadAnswer}
+use Rattle.answers.specs.declared.ExpeditedAnswer.{ExpeditedAnswer}
 use Rattle.end.specs.declared.End.{End}
 use Rattle.image.specs.ImageParts.{flagByte}
 use Rattle.image.specs.Image.{imageOf, imageRead}
 use Rattle.image.specs.declared.ImageRead.{ImageRead}
 use Rattle.image.specs.declared.ImageRead.the-variants.{Record, Refused}
 
--- ---- the eight numbers: refusal, sense, rule, length of the unit made, bytes copied, complete, more, mark
+-- ---- the nine numbers: refusal, sense, rule, length of the unit made, bytes copied, complete, more, mark, signalled
 
 abbrev pub answerNumbers : Answer → List ℕ
-answerNumbers a = a .refusal ∷ a .sense ∷ a .rule ∷ a .unit ∷ 0 ∷ 0 ∷ 0 ∷ 0 ∷ []
+answerNumbers a = a .refusal ∷ a .sense ∷ a .rule ∷ a .unit ∷ 0 ∷ 0 ∷ 0 ∷ 0 ∷ 0 ∷ []
 
 abbrev pub readNumbers : ReadAnswer → List ℕ
 readNumbers a =
     a .answer .refusal ∷ a .answer .sense ∷ a .answer .rule ∷ a .answer .unit
-    ∷ a .copied ∷ flagByte (a .complete) ∷ flagByte (a .more) ∷ markNumber (a .mark) ∷ []
+    ∷ a .copied ∷ flagByte (a .complete) ∷ flagByte (a .more) ∷ markNumber (a .mark) ∷ 0 ∷ []
+
+abbrev pub expeditedNumbers : ExpeditedAnswer → List ℕ
+expeditedNumbers a =
+    a .answer .refusal ∷ a .answer .sense ∷ a .answer .rule ∷ a .answer .unit ∷ 0 ∷ 0 ∷ 0 ∷ 0 ∷ flagByte (a .signalled) ∷ []
 
 -- a refusal that has no sense
 abbrev pub refusalNumbers : ℕ → List ℕ
-refusalNumbers q = q ∷ 0 ∷ 0 ∷ 0 ∷ 0 ∷ 0 ∷ 0 ∷ 0 ∷ []
+refusalNumbers q = q ∷ 0 ∷ 0 ∷ 0 ∷ 0 ∷ 0 ∷ 0 ∷ 0 ∷ 0 ∷ []
 
 -- ---- what is handed out
 

@@ -9,7 +9,7 @@ use Rattle.control.specs.declared.Deferred.{Deferred}
 use Rattle.image.specs.ImageParts.{byteAt}
 use Rattle.lu62.specs.Handing.{Handed, Left}
 use Rattle.lu62.specs.Exported.{allocateOn, sendDataOn, flushOn, confirmOn, prepareToReceiveOn, deallocateOn, deferOn, withdrawOn}
-use Rattle.lu62.specs.Exported.{confirmedOn, sendErrorOn, sendPacingResponseOn, receiveUnitOn, receiveOn}
+use Rattle.lu62.specs.Exported.{confirmedOn, sendErrorOn, requestToSendOn, sendPacingResponseOn, receiveUnitOn, receiveExpeditedOn, receiveOn}
 
 -- an image's values are bytes, which is always so of the code's u8
 abbrev pub Bytes : List ℕ → Type 0
@@ -35,6 +35,8 @@ pub record RefusedChangesNothing : Type 0 where
   pub withdraw : (image : List ℕ) → Bytes image → ImageUntouched image (withdrawOn image)
   pub confirmed : (image unit : List ℕ) → Bytes image → Untouched image unit (confirmedOn image unit)
   pub sendError : (image unit : List ℕ) → Bytes image → Untouched image unit (sendErrorOn image unit)
+  pub requestToSend : (image unit : List ℕ) → Bytes image → Untouched image unit (requestToSendOn image unit)
   pub sendPacingResponse : (image unit : List ℕ) → Bytes image → Untouched image unit (sendPacingResponseOn image unit)
   pub receiveUnit : (taken image inbox unit : List ℕ) → Bytes image → Untouched image (inbox, unit) (receiveUnitOn taken image inbox unit)
+  pub receiveExpedited : (taken image unit : List ℕ) → Bytes image → Untouched image unit (receiveExpeditedOn taken image unit)
   pub receive : (image inbox buffer : List ℕ) → Bytes image → Untouched image (inbox, buffer) (receiveOn image inbox buffer)

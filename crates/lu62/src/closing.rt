@@ -17,7 +17,7 @@ fn close_on(
     confirm: bool,
     send: &[u8],
     unit: &mut [u8],
-    answer: &mut [u32; 8],
+    answer: &mut [u32; 9],
 ) -> u32
     ensures { λ r. ⌜ left (handed r (now (answer .exit)) (now (image .exit))) (now (unit .exit))
         ≡ closeOn follows confirm (now (send .entry)) (now (image .entry)) (now (unit .entry)) ⌝ }
@@ -36,7 +36,7 @@ pub extern "C" fn lu62_flush(
     image: &mut [u8],
     send: &[u8],
     unit: &mut [u8],
-    answer: &mut [u32; 8],
+    answer: &mut [u32; 9],
 ) -> u32
     ensures { λ r. ⌜ left (handed r (now (answer .exit)) (now (image .exit))) (now (unit .exit))
         ≡ flushOn (now (send .entry)) (now (image .entry)) (now (unit .entry)) ⌝ }
@@ -50,7 +50,7 @@ pub extern "C" fn lu62_confirm(
     image: &mut [u8],
     send: &[u8],
     unit: &mut [u8],
-    answer: &mut [u32; 8],
+    answer: &mut [u32; 9],
 ) -> u32
     ensures { λ r. ⌜ left (handed r (now (answer .exit)) (now (image .exit))) (now (unit .exit))
         ≡ confirmOn (now (send .entry)) (now (image .entry)) (now (unit .entry)) ⌝ }
@@ -66,7 +66,7 @@ pub extern "C" fn lu62_prepare_to_receive(
     confirm: u8,
     send: &[u8],
     unit: &mut [u8],
-    answer: &mut [u32; 8],
+    answer: &mut [u32; 9],
 ) -> u32
     ensures { λ r. ⌜ left (handed r (now (answer .exit)) (now (image .exit))) (now (unit .exit))
         ≡ prepareToReceiveOn (not (eqb confirm 0)) (now (send .entry)) (now (image .entry)) (now (unit .entry)) ⌝ }
@@ -89,7 +89,7 @@ pub extern "C" fn lu62_deallocate(
     confirm: u8,
     send: &[u8],
     unit: &mut [u8],
-    answer: &mut [u32; 8],
+    answer: &mut [u32; 9],
 ) -> u32
     ensures { λ r. ⌜ left (handed r (now (answer .exit)) (now (image .exit))) (now (unit .exit))
         ≡ deallocateOn (not (eqb confirm 0)) (now (send .entry)) (now (image .entry)) (now (unit .entry)) ⌝ }

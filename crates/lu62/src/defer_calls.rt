@@ -11,7 +11,7 @@ ghost use Rattle.lu62.specs.Handing.{handed};
 ghost use Rattle.lu62.specs.Exported.{deferOn, withdrawOn};
 
 // Prepare on an image, of which the two below are names.
-fn defer_on(image: &mut [u8], what: Deferred, answer: &mut [u32; 8]) -> u32
+fn defer_on(image: &mut [u8], what: Deferred, answer: &mut [u32; 9]) -> u32
     ensures { λ r. ⌜ handed r (now (answer .exit)) (now (image .exit)) ≡ deferOn what (now (image .entry)) ⌝ }
 {
     let read = read_image(image);
@@ -23,7 +23,7 @@ fn defer_on(image: &mut [u8], what: Deferred, answer: &mut [u32; 8]) -> u32
 
 // Notes that the partner is to be given the turn.
 #[no_mangle]
-pub extern "C" fn lu62_defer_turn(image: &mut [u8], answer: &mut [u32; 8]) -> u32
+pub extern "C" fn lu62_defer_turn(image: &mut [u8], answer: &mut [u32; 9]) -> u32
     ensures { λ r. ⌜ handed r (now (answer .exit)) (now (image .exit)) ≡ deferOn Turn (now (image .entry)) ⌝ }
 {
     defer_on(image, Deferred::Turn, answer)
@@ -31,7 +31,7 @@ pub extern "C" fn lu62_defer_turn(image: &mut [u8], answer: &mut [u32; 8]) -> u3
 
 // Notes that the conversation is to be ended.
 #[no_mangle]
-pub extern "C" fn lu62_defer_end(image: &mut [u8], answer: &mut [u32; 8]) -> u32
+pub extern "C" fn lu62_defer_end(image: &mut [u8], answer: &mut [u32; 9]) -> u32
     ensures { λ r. ⌜ handed r (now (answer .exit)) (now (image .exit)) ≡ deferOn End (now (image .entry)) ⌝ }
 {
     defer_on(image, Deferred::End, answer)
@@ -39,7 +39,7 @@ pub extern "C" fn lu62_defer_end(image: &mut [u8], answer: &mut [u32; 8]) -> u32
 
 // Drops the turn or end that is noted: the end may send again.
 #[no_mangle]
-pub extern "C" fn lu62_withdraw(image: &mut [u8], answer: &mut [u32; 8]) -> u32
+pub extern "C" fn lu62_withdraw(image: &mut [u8], answer: &mut [u32; 9]) -> u32
     ensures { λ r. ⌜ handed r (now (answer .exit)) (now (image .exit)) ≡ withdrawOn (now (image .entry)) ⌝ }
 {
     let read = read_image(image);

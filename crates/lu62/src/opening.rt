@@ -23,7 +23,7 @@ pub extern "C" fn lu62_open(
     unit_length: usize,
     inbox_length: usize,
     image: &mut [u8],
-    answer: &mut [u32; 8],
+    answer: &mut [u32; 9],
 ) -> u32
     ensures { λ r. ⌜ handed r (now (answer .exit)) (now (image .exit))
         ≡ openedOn (session role «out_window» «in_window» «out_max» «in_max») «send_length» «unit_length» «inbox_length» (now (image .entry)) ⌝ }
@@ -44,7 +44,7 @@ pub extern "C" fn lu62_open(
 
 // Starts a conversation. A bidder makes a bid.
 #[no_mangle]
-pub extern "C" fn lu62_allocate(image: &mut [u8], unit: &mut [u8], answer: &mut [u32; 8]) -> u32
+pub extern "C" fn lu62_allocate(image: &mut [u8], unit: &mut [u8], answer: &mut [u32; 9]) -> u32
     ensures { λ r. ⌜ left (handed r (now (answer .exit)) (now (image .exit))) (now (unit .exit)) ≡ allocateOn (now (image .entry)) (now (unit .entry)) ⌝ }
 {
     let read = read_image(image);

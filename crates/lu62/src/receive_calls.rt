@@ -15,7 +15,7 @@ pub extern "C" fn lu62_receive_unit(
     taken: &[u8],
     inbox: &mut [u8],
     unit: &mut [u8],
-    answer: &mut [u32; 8],
+    answer: &mut [u32; 9],
 ) -> u32
     ensures { λ r. ⌜ left (handed r (now (answer .exit)) (now (image .exit))) (now (inbox .exit), now (unit .exit))
         ≡ receiveUnitOn (now (taken .entry)) (now (image .entry)) (now (inbox .entry)) (now (unit .entry)) ⌝ }
@@ -33,7 +33,7 @@ pub extern "C" fn lu62_receive(
     image: &mut [u8],
     inbox: &mut [u8],
     buffer: &mut [u8],
-    answer: &mut [u32; 8],
+    answer: &mut [u32; 9],
 ) -> u32
     ensures { λ r. ⌜ left (handed r (now (answer .exit)) (now (image .exit))) (now (inbox .exit), now (buffer .exit))
         ≡ receiveOn (now (image .entry)) (now (inbox .entry)) (now (buffer .entry)) ⌝ }

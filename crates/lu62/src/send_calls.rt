@@ -14,7 +14,7 @@ pub extern "C" fn lu62_send_data(
     bytes: &[u8],
     send: &mut [u8],
     unit: &mut [u8],
-    answer: &mut [u32; 8],
+    answer: &mut [u32; 9],
 ) -> u32
     ensures { λ r. ⌜ left (handed r (now (answer .exit)) (now (image .exit))) (now (send .exit), now (unit .exit))
         ≡ sendDataOn (now (bytes .entry)) (now (image .entry)) (now (send .entry)) (now (unit .entry)) ⌝ }
@@ -28,7 +28,7 @@ pub extern "C" fn lu62_send_data(
 
 // Makes the confirmation that is owed.
 #[no_mangle]
-pub extern "C" fn lu62_confirmed(image: &mut [u8], unit: &mut [u8], answer: &mut [u32; 8]) -> u32
+pub extern "C" fn lu62_confirmed(image: &mut [u8], unit: &mut [u8], answer: &mut [u32; 9]) -> u32
     ensures { λ r. ⌜ left (handed r (now (answer .exit)) (now (image .exit))) (now (unit .exit)) ≡ confirmedOn (now (image .entry)) (now (unit .entry)) ⌝ }
 {
     let read = read_image(image);
@@ -40,7 +40,7 @@ pub extern "C" fn lu62_confirmed(image: &mut [u8], unit: &mut [u8], answer: &mut
 
 // Refuses the confirmation that is owed (document 02: no confirmation, with a cause). `lu62_flush` then makes the error header.
 #[no_mangle]
-pub extern "C" fn lu62_send_error(image: &mut [u8], unit: &mut [u8], answer: &mut [u32; 8]) -> u32
+pub extern "C" fn lu62_send_error(image: &mut [u8], unit: &mut [u8], answer: &mut [u32; 9]) -> u32
     ensures { λ r. ⌜ left (handed r (now (answer .exit)) (now (image .exit))) (now (unit .exit)) ≡ sendErrorOn (now (image .entry)) (now (unit .entry)) ⌝ }
 {
     let read = read_image(image);
@@ -55,7 +55,7 @@ pub extern "C" fn lu62_send_error(image: &mut [u8], unit: &mut [u8], answer: &mu
 pub extern "C" fn lu62_send_pacing_response(
     image: &mut [u8],
     unit: &mut [u8],
-    answer: &mut [u32; 8],
+    answer: &mut [u32; 9],
 ) -> u32
     ensures { λ r. ⌜ left (handed r (now (answer .exit)) (now (image .exit))) (now (unit .exit))
         ≡ sendPacingResponseOn (now (image .entry)) (now (unit .entry)) ⌝ }

@@ -1,7 +1,7 @@
 // Deny refused, and calls refused while the error is due that follows a confirmation denied, or while its mark is unread.
 use crossing::named::goes;
 
-const REFUSAL_6_ERROR_DUE: [u8; 394] = *b"refusal_6_error_due\n\
+const REFUSAL_6_ERROR_DUE: [u8; 418] = *b"refusal_6_error_due\n\
     ends 3 8 3 8 24 24\n\
     1 allocate\n\
     1 confirm\n\
@@ -22,11 +22,11 @@ const REFUSAL_6_ERROR_DUE: [u8; 394] = *b"refusal_6_error_due\n\
     2 send 6\n\
     2 send 6\n\
     2 read 6\n\
-    1 Waits mark none send 0 inbox 0 credit 2 open 3 waiting 1\n\
-    2 Send mark none send 0 inbox 0 credit 3 open 2 waiting 0\n";
+    1 Waits mark none send 0 inbox 0 credit 2 open 3 waiting 1 expedited 0\n\
+    2 Send mark none send 0 inbox 0 credit 3 open 2 waiting 0 expedited 0\n";
 
 // In Reset, Send, Defer, Waits and Receive; then with the error due, and after it has gone.
-const REFUSAL_7_DENY: [u8; 537] = *b"refusal_7_deny\n\
+const REFUSAL_7_DENY: [u8; 561] = *b"refusal_7_deny\n\
     ends 3 64 3 64 192 192\n\
     1 deny\n\
     2 deny\n\
@@ -61,11 +61,11 @@ const REFUSAL_7_DENY: [u8; 537] = *b"refusal_7_deny\n\
     2 deny 7\n\
     2 flush 0 unit 00010B910007070889000000\n\
     2 deny 7\n\
-    1 Waits mark none send 0 inbox 0 credit 2 open 3 waiting 2\n\
-    2 Send mark none send 0 inbox 0 credit 2 open 2 waiting 0\n";
+    1 Waits mark none send 0 inbox 0 credit 2 open 3 waiting 2 expedited 0\n\
+    2 Send mark none send 0 inbox 0 credit 2 open 2 waiting 0 expedited 0\n";
 
 // The error header goes by flush alone. After it a flush of no byte makes no unit, and a turn can be prepared.
-const REFUSAL_7_ERROR_DUE: [u8; 735] = *b"refusal_7_error_due\n\
+const REFUSAL_7_ERROR_DUE: [u8; 759] = *b"refusal_7_error_due\n\
     ends 3 64 3 64 192 192\n\
     1 allocate\n\
     1 turn confirm\n\
@@ -110,11 +110,11 @@ const REFUSAL_7_ERROR_DUE: [u8; 735] = *b"refusal_7_error_due\n\
     2 flush 0 unit 00010B910007070889000000\n\
     2 flush 0\n\
     2 prepare turn 0\n\
-    1 Waits mark none send 0 inbox 0 credit 2 open 3 waiting 2\n\
-    2 Defer-turn mark none send 0 inbox 0 credit 2 open 2 waiting 0\n";
+    1 Waits mark none send 0 inbox 0 credit 2 open 3 waiting 2 expedited 0\n\
+    2 Defer-turn mark none send 0 inbox 0 credit 2 open 2 waiting 0 expedited 0\n";
 
 // The negative confirmation costs no credit, the error header one. It stays due until there is credit; pace and take are allowed.
-const REFUSAL_10_ERROR_DUE: [u8; 671] = *b"refusal_10_error_due\n\
+const REFUSAL_10_ERROR_DUE: [u8; 695] = *b"refusal_10_error_due\n\
     ends 1 8 1 8 8 8\n\
     1 allocate\n\
     1 turn\n\
@@ -155,11 +155,11 @@ const REFUSAL_10_ERROR_DUE: [u8; 671] = *b"refusal_10_error_due\n\
     1 take 0\n\
     1 flush 0 unit 00020B910007070889000000\n\
     1 send 0\n\
-    1 Send mark none send 2 inbox 0 credit 0 open 1 waiting 0\n\
-    2 Waits mark none send 0 inbox 0 credit 0 open 1 waiting 3\n";
+    1 Send mark none send 2 inbox 0 credit 0 open 1 waiting 0 expedited 0\n\
+    2 Waits mark none send 0 inbox 0 credit 0 open 1 waiting 3 expedited 0\n";
 
 // The state stays Receive when the mark is read.
-const REFUSAL_13_MARK_ERROR: [u8; 638] = *b"refusal_13_mark_error\n\
+const REFUSAL_13_MARK_ERROR: [u8; 662] = *b"refusal_13_mark_error\n\
     ends 3 64 3 64 192 192\n\
     1 allocate\n\
     1 confirm\n\
@@ -198,11 +198,11 @@ const REFUSAL_13_MARK_ERROR: [u8; 638] = *b"refusal_13_mark_error\n\
     1 take 0\n\
     1 read 0 bytes 0002 complete\n\
     1 read 0 mark turn\n\
-    1 Send mark none send 0 inbox 0 credit 2 open 1 waiting 0\n\
-    2 Receive mark none send 0 inbox 0 credit 1 open 2 waiting 0\n";
+    1 Send mark none send 0 inbox 0 credit 2 open 1 waiting 0 expedited 0\n\
+    2 Receive mark none send 0 inbox 0 credit 1 open 2 waiting 0 expedited 0\n";
 
 // An end with the error due is in Send: no data fits, and it waits for no confirmation.
-const REFUSAL_26_ERROR_DUE: [u8; 501] = *b"refusal_26_error_due\n\
+const REFUSAL_26_ERROR_DUE: [u8; 525] = *b"refusal_26_error_due\n\
     ends 3 64 3 64 192 192\n\
     1 allocate\n\
     1 confirm\n\
@@ -225,8 +225,8 @@ const REFUSAL_26_ERROR_DUE: [u8; 501] = *b"refusal_26_error_due\n\
     2 take 28 200E0000\n\
     2 take 28 200E0000\n\
     2 flush 0 unit 00010B910007070889000000\n\
-    1 Waits mark none send 0 inbox 0 credit 2 open 3 waiting 2\n\
-    2 Send mark none send 0 inbox 0 credit 2 open 2 waiting 0\n";
+    1 Waits mark none send 0 inbox 0 credit 2 open 3 waiting 2 expedited 0\n\
+    2 Send mark none send 0 inbox 0 credit 2 open 2 waiting 0 expedited 0\n";
 
 // The case of that name; an unknown one is bad.
 pub fn error_due(name: &[u8]) -> bool {

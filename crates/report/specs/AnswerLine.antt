@@ -39,19 +39,20 @@ flagText word set = cond set word []
 unfoldable pub markText : WhatReceived → List ℕ
 markText mark = cond (isNothing mark) [] (ascii " mark " ++ markWord mark)
 
--- what a read adds
-unfoldable pub readText : List ℕ → Bool → Bool → WhatReceived → List ℕ
-readText copied complete more mark =
+-- what a read adds, or the take of a signal
+unfoldable pub toldText : List ℕ → Bool → Bool → Bool → WhatReceived → List ℕ
+toldText copied complete more signalled mark =
     bytesText (ascii " bytes ") copied
     ++ flagText (ascii " complete") complete
     ++ flagText (ascii " more") more
+    ++ flagText (ascii " signalled") signalled
     ++ markText mark
 
 -- `unit` is the unit made, `copied` what a read copied, each empty where there is none
-unfoldable pub answerText : Bool → Request → ℕ → ℕ → ℕ → List ℕ → List ℕ → Bool → Bool → WhatReceived → List ℕ
-answerText second request refusal sense rule unit copied complete more mark =
+unfoldable pub answerText : Bool → Request → ℕ → ℕ → ℕ → List ℕ → List ℕ → Bool → Bool → Bool → WhatReceived → List ℕ
+answerText second request refusal sense rule unit copied complete more signalled mark =
     callText second request
     ++ refusalText refusal sense rule
     ++ bytesText (ascii " unit ") unit
-    ++ readText copied complete more mark
+    ++ toldText copied complete more signalled mark
     ++ ascii "\n"

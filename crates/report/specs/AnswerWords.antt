@@ -7,6 +7,8 @@ use Rattle.header.specs.declared.Follows.{Follows}
 use Rattle.header.specs.declared.Follows.the-variants.{Stay, ChangeDirection, EndBracket}
 use Rattle.script.specs.declared.Verb.{Verb}
 use Rattle.script.specs.declared.Verb.the-variants as verb
+use Rattle.script.specs.declared.Flow.{Flow}
+use Rattle.script.specs.declared.Flow.the-variants.{Normal, Expedited}
 use Rattle.script.specs.declared.Request.{Request}
 use Rattle.script.specs.declared.Request.the-variants as request
 use Rattle.control.specs.declared.WhatReceived.{WhatReceived}
@@ -33,6 +35,7 @@ abbrev pub verbWords : Verb → List ℕ
 verbWords verb.Allocate = ascii "allocate"
 verbWords verb.Confirmed = ascii "confirmed"
 verbWords verb.SendError = ascii "deny"
+verbWords verb.RequestToSend = ascii "request"
 verbWords verb.SendPacingResponse = ascii "pace"
 verbWords verb.SendData = ascii "send"
 verbWords (verb.Close follows confirm) = closingWords follows confirm
@@ -40,11 +43,15 @@ verbWords (verb.Defer what) = deferWords what
 verbWords verb.Withdraw = ascii "withdraw"
 verbWords verb.Receive = ascii "read"
 
+abbrev pub takeWords : Flow → List ℕ
+takeWords Normal = ascii "take"
+takeWords Expedited = ascii "take expedited"
+
 -- an offered unit is taken too
 abbrev pub requestWords : Request → List ℕ
 requestWords (request.Call v) = verbWords v
-requestWords request.Take = ascii "take"
-requestWords request.Offer = ascii "take"
+requestWords (request.Take flow) = takeWords flow
+requestWords (request.Offer flow) = takeWords flow
 
 abbrev pub markWord : WhatReceived → List ℕ
 markWord mark.Nothing = ascii "none"

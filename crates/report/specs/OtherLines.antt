@@ -15,8 +15,8 @@ unfoldable pub openText : Bool → ℕ → List ℕ
 openText second refusal = endWord second ++ ascii " open " ++ decimalOf refusal ++ ascii "\n"
 
 -- a take with nothing waiting
-unfoldable pub nothingWaitingText : Bool → List ℕ
-nothingWaitingText second = endWord second ++ ascii " take -\n"
+unfoldable pub nothingWaitingText : Bool → Request → List ℕ
+nothingWaitingText second request = callText second request ++ ascii " -\n"
 
 -- the line to the other end is full
 unfoldable pub fullText : Bool → Request → List ℕ
@@ -33,15 +33,17 @@ stateText second state mark = endWord second ++ ascii " " ++ stateWord state ++ 
 unfoldable pub countText : List ℕ → ℕ → List ℕ
 countText label n = label ++ decimalOf n
 
--- bytes held in the send buffer and in the inbox, requests that may still be sent and taken, units that wait to be taken
-unfoldable pub countsText : ℕ → ℕ → ℕ → ℕ → ℕ → List ℕ
-countsText send inbox credit opened waiting =
+-- bytes held in the send buffer and in the inbox, requests that may still be sent and taken, units that wait to be taken, on the normal
+-- line and on the expedited one
+unfoldable pub countsText : ℕ → ℕ → ℕ → ℕ → ℕ → ℕ → List ℕ
+countsText send inbox credit opened waiting expedited =
     countText (ascii " send ") send
     ++ countText (ascii " inbox ") inbox
     ++ countText (ascii " credit ") credit
     ++ countText (ascii " open ") opened
     ++ countText (ascii " waiting ") waiting
+    ++ countText (ascii " expedited ") expedited
 
-unfoldable pub endText : Bool → State → WhatReceived → ℕ → ℕ → ℕ → ℕ → ℕ → List ℕ
-endText second state mark send inbox credit opened waiting =
-    stateText second state mark ++ countsText send inbox credit opened waiting ++ ascii "\n"
+unfoldable pub endText : Bool → State → WhatReceived → ℕ → ℕ → ℕ → ℕ → ℕ → ℕ → List ℕ
+endText second state mark send inbox credit opened waiting expedited =
+    stateText second state mark ++ countsText send inbox credit opened waiting expedited ++ ascii "\n"

@@ -13,7 +13,7 @@ use digits::printed::hex_word;
 use digits::printed::put;
 use script::Request;
 ghost use Rattle.report.specs.Prints.{PrintsAt, Prints};
-ghost use Rattle.report.specs.AnswerLine.{callText, senseText, ruleText, refusalText, bytesText, flagText, markText, readText, answerText};
+ghost use Rattle.report.specs.AnswerLine.{callText, senseText, ruleText, refusalText, bytesText, flagText, markText, toldText, answerText};
 
 pub(crate) fn put_call(out: &mut [u8], at: usize, second: bool, request: Request) -> usize
     ensures { λ r. ⌜ PrintsAt (callText second request) at (now (out .entry)) r (now (out .exit)) ⌝ }
@@ -83,21 +83,23 @@ fn put_mark(out: &mut [u8], at: usize, mark: WhatReceived) -> usize
     put_word(out, behind_label, mark_word(mark))
 }
 
-// What a read adds.
-fn put_read(
+// What a read adds, or the take of a signal.
+fn put_told(
     out: &mut [u8],
     at: usize,
     copied: &[u8],
     complete: bool,
     more: bool,
+    signalled: bool,
     mark: WhatReceived,
 ) -> usize
-    ensures { λ r. ⌜ PrintsAt (readText (now (copied .entry)) complete more mark) at (now (out .entry)) r (now (out .exit)) ⌝ }
+    ensures { λ r. ⌜ PrintsAt (toldText (now (copied .entry)) complete more signalled mark) at (now (out .entry)) r (now (out .exit)) ⌝ }
 {
     let behind_copied = put_bytes(out, at, b" bytes ", copied);
     let behind_complete = put_flag(out, behind_copied, b" complete", complete);
     let behind_more = put_flag(out, behind_complete, b" more", more);
-    put_mark(out, behind_more, mark)
+    let behind_signalled = put_flag(out, behind_more, b" signalled", signalled);
+    put_mark(out, behind_signalled, mark)
 }
 
 // `unit` is the unit made, `copied` what a read copied, each empty where there is none.
@@ -111,16 +113,17 @@ pub fn answer_line(
     copied: &[u8],
     complete: bool,
     more: bool,
+    signalled: bool,
     mark: WhatReceived,
     out: &mut [u8],
 ) -> usize
     ensures { λ r.
-        ⌜ Prints (answerText second request refusal sense rule (now (unit .entry)) (now (copied .entry)) complete more mark)
+        ⌜ Prints (answerText second request refusal sense rule (now (unit .entry)) (now (copied .entry)) complete more signalled mark)
         (now (out .entry)) r (now (out .exit)) ⌝ }
 {
     let behind_call = put_call(out, 0, second, request);
     let behind_refusal = put_refusal(out, behind_call, refusal, sense, rule);
     let behind_unit = put_bytes(out, behind_refusal, b" unit ", unit);
-    let behind_read = put_read(out, behind_unit, copied, complete, more, mark);
-    put(out, behind_read, b"\n")
+    let behind_told = put_told(out, behind_unit, copied, complete, more, signalled, mark);
+    put(out, behind_told, b"\n")
 }

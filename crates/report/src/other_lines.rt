@@ -24,11 +24,11 @@ pub fn open_line(second: bool, refusal: u8, out: &mut [u8]) -> usize
 }
 
 // A take with nothing waiting, which is no call of the end.
-pub fn nothing_waiting(second: bool, out: &mut [u8]) -> usize
-    ensures { λ r. ⌜ Prints (nothingWaitingText second) (now (out .entry)) r (now (out .exit)) ⌝ }
+pub fn nothing_waiting(second: bool, request: Request, out: &mut [u8]) -> usize
+    ensures { λ r. ⌜ Prints (nothingWaitingText second request) (now (out .entry)) r (now (out .exit)) ⌝ }
 {
-    let behind_end = put_word(out, 0, end_digit(second));
-    put(out, behind_end, b" take -\n")
+    let behind_call = put_call(out, 0, second, request);
+    put(out, behind_call, b" -\n")
 }
 
 // The line to the other end is full, and the call is not made.
@@ -73,18 +73,20 @@ fn put_counts(
     credit: u16,
     opened: u16,
     waiting: usize,
+    expedited: usize,
 ) -> usize
-    ensures { λ r. ⌜ PrintsAt (countsText send inbox credit opened waiting) at (now (out .entry)) r (now (out .exit)) ⌝ }
+    ensures { λ r. ⌜ PrintsAt (countsText send inbox credit opened waiting expedited) at (now (out .entry)) r (now (out .exit)) ⌝ }
 {
     let behind_send = put_count(out, at, b" send ", send as usize);
     let behind_inbox = put_count(out, behind_send, b" inbox ", inbox as usize);
     let behind_credit = put_count(out, behind_inbox, b" credit ", credit as usize);
     let behind_opened = put_count(out, behind_credit, b" open ", opened as usize);
-    put_count(out, behind_opened, b" waiting ", waiting)
+    let behind_waiting = put_count(out, behind_opened, b" waiting ", waiting);
+    put_count(out, behind_waiting, b" expedited ", expedited)
 }
 
 // Bytes held in the send buffer and in the inbox, requests that may still be sent (`credit`) and taken (`opened`), and units
-// that wait to be taken.
+// that wait to be taken, on the normal line and on the expedited one.
 pub fn end_line(
     second: bool,
     state: State,
@@ -94,11 +96,21 @@ pub fn end_line(
     credit: u16,
     opened: u16,
     waiting: usize,
+    expedited: usize,
     out: &mut [u8],
 ) -> usize
-    ensures { λ r. ⌜ Prints (endText second state mark send inbox credit opened waiting) (now (out .entry)) r (now (out .exit)) ⌝ }
+    ensures { λ r. ⌜ Prints (endText second state mark send inbox credit opened waiting expedited) (now (out .entry)) r (now (out .exit)) ⌝ }
 {
     let behind_state = put_state(out, 0, second, state, mark);
-    let behind_counts = put_counts(out, behind_state, send, inbox, credit, opened, waiting);
+    let behind_counts = put_counts(
+        out,
+        behind_state,
+        send,
+        inbox,
+        credit,
+        opened,
+        waiting,
+        expedited,
+    );
     put(out, behind_counts, b"\n")
 }

@@ -5,7 +5,7 @@ use mathlib.Core.Bool.{Bool, true, false, cond}
 use mathlib.Core.List.{List, [], _∷_}
 use lib.ListN.{length, drop}
 use Rattle.script.specs.TextParts.{begins}
-use Rattle.script.specs.WordsAsked.{Reading, noBytes, wordRows, rowOf, givenOf, offerOf, readOf}
+use Rattle.script.specs.WordsAsked.{Reading, noBytes, wordRows, rowOf, givenOf, takeOf, readOf}
 use Rattle.cells.specs.Cells.{front}
 use Rattle.script.specs.declared.Verb.the-variants.{SendData}
 use Rattle.script.specs.declared.Request.the-variants.{Call}
@@ -25,7 +25,7 @@ readWord = 0x72 ∷ 0x65 ∷ 0x61 ∷ 0x64 ∷ 0x20 ∷ []
 unfoldable pub requestOf : Bool → List ℕ → ℕ → Reading
 requestOf second words cells =
     cond (begins words sendWord) (givenOf second (Call SendData) (drop 5 words) cells)
-    (cond (begins words takeWord) (offerOf second (drop 5 words) cells)
+    (cond (begins words takeWord) (takeOf second (drop 5 words) cells)
     (cond (begins words readWord) (noBytes (readOf second (drop 5 words)))
     (noBytes (rowOf second words wordRows))))
 

@@ -5,6 +5,7 @@ use mathlib.Core.Bool.{Bool, true, false, cond}
 use mathlib.Core.List.{List, [], _∷_}
 use mathlib.Core.Option.{Option}
 use lib.Dec.{leb}
+use lib.ListN.{drop}
 use Rattle.cells.specs.Cells.{front}
 use Rattle.cells.specs.Equal.{sameBytes}
 use Rattle.digits.specs.DecimalRead.{numberOf}
@@ -14,8 +15,11 @@ use Rattle.digits.specs.declared.Number.the-variants as number
 use Rattle.digits.specs.declared.Hex.{Hex}
 use Rattle.digits.specs.declared.Hex.the-variants as hex
 use Rattle.control.specs.declared.Deferred.the-variants.{Turn, End}
-use Rattle.script.specs.declared.Verb.the-variants.{Allocate, Confirmed, SendError, SendPacingResponse, SendData, Defer, Withdraw, Receive}
+use Rattle.script.specs.declared.Verb.the-variants.{Allocate, Confirmed, SendError, RequestToSend, SendPacingResponse, SendData, Defer, Withdraw, Receive}
+use Rattle.script.specs.TextParts.{begins}
 use Rattle.script.specs.Closing.{flush, confirm, prepareToReceive, deallocate}
+use Rattle.script.specs.declared.Flow.{Flow}
+use Rattle.script.specs.declared.Flow.the-variants.{Normal, Expedited}
 use Rattle.script.specs.declared.Request.{Request}
 use Rattle.script.specs.declared.Request.the-variants.{Call, Take, Offer}
 use Rattle.script.specs.declared.Parsed.{Parsed}
@@ -67,11 +71,13 @@ wordRows =
     -- deny
     ∷ (0x64 ∷ 0x65 ∷ 0x6E ∷ 0x79 ∷ [], Call SendError)
     -- take
-    ∷ (0x74 ∷ 0x61 ∷ 0x6B ∷ 0x65 ∷ [], Take)
+    ∷ (0x74 ∷ 0x61 ∷ 0x6B ∷ 0x65 ∷ [], Take Normal)
     -- pace
     ∷ (0x70 ∷ 0x61 ∷ 0x63 ∷ 0x65 ∷ [], Call SendPacingResponse)
     -- send
     ∷ (0x73 ∷ 0x65 ∷ 0x6E ∷ 0x64 ∷ [], Call SendData)
+    -- request
+    ∷ (0x72 ∷ 0x65 ∷ 0x71 ∷ 0x75 ∷ 0x65 ∷ 0x73 ∷ 0x74 ∷ [], Call RequestToSend)
     ∷ []
 
 -- the first row that has these words
@@ -95,8 +101,22 @@ givenOf second request text cells =
 abbrev pub noUnit : List ℕ
 noUnit = 0x2D ∷ []
 
-unfoldable pub offerOf : Bool → List ℕ → ℕ → Reading
-offerOf second text cells = cond (sameBytes text noUnit) (noBytes (plain second Offer 0)) (givenOf second Offer text cells)
+unfoldable pub offerOf : Bool → Flow → List ℕ → ℕ → Reading
+offerOf second flow text cells = cond (sameBytes text noUnit) (noBytes (plain second (Offer flow) 0)) (givenOf second (Offer flow) text cells)
+
+-- `expedited`, and with a blank behind it
+abbrev pub expeditedLine : List ℕ
+expeditedLine = 0x65 ∷ 0x78 ∷ 0x70 ∷ 0x65 ∷ 0x64 ∷ 0x69 ∷ 0x74 ∷ 0x65 ∷ 0x64 ∷ []
+
+abbrev pub expeditedUnit : List ℕ
+expeditedUnit = 0x65 ∷ 0x78 ∷ 0x70 ∷ 0x65 ∷ 0x64 ∷ 0x69 ∷ 0x74 ∷ 0x65 ∷ 0x64 ∷ 0x20 ∷ []
+
+-- what stands behind `take `: the expedited line, with a unit or without, or a unit for the normal one
+unfoldable pub takeOf : Bool → List ℕ → ℕ → Reading
+takeOf second text cells =
+    cond (sameBytes text expeditedLine) (noBytes (plain second (Take Expedited) 0))
+    (cond (begins text expeditedUnit) (offerOf second Expedited (drop 10 text) cells)
+    (offerOf second Normal text cells))
 
 -- a buffer of 0 to 2,048 cells
 abbrev pub readInto : Bool → Number → Parsed

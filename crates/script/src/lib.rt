@@ -14,6 +14,8 @@ pub enum Verb {
     Confirmed,
     // Document 02: deny, which refuses the confirmation that is owed.
     SendError,
+    // Document 02: request to send, which asks for the turn.
+    RequestToSend,
     // Document 01: pace.
     SendPacingResponse,
     SendData,
@@ -26,11 +28,17 @@ pub enum Verb {
     Receive,
 }
 
+// The two lines on which units come to an end: the normal one, and that of signals and their answers.
+pub enum Flow {
+    Normal,
+    Expedited,
+}
+
 // What a line asks: a call, a take of the oldest unit that waits, or a take of a unit that the line gives.
 pub enum Request {
     Call(Verb),
-    Take,
-    Offer,
+    Take(Flow),
+    Offer(Flow),
 }
 
 // A line that asks for a call: at which end, and how many bytes it gives; of a read the cells of its buffer.

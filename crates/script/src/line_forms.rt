@@ -7,8 +7,8 @@ use crate::six_numbers::sizes;
 use crate::text_parts::begins;
 use crate::text_parts::behind;
 use crate::words_asked::given;
-use crate::words_asked::offer;
 use crate::words_asked::read;
+use crate::words_asked::take;
 use crate::words_asked::words_alone;
 ghost use mathlib.Core.Path.{_≡_};
 ghost use lib.ListN.{length};
@@ -40,7 +40,7 @@ fn request(second: bool, words: &[u8], bytes: &mut [u8]) -> Parsed
         );
     }
     if begins(words, b"take ") {
-        return offer(second, behind(words, 5), bytes);
+        return take(second, behind(words, 5), bytes);
     }
     if begins(words, b"read ") {
         return read(second, behind(words, 5));

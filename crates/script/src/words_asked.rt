@@ -1,8 +1,11 @@
 // What the words behind a line's end ask.
 use crate::Asked;
+use crate::Flow;
 use crate::Parsed;
 use crate::Request;
 use crate::Verb;
+use crate::text_parts::begins;
+use crate::text_parts::behind;
 use cells::same;
 use control::Deferred;
 use digits::Hex;
@@ -12,7 +15,7 @@ use digits::hexadecimal_read::hex;
 use header::Follows;
 ghost use mathlib.Core.Path.{_≡_};
 ghost use lib.ListN.{length, drop};
-ghost use Rattle.script.specs.WordsAsked.{handedBack, plain, wordRows, rowOf, counted, givenOf, offerOf, readOf};
+ghost use Rattle.script.specs.WordsAsked.{handedBack, plain, wordRows, rowOf, counted, givenOf, offerOf, takeOf, readOf};
 
 const GREATEST_COUNT: u16 = 2048;
 // Two digits for each byte.
@@ -28,7 +31,7 @@ fn plain(second: bool, request: Request, count: usize) -> Parsed
     })
 }
 
-// The words that stand alone, in four parts: rows 0 to 3, 4 to 7, 8 to 11 and 12 to 14.
+// The words that stand alone, in four parts: rows 0 to 3, 4 to 7, 8 to 11 and 12 to 15.
 pub(crate) fn words_alone(second: bool, words: &[u8]) -> Parsed
     ensures { λ r. ⌜ r ≡ rowOf second (now (words .entry)) wordRows ⌝ }
 {
@@ -96,20 +99,23 @@ fn prepare_withdraw_deny(second: bool, words: &[u8]) -> Parsed
     if same(words, b"deny") {
         return plain(second, Request::Call(Verb::SendError), 0);
     }
-    take_pace_send(second, words)
+    take_pace_send_request(second, words)
 }
 
-fn take_pace_send(second: bool, words: &[u8]) -> Parsed
+fn take_pace_send_request(second: bool, words: &[u8]) -> Parsed
     ensures { λ r. ⌜ r ≡ rowOf second (now (words .entry)) (drop 12 wordRows) ⌝ }
 {
     if same(words, b"take") {
-        return plain(second, Request::Take, 0);
+        return plain(second, Request::Take(Flow::Normal), 0);
     }
     if same(words, b"pace") {
         return plain(second, Request::Call(Verb::SendPacingResponse), 0);
     }
     if same(words, b"send") {
         return plain(second, Request::Call(Verb::SendData), 0);
+    }
+    if same(words, b"request") {
+        return plain(second, Request::Call(Verb::RequestToSend), 0);
     }
     Parsed::Bad
 }
@@ -135,14 +141,28 @@ pub(crate) fn given(second: bool, request: Request, text: &[u8], bytes: &mut [u8
 }
 
 // A unit that the line gives: `-` is that of no byte.
-pub(crate) fn offer(second: bool, text: &[u8], bytes: &mut [u8]) -> Parsed
+fn offer(second: bool, flow: Flow, text: &[u8], bytes: &mut [u8]) -> Parsed
     ensures { λ r.
-        ⌜ (r, now (bytes .exit)) ≡ handedBack (offerOf second (now (text .entry)) (length (now (bytes .entry)))) (now (bytes .entry)) ⌝ }
+        ⌜ (r, now (bytes .exit)) ≡ handedBack (offerOf second flow (now (text .entry)) (length (now (bytes .entry)))) (now (bytes .entry)) ⌝ }
 {
     if same(text, b"-") {
-        return plain(second, Request::Offer, 0);
+        return plain(second, Request::Offer(flow), 0);
     }
-    given(second, Request::Offer, text, bytes)
+    given(second, Request::Offer(flow), text, bytes)
+}
+
+// What stands behind `take `: the expedited line, with a unit or without, or a unit for the normal one.
+pub(crate) fn take(second: bool, text: &[u8], bytes: &mut [u8]) -> Parsed
+    ensures { λ r.
+        ⌜ (r, now (bytes .exit)) ≡ handedBack (takeOf second (now (text .entry)) (length (now (bytes .entry)))) (now (bytes .entry)) ⌝ }
+{
+    if same(text, b"expedited") {
+        return plain(second, Request::Take(Flow::Expedited), 0);
+    }
+    if begins(text, b"expedited ") {
+        return offer(second, Flow::Expedited, behind(text, 10), bytes);
+    }
+    offer(second, Flow::Normal, text, bytes)
 }
 
 // A buffer of 0 to 2,048 cells.

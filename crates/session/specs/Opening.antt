@@ -9,13 +9,15 @@ use Rattle.control.specs.declared.Role.the-variants.{FirstSpeaker}
 use Rattle.answers.specs.Answers.{accepted, refused}
 use Rattle.session.specs.OpeningQuestions.{openingRefusal}
 use Rattle.control.specs.StateTests.{roleOf}
+use Rattle.expedited.specs.Signals.{noSignal}
 use Rattle.sending.specs.Sending.{freshSending}
 use Rattle.receiving.specs.Receiving.{freshReceiving}
 use Rattle.session.specs.declared.Session.{Session}
 use Rattle.end.specs.declared.End.{End}
 use Rattle.end.specs.declared.Done.{Done}
 
--- Reset, stay, no mark, chains closed, record places between records with no other part to follow, counts and numbers 0, credit and open equal to their W, flags off
+-- Reset, stay, no mark, chains closed, record places between records with no other part to follow, counts and numbers 0, credit and open equal to their W, flags off; no
+-- signal unanswered
 abbrev pub freshEnd : Role → ℕ → ℕ → ℕ → ℕ → ℕ → End
 freshEnd role outwindow outmax inwindow inmax inbox =
     record {
@@ -24,6 +26,7 @@ freshEnd role outwindow outmax inwindow inmax inbox =
       receiving = freshReceiving inwindow inmax inbox;
       bidding = 0;
       owed = 0;
+      expedited = noSignal;
     }
 
 -- a record of zeros

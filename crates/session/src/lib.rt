@@ -7,6 +7,7 @@ use end::Done;
 use end::End;
 use end::results::accepted;
 use end::results::refused;
+use expedited::signals::no_signal;
 use opening_questions::opening_refusal;
 use receiving::incoming::fresh_receiving;
 use sending::outgoing::fresh_sending;
@@ -33,6 +34,7 @@ fn fresh_end(role: Role, outwindow: u8, outmax: u16, inwindow: u8, inmax: u16, i
         receiving: fresh_receiving(inwindow, inmax, inbox),
         bidding: 0,
         owed: 0,
+        expedited: no_signal(),
     }
 }
 

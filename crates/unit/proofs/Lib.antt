@@ -3,5 +3,6 @@ mod ReadByHeader
 mod Writing
 pub mod WrittenIsRead
 pub mod UnitLaws
+pub mod ExpeditedUnits
 pub mod DataRu
 pub mod MaximumFacts

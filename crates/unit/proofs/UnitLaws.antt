@@ -10,7 +10,7 @@ use borrow.Author.Tests.{le-leb}
 use lib.ListN.{length, drop}
 use Rattle.cells.specs.Cells.{front}
 use Rattle.header.specs.Header.{headerBytes}
-use Rattle.unit.specs.Unit.{RU-START, unitBytes, unitOf, cellsMade, numberIn, headerIn, headingOf, readUnit}
+use Rattle.unit.specs.Unit.{RU-START, unitBytes, unitOf, bytesMade, cellsMade, numberIn, headerIn, headingOf, readUnit}
 use Rattle.header.specs.declared.Header.{Header}
 use Rattle.unit.specs.declared.UnitRead.the-variants as unitRead
 
@@ -50,5 +50,5 @@ unit-read n f ru =
 
 pub cells-made : (n : ℕ) (f : Header) (ru cells : List ℕ) → RU-START + length ru ≤ length cells
     → cellsMade n f ru cells ≡ front (unitOf n f ru) cells
-unfolding cellsMade
+unfolding cellsMade bytesMade unitOf
 cells-made n f ru cells h = rw (le-leb (RU-START + length ru) (length cells) h)

@@ -12,10 +12,8 @@ use borrow.Rule.Slice.PartMut.{midOf, putMid}
 use Rattle.cells.specs.Cells.{front}
 use Rattle.cells.proofs.Fronts.{front-then}
 use Rattle.cells.proofs.PartLent.{part-is, part-back}
-use Rattle.header.specs.Header.{headerBytes}
-use Rattle.unit.specs.Unit.{RU-START, unitBytes, unitOf, lengthMade, cellsMade}
+use Rattle.unit.specs.Unit.{RU-START, unitBytes, lengthMade, bytesMade}
 use Rattle.header.specs.declared.HeaderBytes.{HeaderBytes}
-use Rattle.header.specs.declared.Header.{Header}
 
 -- two copies, one right behind the other: the second is made into the part that starts at n
 pub two-copies : (a b cells one two : List ℕ) (n : ℕ) → n ≡ length a → one ≡ take (length a) a ++ drop (length a) cells
@@ -34,20 +32,19 @@ heading-ru n h ru cells one two e1 e2 =
     rw (part-back RU-START one two, e2, part-is RU-START one, e1) (front-then (unitBytes n h []) ru cells)
 
 -- a unit that does not fit is not made
-pub not-made : (n : ℕ) (f : Header) (a b cells : List ℕ) → length cells < RU-START + (length a + length b)
-    → (0 ≡ lengthMade (a ++ b) cells) × (cells ≡ cellsMade n f (a ++ b) cells)
-unfolding cellsMade
-not-made n f a b cells h =
-    let l : leb (RU-START + length (a ++ b)) (length cells) ≡ false = rw (length-append a b) (lt-leb _ _ h) in
+pub not-made : (n : ℕ) (h : HeaderBytes) (a b cells : List ℕ) → length cells < RU-START + (length a + length b)
+    → (0 ≡ lengthMade (a ++ b) cells) × (cells ≡ bytesMade n h (a ++ b) cells)
+unfolding bytesMade
+not-made n h a b cells short =
+    let l : leb (RU-START + length (a ++ b)) (length cells) ≡ false = rw (length-append a b) (lt-leb _ _ short) in
     (rw l, rw l)
 
 -- one that fits
-pub made : (n : ℕ) (f : Header) (h : HeaderBytes) (a b cells one two : List ℕ) → RU-START + (length a + length b) ≤ length cells
-    → h ≡ headerBytes f
+pub made : (n : ℕ) (h : HeaderBytes) (a b cells one two : List ℕ) → RU-START + (length a + length b) ≤ length cells
     → one ≡ front (unitBytes n h []) cells
     → two ≡ front (a ++ b) (midOf RU-START (length one - RU-START) one)
-    → (RU-START + (length a + length b) ≡ lengthMade (a ++ b) cells) × (putMid RU-START (length one - RU-START) one two ≡ cellsMade n f (a ++ b) cells)
-unfolding cellsMade unitOf
-made n f h a b cells one two r eh e1 e2 =
+    → (RU-START + (length a + length b) ≡ lengthMade (a ++ b) cells) × (putMid RU-START (length one - RU-START) one two ≡ bytesMade n h (a ++ b) cells)
+unfolding bytesMade
+made n h a b cells one two r e1 e2 =
     let l : leb (RU-START + length (a ++ b)) (length cells) ≡ true = rw (length-append a b) (le-leb _ _ r) in
-    (rw (l, length-append a b), rw (l, ← eh) (heading-ru n h (a ++ b) cells one two e1 e2))
+    (rw (l, length-append a b), rw l (heading-ru n h (a ++ b) cells one two e1 e2))

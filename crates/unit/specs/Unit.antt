@@ -35,9 +35,12 @@ fits ru cells = leb (RU-START + length ru) (length cells)
 abbrev pub lengthMade : List ℕ → List ℕ → ℕ
 lengthMade ru cells = cond (fits ru cells) (RU-START + length ru) 0
 
--- the buffer after that: the unit at its front, or as it was
+-- the buffer after that: the unit at its front, or as it was; by the bytes of its header, and by its fields
+unfoldable pub bytesMade : ℕ → HeaderBytes → List ℕ → List ℕ → List ℕ
+bytesMade n h ru cells = cond (fits ru cells) (front (unitBytes n h ru) cells) cells
+
 unfoldable pub cellsMade : ℕ → Header → List ℕ → List ℕ → List ℕ
-cellsMade n h ru cells = cond (fits ru cells) (front (unitOf n h ru) cells) cells
+cellsMade n h ru cells = bytesMade n (headerBytes h) ru cells
 
 -- ---- reading
 

@@ -9,7 +9,7 @@ ghost use mathlib.Core.Path.{_≡_};
 ghost use Rattle.unit.specs.Unit.{numberOf, readUnit};
 
 // The sequence number, high byte first.
-fn number_of(high: u8, low: u8) -> u16
+pub(crate) fn number_of(high: u8, low: u8) -> u16
     ensures { λ r. ⌜ r ≡ numberOf high low ⌝ }
 {
     (high as u16) * 256 + (low as u16)

@@ -9,7 +9,7 @@ ghost use mathlib.Core.List.{[], _++_};
 ghost use Prim.Native.Nat.{_+_, _≤_};
 ghost use lib.ListN.{length};
 ghost use Rattle.cells.specs.Cells.{front};
-ghost use Rattle.unit.specs.Unit.{RU-START, unitBytes, lengthMade, cellsMade};
+ghost use Rattle.unit.specs.Unit.{RU-START, unitBytes, lengthMade, bytesMade, cellsMade};
 ghost use Rattle.unit.specs.Ru.{fixedRu};
 
 // The sequence number, high byte first, and the header.
@@ -33,11 +33,11 @@ fn write_ru(ru: &mut [u8], a: &[u8], b: &[u8])
     bytes::copy(b, &mut ru[n..]);
 }
 
-// Makes the unit of this number and header whose RU is the bytes of a and then those of b, and answers its length. A unit
-// that does not fit is not made: the answer is 0 and no cell is changed.
-pub fn write_unit(unit: &mut [u8], number: u16, header: Header, a: &[u8], b: &[u8]) -> usize
+// Makes the unit of this number and these bytes of a header, on any line, whose RU is the bytes of a and then those of b, and answers
+// its length. A unit that does not fit is not made: the answer is 0 and no cell is changed.
+pub(crate) fn write_bytes(unit: &mut [u8], number: u16, h: HeaderBytes, a: &[u8], b: &[u8]) -> usize
     ensures length { λ r. ⌜ r ≡ lengthMade (now (a .entry) ++ now (b .entry)) (now (unit .entry)) ⌝ }
-    ensures cells { λ _. ⌜ now (unit .exit) ≡ cellsMade number header (now (a .entry) ++ now (b .entry)) (now (unit .entry)) ⌝ }
+    ensures cells { λ _. ⌜ now (unit .exit) ≡ bytesMade number h (now (a .entry) ++ now (b .entry)) (now (unit .entry)) ⌝ }
 {
     let ru = a.len() + b.len();
     if unit.len() < RU_START {
@@ -46,10 +46,18 @@ pub fn write_unit(unit: &mut [u8], number: u16, header: Header, a: &[u8], b: &[u
     if unit.len() - RU_START < ru {
         return 0;
     }
-    let h = build_header(header);
     write_heading(unit, number, h);
     write_ru(&mut unit[RU_START..], a, b);
     RU_START + ru
+}
+
+// Makes the unit of this number and header.
+pub fn write_unit(unit: &mut [u8], number: u16, header: Header, a: &[u8], b: &[u8]) -> usize
+    ensures length { λ r. ⌜ r ≡ lengthMade (now (a .entry) ++ now (b .entry)) (now (unit .entry)) ⌝ }
+    ensures cells { λ _. ⌜ now (unit .exit) ≡ cellsMade number header (now (a .entry) ++ now (b .entry)) (now (unit .entry)) ⌝ }
+{
+    let h = build_header(header);
+    write_bytes(unit, number, h, a, b)
 }
 
 // The length of a unit that holds no data, before it is made.

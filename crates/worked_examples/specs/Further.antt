@@ -15,6 +15,7 @@ use Rattle.worked_examples.specs.RulesNamed.{RulesNamed, rules-named}
 use Rattle.worked_examples.specs.Parts.{Parts, parts}
 use Rattle.worked_examples.specs.Prepared.{Prepared, all-prepared}
 use Rattle.worked_examples.specs.Denied.{Denied, all-denied}
+use Rattle.worked_examples.specs.Signalled.{Signalled, all-signalled}
 use Rattle.calls.specs.Calls.{Station, Verb}
 
 -- ---- "Last sequence number sent and last taken, from 0; the number after 65,535 is 0."
@@ -156,6 +157,7 @@ pub record FurtherRows : Type 0 where
   pub parts : Parts
   pub prepared : Prepared
   pub denied : Denied
+  pub signalled : Signalled
 
 numbered : Numbers
 unfolding computed
@@ -243,4 +245,5 @@ further =
       parts = parts;
       prepared = all-prepared;
       denied = all-denied;
+      signalled = all-signalled;
     }

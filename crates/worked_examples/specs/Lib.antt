@@ -7,4 +7,5 @@ pub mod Conversations
 pub mod Parts
 pub mod Prepared
 pub mod Denied
+pub mod Signalled
 pub mod Further

@@ -1,6 +1,7 @@
 //! A generator of numbers with a fixed seed, so that every run is the same, and the fields of an image.
 #![allow(dead_code)]
 
+pub mod images;
 pub mod pages;
 
 /// The generator SplitMix64: small, good enough for tests, and no dependency.
@@ -72,6 +73,9 @@ pub mod at {
     pub const BID_NUMBER: usize = 38;
     pub const OWED_NUMBER: usize = 40;
     pub const ERROR: usize = 42;
+    pub const UNANSWERED: usize = 43;
+    pub const EXPEDITED_SENT: usize = 44;
+    pub const EXPEDITED_TAKEN: usize = 46;
 }
 
 pub fn word(image: &[u8], at: usize) -> usize {

@@ -6,36 +6,43 @@ use borrow.Author.Tests.{leb-false}
 use denote.Ref.{now}
 use lib.ListN.{length}
 use Rattle.script.specs.declared.Request.the-variants.{Call}
-use Rattle.bench.specs.Step.{benchOf}
-use Rattle.bench.proofs.Stepping.{counted, full-step, call-fits, call-step}
+use Rattle.bench.specs.CallMade.{verbLane, stationOf}
+use Rattle.bench.specs.Step.{waysOf, placed, benchOf}
+use Rattle.bench.proofs.Stepping.{counted, leads-here, full-step, call-fits, call-step}
 use borrow.Author.Needs.{needs}
 use Rattle.bench.proofs.step_call.Statement.{statement}
 use Rattle.bench.proofs.step_call.Tie as tie
 
 returns : tie.Need-returns
 returns c =
-    let a = c .before .before .before .before .before .before .before .before .before .args in
+    let a = c .before .before .before .before .before .before .before .before .before .before .before .args in
     let u = c .unmade .ensures in
-    λ waiting es us vs hw hf.
+    λ waiting there es us vs held.
+    let l = verbLane (a .verb) in
+    let here = waysOf (a .lines) waiting (now (a .far)) in
     full-step (Call (a .verb)) (now (a .given))
-    (benchOf (a .end) (now (a .send)) (now (a .unit)) (now (a .inbox)) (now (a .buffer)) (a .from) waiting (a .to) (now (a .far))) _ _ _ es us vs
-    (rw (u .1, u .2, u .3))
+    (benchOf (a .end) (now (a .send)) (now (a .unit)) (now (a .inbox)) (now (a .buffer)) (placed l here there)) _ _ _ _ es us vs
+    (rw (u .1, u .2))
     (u .0)
-    (counted (a .to) (now (a .far)) vs true hf (sym (c .before .before .is-full .ensures) ∙ c .before .if1 .taken))
+    (counted (a .lines .to) (now (a .far)) (vs l) true (leads-here l here there us vs held) (sym (c .before .before .is-full .ensures) ∙ c .before .if1 .taken))
     refl
 
 returns-2 : tie.Need-returns-2
 returns-2 c =
-    let a = c .before .before .before .before .before .before .before .before .before .before .before .before .before .before .before .before .before .before .before .before .before .before .before .before .before .before .before .before .before .args in
+    let a = c .before .before .before .before .before .before .before .before .before .before .before .before .before .before .before .before .before .before .before .before .before .before .before .before .before .before .before .before .before .before .before .args in
     let d = c .before .before .before .before .before .before .before .before .before .before .before .before .before .before .before .before .call in
-    λ waiting es us vs hw hf.
-    let b = benchOf (a .end) (now (a .send)) (now (a .unit)) (now (a .inbox)) (now (a .buffer)) (a .from) waiting (a .to) (now (a .far)) in
-    let n = counted (a .to) (now (a .far)) vs false hf (sym (c .before .before .before .before .before .before .before .before .before .before .before .before .before .before .before .before .before .before .before .before .before .before .is-full .ensures) ∙ c .before .before .before .before .before .before .before .before .before .before .before .before .before .before .before .before .before .before .before .before .before .if1 .left) in
-    let fit = call-fits (a .verb) (now (a .given)) b (d .result) (d .last .1 .1 .1 .0) (d .last .1 .1 .1 .1 .0) (d .last .1 .1 .1 .1 .1 .0)
-    (d .last .1 .1 .1 .1 .1 .1 .0) (d .ensures .0) in
-    call-step (a .verb) (now (a .given)) b (d .result) (d .last .1 .1 .1 .0) (d .last .1 .1 .1 .1 .0) (d .last .1 .1 .1 .1 .1 .0)
-    (d .last .1 .1 .1 .1 .1 .1 .0) (d .ensures .0) (c .before .before .deliver .result) (c .before .before .deliver .last .1 .0) es us vs (d .ensures .1) hw
-    (c .before .before .deliver .ensures vs hf (leb-false 512 (length vs) n) (fit .short) (fit .there)) n
+    let joins = c .before .before .deliver in
+    λ waiting there es us vs held.
+    let l = verbLane (a .verb) in
+    let s = stationOf (a .end) (now (a .send)) (now (a .unit)) (now (a .inbox)) in
+    let here = waysOf (a .lines) waiting (now (a .far)) in
+    let far-are = leads-here l here there us vs held in
+    let n = counted (a .lines .to) (now (a .far)) (vs l) false far-are (sym (c .before .before .before .before .before .before .before .before .before .before .before .before .before .before .before .before .before .before .before .before .before .before .is-full .ensures) ∙ c .before .before .before .before .before .before .before .before .before .before .before .before .before .before .before .before .before .before .before .before .before .if1 .left) in
+    let fit = call-fits (a .verb) (now (a .given)) s (now (a .buffer)) here there (d .result) (d .last .1 .1 .1 .0) (d .last .1 .1 .1 .1 .0)
+    (d .last .1 .1 .1 .1 .1 .0) (d .last .1 .1 .1 .1 .1 .1 .0) (d .ensures .0) in
+    call-step (a .verb) (now (a .given)) s (now (a .buffer)) here there (d .result) (d .last .1 .1 .1 .0) (d .last .1 .1 .1 .1 .0)
+    (d .last .1 .1 .1 .1 .1 .0) (d .last .1 .1 .1 .1 .1 .1 .0) (d .ensures .0) (joins .result) (joins .last .1 .0) es us vs (d .ensures .1) held
+    (joins .ensures (vs l) far-are (leb-false 512 (length (vs l)) n) (fit .short) (fit .there)) n
 
 pub step-call-spec : {M : Type 1} → statement M
 step-call-spec =

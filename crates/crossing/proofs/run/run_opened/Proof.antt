@@ -12,5 +12,7 @@ run-opened-spec =
     (tie.spec
     (λ c. sym {0} (length-replicate {0} {A = ℕ} 527872 0))
     (λ c. sym {0} (length-replicate {0} {A = ℕ} 527872 0))
+    (λ c. sym {0} (length-replicate {0} {A = ℕ} 527872 0))
+    (λ c. sym {0} (length-replicate {0} {A = ℕ} 527872 0))
     (λ c κs. tt)
     (λ c. tt))

@@ -12,17 +12,21 @@ number-at-requires c κs = let h = c .before .before .before .before .before .be
 number-at-requires-2 : tie.Need-number-at-requires-2
 number-at-requires-2 c κs = let h = c .before .before .before .before .before .before .before .before .before .before .before .before .before .before .before .before .before .pre .0 in omega arith
 
+expedited-in-requires : tie.Need-expedited-in-requires
+expedited-in-requires c κs = c .before .before .before .before .before .before .before .before .before .before .before .before .before .before .before .before .before .before .pre .0
+
 returns : tie.Need-returns
 unfolding recordIn
 returns c = rw (
-  c .number-at2 .ensures,
-  c .before .number-at .ensures,
-  c .before .before .receiving-in .ensures,
-  c .before .before .before .sending-in .ensures,
-  c .before .before .before .before .before .before .before .before .before .mark-of .ensures,
-  c .before .before .before .before .before .before .before .before .before .before .before .follows-of .ensures,
-  c .before .before .before .before .before .before .before .before .before .before .before .before .before .state-of .ensures,
-  c .before .before .before .before .before .before .before .before .before .before .before .before .before .before .before .role-of .ensures,
+  c .expedited-in .ensures,
+  c .before .number-at2 .ensures,
+  c .before .before .number-at .ensures,
+  c .before .before .before .receiving-in .ensures,
+  c .before .before .before .before .sending-in .ensures,
+  c .before .before .before .before .before .before .before .before .before .before .mark-of .ensures,
+  c .before .before .before .before .before .before .before .before .before .before .before .before .follows-of .ensures,
+  c .before .before .before .before .before .before .before .before .before .before .before .before .before .before .state-of .ensures,
+  c .before .before .before .before .before .before .before .before .before .before .before .before .before .before .before .before .role-of .ensures,
 )
 
 pub record-in-spec : {M : Type 1} → statement M
@@ -46,4 +50,5 @@ record-in-spec =
     (λ c κs. search needs)
     number-at-requires
     number-at-requires-2
+    expedited-in-requires
     returns)

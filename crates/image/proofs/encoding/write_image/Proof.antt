@@ -6,7 +6,7 @@ use denote.Ref.{now}
 use mathlib.Core.Path.{_∙_, sym}
 use borrow.Author.Tests.{eq-eqb, ne-eqb}
 use Rattle.image.specs.ImageParts.{flagByte, numberBytes}
-use Rattle.image.specs.Image.{FORMAT, controlBytes, sendingBytes, receivingBytes, imageOf, imageWritten}
+use Rattle.image.specs.Image.{FORMAT, controlBytes, sendingBytes, receivingBytes, expeditedBytes, imageOf, imageWritten}
 use Rattle.image.proofs.Writes.{runs, written-all}
 use borrow.Author.Needs.{needs}
 use Rattle.image.proofs.encoding.write_image.Statement.{statement}
@@ -18,20 +18,21 @@ returns c = rw (ne-eqb _ _ (c .if1 .taken))
 
 returns-2 : tie.Need-returns-2
 unfolding imageWritten imageOf
-returns-2 c = let a = c .before .before .before .before .before .before .before .before .before .before .before .before .before .before .before .before .before .before .before .before .before .before .before .before .before .before .before .before .args in
-    let h = c .before .before .before .before .before .before .before .before .before .before .before .before .before .before .before .before .before .before .before .before .before .before .before .before .before .before .if1 .left in
+returns-2 c = let a = c .before .before .before .before .before .before .before .before .before .before .before .before .before .before .before .before .before .before .before .before .before .before .before .before .before .before .before .before .before .before .before .before .before .args in
+    let h = c .before .before .before .before .before .before .before .before .before .before .before .before .before .before .before .before .before .before .before .before .before .before .before .before .before .before .before .before .before .before .before .if1 .left in
     rw (
       eq-eqb _ _ h,
-      c .before .before .write-flag .ensures,
-      c .before .before .before .before .before .before .write-number2 .ensures,
-      c .before .before .before .before .before .before .before .before .before .before .write-number .ensures,
-      c .before .before .before .before .before .before .before .before .before .before .before .before .before .before .write-receiving .ensures,
-      c .before .before .before .before .before .before .before .before .before .before .before .before .before .before .before .before .before .before .write-sending .ensures,
-      c .before .before .before .before .before .before .before .before .before .before .before .before .before .before .before .before .before .before .before .before .before .before .write-control .ensures,
+      c .before .before .write-expedited .ensures,
+      c .before .before .before .before .before .before .write-flag .ensures,
+      c .before .before .before .before .before .before .before .before .before .before .write-number2 .ensures,
+      c .before .before .before .before .before .before .before .before .before .before .before .before .before .before .write-number .ensures,
+      c .before .before .before .before .before .before .before .before .before .before .before .before .before .before .before .before .before .before .write-receiving .ensures,
+      c .before .before .before .before .before .before .before .before .before .before .before .before .before .before .before .before .before .before .before .before .before .before .write-sending .ensures,
+      c .before .before .before .before .before .before .before .before .before .before .before .before .before .before .before .before .before .before .before .before .before .before .before .before .before .before .write-control .ensures,
     )
     (runs
     ((FORMAT ∷ controlBytes (a .end .control)) ∷ sendingBytes (a .end .sending) ∷ receivingBytes (a .end .receiving) ∷ numberBytes (a .end .bidding)
-    ∷ numberBytes (a .end .owed) ∷ (flagByte (a .end .control .error) ∷ []) ∷ [])
+    ∷ numberBytes (a .end .owed) ∷ (flagByte (a .end .control .error) ∷ []) ∷ expeditedBytes (a .end .expedited) ∷ [])
     0 (now (a .image)) (omega arith)
     ∙ written-all (imageOf (a .end)) (now (a .image)) (sym h))
 
@@ -40,6 +41,7 @@ write-image-spec =
     tie.close
     (tie.spec
     returns
+    (search needs)
     (search needs)
     (search needs)
     (search needs)

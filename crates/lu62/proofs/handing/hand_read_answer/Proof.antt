@@ -1,4 +1,4 @@
--- `lu62::handing::hand_read_answer` meets its contract: the eight numbers.
+-- `lu62::handing::hand_read_answer` meets its contract: the nine numbers.
 -- Assumes nothing.
 use borrow.Author.Needs.{needs}
 use Rattle.lu62.proofs.handing.hand_read_answer.Statement.{statement}

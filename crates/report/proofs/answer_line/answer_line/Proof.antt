@@ -18,7 +18,7 @@ returns c =
     (s1 .put-call .ensures
     then s2 .put-refusal .ensures
     then s3 .put-bytes .ensures
-    then s4 .put-read .ensures
+    then s4 .put-told .ensures
     then put-prints (s5 .put .ensures))
 
 pub answer-line-spec : {M : Type 1} → statement M

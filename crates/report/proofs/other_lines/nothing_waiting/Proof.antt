@@ -12,9 +12,8 @@ returns c =
     let s2 = c .before .before in
     let s1 = s2 .before .before .before .before .before in
     prints-line
-    (put-prints (rw (s1 .before .end-digit .ensures .0) at (s1 .put-word .ensures))
+    (s1 .put-call .ensures
     then put-prints (s2 .put .ensures))
 
 pub nothing-waiting-spec : {M : Type 1} → statement M
-nothing-waiting-spec =
-    tie.close (tie.spec (search needs) (search needs) (search needs) (search needs) (search needs) returns)
+nothing-waiting-spec = tie.close (tie.spec (search needs) (search needs) (search needs) (search needs) returns)

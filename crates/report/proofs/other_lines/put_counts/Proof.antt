@@ -9,7 +9,8 @@ use Rattle.report.proofs.other_lines.put_counts.Tie as tie
 returns : tie.Need-returns
 unfolding countsText
 returns c =
-    let s5 = c .before .before in
+    let s6 = c .before .before in
+    let s5 = s6 .before .before .before .before .before in
     let s4 = s5 .before .before .before .before .before in
     let s3 = s4 .before .before .before .before .before in
     let s2 = s3 .before .before .before .before .before in
@@ -19,10 +20,11 @@ returns c =
     then s3 .put-count3 .ensures
     then s4 .put-count4 .ensures
     then s5 .put-count5 .ensures
+    then s6 .put-count6 .ensures
 
 pub put-counts-spec : {M : Type 1} → statement M
 put-counts-spec =
     tie.close
     (tie.spec
     (search needs) (search needs) (search needs) (search needs) (search needs) (search needs) (search needs)
-    (search needs) (search needs) (search needs) (search needs) returns)
+    (search needs) (search needs) (search needs) (search needs) (search needs) (search needs) returns)

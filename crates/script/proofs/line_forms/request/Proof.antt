@@ -19,7 +19,7 @@ returns-2 c =
     let t = c .before .before .before .before .before in
     let s = t .before .before .before in
     rw (sym (s .before .begins .ensures) ∙ s .if1 .left, sym (t .before .begins2 .ensures) ∙ t .if2 .taken)
-    (rw (c .before .before .before .before .behind2 .ensures) at (c .before .before .offer .ensures))
+    (rw (c .before .before .before .before .behind2 .ensures) at (c .before .before .take .ensures))
 
 returns-3 : tie.Need-returns-3
 unfolding requestOf

@@ -56,7 +56,7 @@ returns-5 c =
       sym (r .before .same3 .ensures) ∙ r .if3 .left,
       sym (q .before .same4 .ensures) ∙ q .if4 .left,
     )
-    (c .take-pace-send .ensures)
+    (c .take-pace-send-request .ensures)
 
 pub prepare-withdraw-deny-spec : {M : Type 1} → statement M
 prepare-withdraw-deny-spec =
