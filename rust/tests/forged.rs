@@ -649,6 +649,20 @@ fn near(random: &mut Random, right: usize) -> usize {
     }
 }
 
+// A length of any kind, most often the right one.
+fn any_length(random: &mut Random, right: usize) -> usize {
+    match random.below(16) {
+        0 => right.wrapping_sub(1),
+        1 => usize::MAX,
+        2 => right + 65536,
+        3 => random.next() as usize,
+        4 => 65535,
+        5 => 65536,
+        6 => 0,
+        _ => right,
+    }
+}
+
 fn random_opening(random: &mut Random) -> Opening {
     let window = |random: &mut Random| match random.below(12) {
         0 => random.byte(),
@@ -676,19 +690,9 @@ fn random_opening(random: &mut Random) -> Opening {
         unit: 0,
         inbox: 0,
     };
-    let length = |random: &mut Random, right: usize| match random.below(16) {
-        0 => right.wrapping_sub(1),
-        1 => usize::MAX,
-        2 => right + 65536,
-        3 => random.next() as usize,
-        4 => 65535,
-        5 => 65536,
-        6 => 0,
-        _ => right,
-    };
-    opening.send = length(random, opening.out_max as usize);
-    opening.unit = length(random, opening.out_max as usize + 5);
-    opening.inbox = length(random, usize::from(opening.in_window) * opening.in_max as usize);
+    opening.send = any_length(random, opening.out_max as usize);
+    opening.unit = any_length(random, opening.out_max as usize + 5);
+    opening.inbox = any_length(random, usize::from(opening.in_window) * opening.in_max as usize);
     opening
 }
 
@@ -818,8 +822,8 @@ fn check_refused(call: Call, before: &Block, after: &Block, answer: &raw::Answer
     }
 }
 
-// The cells that an accepted call may write beside image and unit buffer.
-fn kept_cells(call: Call, before: &Block, after: &Block, answer: &raw::Answer) -> Vec<Range<usize>> {
+// The cells that an accepted call may write beside image and unit buffer, in two ranges at most.
+fn kept_cells(call: Call, before: &Block, after: &Block, answer: &raw::Answer) -> [Range<usize>; 2] {
     let (image, image_after) = (&before.cells[before.image.clone()], &after.cells[after.image.clone()]);
     let held = word(image, at::IN_HELD);
     match call {
@@ -827,12 +831,12 @@ fn kept_cells(call: Call, before: &Block, after: &Block, answer: &raw::Answer) -
             // Kept bytes follow those held; after a unit the rest stands at the front.
             let kept = word(image_after, at::OUT_HELD);
             let from = if answer.unit == 0 { word(image, at::OUT_HELD) } else { 0 };
-            vec![before.send.start + from..before.send.start + kept]
+            [before.send.start + from..before.send.start + kept, 0..0]
         }
         Call::Take => {
             let joined = word(image_after, at::IN_HELD);
             assert!(joined >= held && joined <= before.inbox.len());
-            vec![before.inbox.start + held..before.inbox.start + joined]
+            [before.inbox.start + held..before.inbox.start + joined, 0..0]
         }
         Call::Read => {
             let copied = answer.copied as usize;
@@ -841,9 +845,9 @@ fn kept_cells(call: Call, before: &Block, after: &Block, answer: &raw::Answer) -
             assert!(answer.complete <= 1 && (copied > 0 || answer.complete == 0) && answer.mark <= 6);
             assert!(answer.more <= answer.complete, "more parts are told of only with the end of one");
             let left = before.inbox.start..before.inbox.start + held - copied;
-            vec![left, before.buffer.start..before.buffer.start + copied]
+            [left, before.buffer.start..before.buffer.start + copied]
         }
-        _ => Vec::new(),
+        _ => [0..0, 0..0],
     }
 }
 

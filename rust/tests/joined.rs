@@ -772,10 +772,7 @@ impl Pair {
     fn note(&mut self, who: usize, call: &Call, before: &[u8; IMAGE], outcome: &Outcome, seen: &mut Seen) {
         let state = before[at::STATE];
         seen.count(call, outcome);
-        let expedited = matches!(call, Call::RequestToSend | Call::TakeExpedited);
-        let after = self.sides[who].end.image();
-        let kept = if expedited { 0..at::UNANSWERED } else { at::UNANSWERED..IMAGE };
-        assert_eq!(after[kept.clone()], before[kept], "{call:?} changes bytes of the other lines");
+        check_other_lines(call, before, self.sides[who].end.image());
         if is_defer(state) {
             self.sides[who].note_deferred(call, state, outcome, seen);
         }
@@ -867,6 +864,13 @@ impl Pair {
             }
         }
     }
+}
+
+// The calls of the expedited lines change the last bytes of the image only, and every other call changes none of these.
+fn check_other_lines(call: &Call, before: &[u8; IMAGE], after: &[u8; IMAGE]) {
+    let expedited = matches!(call, Call::RequestToSend | Call::TakeExpedited);
+    let kept = if expedited { 0..at::UNANSWERED } else { at::UNANSWERED..IMAGE };
+    assert_eq!(after[kept.clone()], before[kept], "{call:?} changes bytes of the other lines");
 }
 
 // What must hold after every call of the signals made at one end.

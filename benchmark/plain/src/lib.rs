@@ -779,11 +779,26 @@ impl End {
             return refused(24);
         }
         // Of an error header nothing joins the inbox; it is alone in its chain.
-        let (last, confirm, begin, mark, ru) = match kind {
-            Kind::Data { last, confirm, begin, follow, .. } => (last, confirm, begin, mark_of(confirm, follow), ru),
-            Kind::Error { .. } => (true, false, false, Mark::Error, &[][..]),
-            _ => return self.take_bid(number, unit),
-        };
+        match kind {
+            Kind::Data { last, confirm, begin, follow, .. } => {
+                self.take_chain(last, confirm, begin, mark_of(confirm, follow), number, ru, inbox)
+            }
+            Kind::Error { .. } => self.take_chain(true, false, false, Mark::Error, number, &[], inbox),
+            _ => self.take_bid(number, unit),
+        }
+    }
+
+    #[allow(clippy::too_many_arguments)]
+    fn take_chain(
+        &mut self,
+        last: bool,
+        confirm: bool,
+        begin: bool,
+        mark: Mark,
+        number: u16,
+        ru: &[u8],
+        inbox: &mut [u8],
+    ) -> Answer {
         if begin != (self.bidder && self.state == State::Reset) {
             return refused(25);
         }

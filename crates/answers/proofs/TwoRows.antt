@@ -1,4 +1,4 @@
--- A row of questions in two parts, and numbers that a row never gives.
+-- A row of questions in two parts, and what is so of every number that a row gives.
 -- Assumes nothing.
 use mathlib.Core.Path.{_≡_, refl, sym, subst}
 use mathlib.Core.Bool.{Bool, true, false, not, cond, _&&_}
@@ -9,6 +9,7 @@ use lib.ListN.{getD}
 use lib.Dec.{T, eqb}
 use borrow.Author.Tests.{eq-eqb}
 use Rattle.answers.specs.FirstNo.{firstNo}
+use Rattle.bools.proofs.Cases.{cases}
 use Rattle.bools.proofs.Tests.{both, both-tt}
 use Rattle.answers.proofs.Rows.{one, numbered, outcomes}
 
@@ -35,10 +36,21 @@ pass-both (q ∷ xs) ys t e =
     let p = pass-both xs ys (n .1) (o .1) in
     (subst (λ (b : Bool). cond b (firstNo xs) (q .1) ≡ 0) (sym (o .0)) (p .0), p .1)
 
+-- every number that a row can give passes a test, and 0 does
+abbrev pub allGiven : (ℕ → Bool) → List (Bool × ℕ) → Bool
+allGiven p [] = p 0
+allGiven p (q ∷ qs) = p (q .1) && allGiven p qs
+
+-- at a row that is written out, the test of its numbers is `refl`
+pub given : (p : ℕ → Bool) (qs : List (Bool × ℕ)) → allGiven p qs ≡ true → p (firstNo qs) ≡ true
+given p [] t = t
+given p (q ∷ qs) t =
+    let b = both (p (q .1)) (allGiven p qs) t in
+    cases (λ (n : ℕ). p n ≡ true) (q .0) (λ y. given p qs (b .1)) (λ n. b .0)
+
 -- no question of a row has the number n
 abbrev pub lacks : ℕ → List (Bool × ℕ) → Bool
-lacks n [] = not (eqb 0 n)
-lacks n (q ∷ qs) = not (eqb (q .1) n) && lacks n qs
+lacks n qs = allGiven (λ (k : ℕ). not (eqb k n)) qs
 
 differ : (m n : ℕ) → not (eqb m n) ≡ true → m ≡ n → ⊥
 differ m n t e =
@@ -46,13 +58,5 @@ differ m n t e =
     let o : _≡_ {A = ℕ} 0 1 = cc in
     omega arith
 
-never-one : (a : Bool) (x m n : ℕ) → not (eqb m n) ≡ true → (x ≡ n → ⊥) → cond a x m ≡ n → ⊥
-never-one true x m n t f e = f e
-never-one false x m n t f e = differ m n t e
-
--- at a row that is written out, the test of its numbers is `refl`
 pub never : (n : ℕ) (qs : List (Bool × ℕ)) → lacks n qs ≡ true → firstNo qs ≡ n → ⊥
-never n [] t e = differ 0 n t e
-never n (q ∷ qs) t e =
-    let b = both (not (eqb (q .1) n)) (lacks n qs) t in
-    never-one (q .0) (firstNo qs) (q .1) n (b .0) (never n qs (b .1)) e
+never n qs t e = differ (firstNo qs) n (given (λ (k : ℕ). not (eqb k n)) qs t) e

@@ -86,7 +86,7 @@ BAD-RECORDS = 29
 abbrev pub SIGNAL-UNANSWERED : ℕ
 SIGNAL-UNANSWERED = 30
 
--- the senses by number, zero where none
+-- the senses by number, zero where none; document 02's numbers go to 38, and none of them has one
 abbrev pub senses : List ℕ
 senses =
     0 ∷ 0 ∷ 0 ∷ 0 ∷ 0 ∷ 0 ∷ 0 ∷ 0 ∷ 0 ∷ 0

@@ -35,7 +35,7 @@ pub struct ExpeditedAnswer {
     pub signalled: bool,
 }
 
-// The senses by refusal number, zero where none.
+// The senses by refusal number, zero where none. Document 02's numbers go to 38, and none of them has one.
 const SENSES: [u32; 39] = [
     0,
     0,

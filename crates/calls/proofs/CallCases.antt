@@ -71,12 +71,13 @@ refusedAct s q = record { end = s; answer = plain (refused q); sent = []; expedi
 
 -- ---- a unit made is what the caller finds at the front of the unit buffer
 
+bytes-out : (u cells : List ℕ) (k : ℕ) → length u ≡ RU-START + k → unitsOf (RU-START + k) (front u cells) ≡ u ∷ []
+bytes-out u cells k l =
+    let t : take (RU-START + k) (front u cells) ≡ u = ap (λ (n : ℕ). take n (front u cells)) (sym l) ∙ front-bytes u cells in
+    rw (ne-eqb (RU-START + k) 0 (λ z. omega arith), t)
+
 pub unit-out : (n : ℕ) (h : Header) (ru cells : List ℕ) → unitsOf (RU-START + length ru) (front (unitOf n h ru) cells) ≡ unitOf n h ru ∷ []
-unit-out n h ru cells =
-    let l = unit-length n h ru in
-    let t : take (RU-START + length ru) (front (unitOf n h ru) cells) ≡ unitOf n h ru =
-    ap (λ (k : ℕ). take k (front (unitOf n h ru) cells)) (sym l) ∙ front-bytes (unitOf n h ru) cells in
-    rw (ne-eqb (RU-START + length ru) 0 (λ z. omega arith), t)
+unit-out n h ru cells = bytes-out (unitOf n h ru) cells (length ru) (unit-length n h ru)
 
 -- the station after a call that is lent no buffer to write but the unit buffer
 abbrev pub withEnd : Station → End → Station
@@ -357,17 +358,13 @@ send-error-cases P s refuses goes =
 
 -- ---- request to send
 
-pub signal-out : (n : ℕ) (h : ExpeditedHeader) (cells : List ℕ)
+pub expedited-out : (n : ℕ) (h : ExpeditedHeader) (cells : List ℕ)
     → unitsOf (RU-START + length (expeditedRu h)) (front (expeditedOf n h) cells) ≡ expeditedOf n h ∷ []
-signal-out n h cells =
-    let l = expedited-length n h in
-    let t : take (RU-START + length (expeditedRu h)) (front (expeditedOf n h) cells) ≡ expeditedOf n h =
-    ap (λ (k : ℕ). take k (front (expeditedOf n h) cells)) (sym l) ∙ front-bytes (expeditedOf n h) cells in
-    rw (ne-eqb (RU-START + length (expeditedRu h)) 0 (λ z. omega arith), t)
+expedited-out n h cells = bytes-out (expeditedOf n h) cells (length (expeditedRu h)) (expedited-length n h)
 
 -- a unit for the expedited line, with what is kept of these lines then; the program is told, or not
-abbrev pub signalAct : Station → Expedited → ℕ → ExpeditedHeader → Bool → Called
-signalAct s x n h told =
+abbrev pub expeditedAct : Station → Expedited → ℕ → ExpeditedHeader → Bool → Called
+expeditedAct s x n h told =
     record {
       end = record { end = withExpedited x (s .end); send = s .send; unit = front (expeditedOf n h) (s .unit); inbox = s .inbox };
       answer = expeditedReply (record { answer = accepted (RU-START + length (expeditedRu h)); signalled = told });
@@ -384,7 +381,7 @@ pub record RequestToSendAsked (s : Station) : Type 0 where
 pub request-cases :
     (P : Called → Type 0) (s : Station)
     → ((q : ℕ) → eqb q 0 ≡ false → P (refusedAct s q))
-    → (RequestToSendAsked s → P (signalAct s (signalMade (s .end .expedited)) (nextNumber (s .end .expedited .sent)) Signal false))
+    → (RequestToSendAsked s → P (expeditedAct s (signalMade (s .end .expedited)) (nextNumber (s .end .expedited .sent)) Signal false))
     → P (called s Verb.requestToSend)
 unfolding called requestToSend requestDecision requestRefusal
 request-cases P s refuses goes =
@@ -393,7 +390,7 @@ request-cases P s refuses goes =
     cases (λ (d : Decision). P (signals s (made d (s .unit)))) (eqb (firstNo qs) 0)
     (λ y.
     let t = yes qs tt (eqb-true (firstNo qs) 0 y) in
-    rw (signal-out (nextNumber (e .expedited .sent)) Signal (s .unit))
+    rw (expedited-out (nextNumber (e .expedited .sent)) Signal (s .unit))
     (goes (record { good = t 1; state = t 2; quiet = not-true (e .expedited .unanswered) (t 3) })))
     (λ y. rw y (refuses (firstNo qs) y))
 
@@ -421,7 +418,7 @@ tookExpedited s u d =
 pub expedited-cases :
     (P : Called → Type 0) (s : Station) (u : List ℕ)
     → ((q : ℕ) → q ≡ receiveExpeditedRefusal (s .end) u (length (s .unit)) → eqb q 0 ≡ false → P (refusedExpedited s u q))
-    → (ExpeditedAsked s u → headerTaken u ≡ Signal → P (signalAct s (signalTaken (numberIn u) (s .end .expedited)) (numberIn u) SignalResponse true))
+    → (ExpeditedAsked s u → headerTaken u ≡ Signal → P (expeditedAct s (signalTaken (numberIn u) (s .end .expedited)) (numberIn u) SignalResponse true))
     → (ExpeditedAsked s u → headerTaken u ≡ SignalResponse → P (quietAct s (withExpedited (responseTaken (s .end .expedited)) (s .end))))
     → P (takenExpedited s u)
 unfolding takenExpedited receiveExpedited receiveExpeditedDecision receiveExpeditedRefusal
@@ -437,7 +434,7 @@ expedited-cases P s u refuses told cleared =
   where
     by : (h : ExpeditedHeader) → headerTaken u ≡ h → ExpeditedAsked s u
         → P (tookExpedited s u (accept (withExpedited (unitTaken h (numberIn u) (s .end .expedited)) (s .end)) (answerTo h (numberIn u))))
-    by Signal k a = rw (k, signal-out (numberIn u) SignalResponse (s .unit)) (told a k)
+    by Signal k a = rw (k, expedited-out (numberIn u) SignalResponse (s .unit)) (told a k)
     by SignalResponse k a = rw k (cleared a k)
 
 -- ---- send pacing response

@@ -60,5 +60,5 @@ pub use Rattle.end.specs.{ReceiveUnit.ruleNamed, ReceiveUnit.ruReceived, Receiv
 pub use Rattle.end.specs.{declared.End.End, declared.ReadDone.ReadDone}
 pub use Rattle.end.proofs.{RecordGood.facts}
 pub use Rattle.calls.specs.{Calls.Called, Calls.Station, Calls.Verb, Calls.refusalIn, Laws.AllBytes, Laws.BytesOf, UnitCounts.count}
-pub use Rattle.calls.specs.{UnitCounts.isPacingResponse, UnitCounts.isRequest}
-unfoldable pub use Rattle.calls.specs.{Calls.called, Calls.taken, Calls.takenExpedited, UnitCounts.requestsAmong}
+pub use Rattle.calls.specs.{UnitCounts.isPacingResponse, UnitCounts.isRequest, UnitCounts.requestsAmong}
+unfoldable pub use Rattle.calls.specs.{Calls.called, Calls.taken, Calls.takenExpedited, UnitCounts.among}

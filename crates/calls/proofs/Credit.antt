@@ -5,7 +5,7 @@ use Rattle.calls.proofs.CallWords.{Header, bidRu, unitOf, paced, hasCre
 use Rattle.calls.proofs.CallWords.{closing, bytesRead, markRead, dataJoined, bidAnswered, creditRaised, recordGood, dataHeader, heldBytes}
 use Rattle.calls.proofs.CallWords.{bytesKept, errorRu, negativeConfirmationRu, errorMarked}
 use Rattle.calls.proofs.CallWords.{bytesSpilled, facts, Called, Station, Verb, called, taken, takenExpedited, refusalIn, count, isPacingResponse, isRequest}
-use Rattle.calls.proofs.CallWords.{requestsAmong}
+use Rattle.calls.proofs.CallWords.{among, requestsAmong}
 use Rattle.header.specs.declared.Header.the-variants.{Bid, ErrorDescription, Confirmation, NegativeConfirmation, PacingResponse}
 use Rattle.pacing.specs.Pacing.{credit}
 use Rattle.end.specs.Record.{creditOf, openOf}
@@ -33,7 +33,7 @@ other-made n c h ru e =
     ap (λ (m : ℕ). m + c) q ∙ (let z : 0 + 0 + c ≡ c = omega arith in z)
 
 pub none-made : (c : ℕ) → requestsAmong [] + c ≡ c
-unfolding requestsAmong
+unfolding among
 none-made c = let z : 0 + c ≡ c = omega arith in z
 
 pub data-asks : (s : Station) (ends : ChainEnd) → isAsking (sortOf (dataHeader (s .end) ends)) ≡ true

@@ -1,17 +1,19 @@
 -- The laws of signals, by the views of single calls.
 -- Assumes nothing.
-use Rattle.calls.proofs.CallWords.{ℕ, eqb, true, false, List, [], _∷_, _≡_, refl, sym, ap, _∙_, errorMarked, bidMade, bytesRead, markRead}
+use Rattle.calls.proofs.CallWords.{ℕ, true, false, List, [], _∷_, _≡_, refl, sym, ap, _∙_, errorMarked, bidMade, bytesRead, markRead}
 use Rattle.calls.proofs.CallWords.{dataJoined, bidAnswered, creditRaised, bytesKept, bytesSpilled, numberIn, nextNumber, length}
 use Rattle.calls.proofs.CallWords.{Called, Station, Verb, called, taken, takenExpedited, refusalIn, Signal, SignalResponse, expeditedOf}
 use Rattle.calls.proofs.CallWords.{withExpedited, signalMade, signalTaken, responseTaken, headerTaken}
 use borrow.Author.Tests.{eqb-false}
 use Rattle.bools.proofs.Cases.{never}
+use Rattle.header.specs.Rules.{oneOf}
 use Rattle.header.specs.ExpeditedHeader.{isSignal}
+use Rattle.answers.proofs.TwoRows.{given}
 use Rattle.end.specs.ReceiveExpedited.{receiveExpeditedQuestions}
-use Rattle.calls.specs.ExpeditedLaws.{isRequestToSend, OnlyExpedited, NothingExpedited, Signalling}
+use Rattle.calls.specs.ExpeditedLaws.{isRequestToSend, OnlyExpedited, expeditedNumbers, NothingExpedited, Signalling}
 use Rattle.calls.proofs.CallCases.{allocate-cases, close-cases, confirmed-cases, pacing-response-cases, read-cases, send-cases, take-cases}
-use Rattle.calls.proofs.CallCases.{send-error-cases, request-cases, expedited-cases, defer-cases, withdraw-cases, passes}
-use Rattle.calls.proofs.Refusals.{expedited-number-is, not-first}
+use Rattle.calls.proofs.CallCases.{send-error-cases, request-cases, expedited-cases, defer-cases, withdraw-cases}
+use Rattle.calls.proofs.Refusals.{expedited-number-is}
 
 -- ---- request to send
 
@@ -19,7 +21,8 @@ module _ (s : Station) where
   abbrev Requested : Called → Type 0
   Requested m =
       refusalIn (m .answer) ≡ 0
-      → (m .expedited ≡ expeditedOf (nextNumber (s .end .expedited .sent)) Signal ∷ []) × (m .end .end ≡ withExpedited (signalMade (s .end .expedited)) (s .end))
+      → (m .expedited ≡ expeditedOf (nextNumber (s .end .expedited .sent)) Signal ∷ [])
+      × (m .end .end ≡ withExpedited (signalMade (s .end .expedited)) (s .end))
 
   requested : Requested (called s Verb.requestToSend)
   requested = request-cases Requested s (λ q n h. absurd (eqb-false q 0 n h)) (λ a h. (refl, refl))
@@ -65,11 +68,10 @@ module _ (s : Station) (u : List ℕ) where
       (λ a k. record { end = refl; send-buffer = refl; inbox = refl; sent = refl })
       (λ a k. record { end = refl; send-buffer = refl; inbox = refl; sent = refl })
 
-  -- no number of the row is this one
-  not-refused-with : (n : ℕ) → eqb 0 n ≡ false
-      → passes n (receiveExpeditedQuestions (s .end) u (length (s .unit))) ≡ true
-      → eqb (refusalIn (takenExpedited s u .answer)) n ≡ false
-  not-refused-with n z p = ap (λ (q : ℕ). eqb q n) (expedited-number-is s u) ∙ not-first (receiveExpeditedQuestions (s .end) u (length (s .unit))) n z p
+  numbers : oneOf (refusalIn (takenExpedited s u .answer)) expeditedNumbers ≡ true
+  numbers =
+      ap (λ (q : ℕ). oneOf q expeditedNumbers) (expedited-number-is s u)
+      ∙ given (λ (q : ℕ). oneOf q expeditedNumbers) (receiveExpeditedQuestions (s .end) u (length (s .unit))) refl
 
 -- ---- every other call
 
@@ -106,6 +108,25 @@ module _ (s : Station) where
       (λ p a e k m. record { kept = refl; sent = refl }) (λ p a e k m. record { kept = refl; sent = refl })
       (λ c a e m. record { kept = refl; sent = refl }) (λ a e k. record { kept = refl; sent = refl })
 
+-- ---- by their definitions
+
+pub silent : (s : Station) (v : Verb) → called s v .answer .signalled ≡ false
+unfolding called
+silent s Verb.allocate = refl
+silent s Verb.confirmed = refl
+silent s Verb.sendError = refl
+silent s Verb.sendPacingResponse = refl
+silent s Verb.requestToSend = refl
+silent s Verb.withdraw = refl
+silent s (Verb.sendData bytes) = refl
+silent s (Verb.close f b) = refl
+silent s (Verb.defer d) = refl
+silent s (Verb.receive buffer) = refl
+
+pub silent-take : (s : Station) (u : List ℕ) → taken s u .answer .signalled ≡ false
+unfolding taken
+silent-take s u = refl
+
 pub signalling : Signalling
 signalling =
     record {
@@ -113,7 +134,9 @@ signalling =
       one-at-a-time = one-at-a-time;
       told = told;
       answered = answered;
-      in-every-state = λ s u. (not-refused-with s u 7 refl refl, not-refused-with s u 13 refl refl);
+      numbers = numbers;
+      calls-tell-nothing = silent;
+      takes-tell-nothing = silent-take;
       request-apart = request-apart;
       take-apart = take-apart;
       other-calls = others;

@@ -104,7 +104,15 @@ same-decision : (t : Bool) (q : ℕ) (s : Station) (e : End) (d : Decision) → 
 same-decision true q s e d z =
     record { answer = refl; sent = refl; expedited = refl; send-buffer = refl; unit-buffer = refl; inbox = refl; end = λ h. refl }
 same-decision false q s e d z =
-    record { answer = refl; sent = refl; expedited = refl; send-buffer = refl; unit-buffer = refl; inbox = refl; end = λ h. absurd (eqb-false q 0 z (rw z at h)) }
+    record {
+      answer = refl;
+      sent = refl;
+      expedited = refl;
+      send-buffer = refl;
+      unit-buffer = refl;
+      inbox = refl;
+      end = λ h. absurd (eqb-false q 0 z (rw z at h));
+    }
 
 -- the last unit and the record after it, made from the record as prepared
 same-last : (e : End) (d : Deferred) (b : Bool) (send : List ℕ) → e .control .error ≡ false

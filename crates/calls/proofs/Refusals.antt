@@ -165,14 +165,11 @@ module _ (s : Station) where
 -- ---- takes
 
 module _ (s : Station) (u : List ℕ) where
-  abbrev Untaken : Called → Type 0
-  Untaken t = eqb (refusalIn (t .answer)) 0 ≡ false → (t .end ≡ s) × (t .sent ≡ []) × (t .expedited ≡ [])
-
   -- a refused take changes nothing, makes no unit, and leaves the unit on its line
   pub refused-take-nothing : eqb (refusalIn (taken s u .answer)) 0 ≡ false
       → (taken s u .end ≡ s) × (taken s u .sent ≡ []) × (taken s u .expedited ≡ [])
   refused-take-nothing =
-      take-cases Untaken s u (λ q w n h. (refl, refl, refl)) (λ d a e k h. yes h) (λ p a e k m h. yes h) (λ p a e k m h. yes h) (λ c a e m h. yes h)
+      take-cases (Nothing s) s u (λ q w n h. (refl, refl, refl)) (λ d a e k h. yes h) (λ p a e k m h. yes h) (λ p a e k m h. yes h) (λ c a e m h. yes h)
       (λ a e k h. yes h)
 
   pub accepted-take-good : eqb (refusalIn (taken s u .answer)) 0 ≡ true → recordGood (s .end) ≡ true

@@ -18,15 +18,16 @@ pub record Fits (n : ℕ) (cells : List ℕ) : Type 0 where
 none : (cells : List ℕ) → Fits 0 cells
 none cells = record { short = zero-le; there = zero-le }
 
-unit-fits : (n : ℕ) (h : Header) (ru cells : List ℕ) → length ru ≤ 1024 → Fits (5 + length ru) (front (unitOf n h ru) cells)
+bytes-fit : (u cells : List ℕ) (k : ℕ) → length u ≡ 5 + k → k ≤ 1024 → Fits (5 + k) (front u cells)
 unfolding front
-unit-fits n h ru cells l =
-    record { short = omega arith; there = simp (length-append, unit-length) (omega arith) }
+bytes-fit u cells k e l = record { short = omega arith; there = simp length-append (omega (arith, e)) }
 
-signal-fits : (n : ℕ) (h : ExpeditedHeader) (cells : List ℕ) → Fits (5 + length (expeditedRu h)) (front (expeditedOf n h) cells)
-unfolding front
-signal-fits n Signal cells = record { short = omega arith; there = simp (length-append, expedited-length) (omega arith) }
-signal-fits n SignalResponse cells = record { short = omega arith; there = simp (length-append, expedited-length) (omega arith) }
+unit-fits : (n : ℕ) (h : Header) (ru cells : List ℕ) → length ru ≤ 1024 → Fits (5 + length ru) (front (unitOf n h ru) cells)
+unit-fits n h ru cells l = bytes-fit (unitOf n h ru) cells (length ru) (unit-length n h ru) l
+
+expedited-fits : (n : ℕ) (h : ExpeditedHeader) (cells : List ℕ) → Fits (5 + length (expeditedRu h)) (front (expeditedOf n h) cells)
+expedited-fits n Signal cells = bytes-fit (expeditedOf n Signal) cells 5 (expedited-length n Signal) (omega arith)
+expedited-fits n SignalResponse cells = bytes-fit (expeditedOf n SignalResponse) cells 1 (expedited-length n SignalResponse) (omega arith)
 
 held-short : (e : End) (send : List ℕ) → recordGood e ≡ true → length (heldBytes e send) ≤ 1024
 held-short e send g = simp length-take (omega (arith, facts e g .sending .held, facts e g .sending .max .most))
@@ -44,7 +45,7 @@ module _ (s : Station) where
       allocate-cases After s (λ q n. none (s .unit)) (λ g a w. none (s .unit)) (λ g a w k. unit-fits _ _ bidRu (s .unit) (omega arith))
   acts-fit Verb.confirmed = confirmed-cases After s (λ q n. none (s .unit)) (λ g a. unit-fits _ _ _ (s .unit) (omega arith))
   acts-fit Verb.sendError = send-error-cases After s (λ q n. none (s .unit)) (λ g a. unit-fits _ _ negativeConfirmationRu (s .unit) (omega arith))
-  acts-fit Verb.requestToSend = request-cases After s (λ q n. none (s .unit)) (λ a. signal-fits _ Signal (s .unit))
+  acts-fit Verb.requestToSend = request-cases After s (λ q n. none (s .unit)) (λ a. expedited-fits _ Signal (s .unit))
   acts-fit Verb.sendPacingResponse = pacing-response-cases After s (λ q n. none (s .unit)) (λ g a. unit-fits _ _ _ (s .unit) (omega arith))
   acts-fit (Verb.sendData bytes) =
       send-cases After s bytes (λ q n. none (s .unit)) (λ a k. none (s .unit))
@@ -67,7 +68,7 @@ module _ (s : Station) where
 
   pub expedited-fit : (u : List ℕ) → After (takenExpedited s u)
   expedited-fit u =
-      expedited-cases After s u (λ q w n. none (s .unit)) (λ a k. signal-fits (numberIn u) SignalResponse (s .unit)) (λ a k. none (s .unit))
+      expedited-cases After s u (λ q w n. none (s .unit)) (λ a k. expedited-fits (numberIn u) SignalResponse (s .unit)) (λ a k. none (s .unit))
 
 pub units-fit : UnitsFit
 units-fit =

@@ -3,7 +3,7 @@
 -- Assumes nothing.
 use Rattle.calls.proofs.CallWords.{ℕ, _<_, _+_, _≤_, eqb, length, Bool, true, false, cond, not, _&&_, _||_, List, [], _∷_, _≡_, refl, sym, ap, _∙_, arith, cases}
 use Rattle.calls.proofs.CallWords.{confirms, headerGood, DataHeader, Header, bidRu, fixedRu, ruGood, unitOf, headerIn, Control, bidAnswer, ruReceived}
-use Rattle.calls.proofs.CallWords.{headerReceived, AllBytes, count, isPacingResponse, isRequest, requestsAmong}
+use Rattle.calls.proofs.CallWords.{headerReceived, AllBytes, count, isPacingResponse, isRequest, among, requestsAmong}
 use Prim.Native.Nat.{_/_, _%_}
 use lib.ListN.{drop}
 use Rattle.cells.specs.Equal.{sameBytes}
@@ -164,7 +164,7 @@ header-says NegativeConfirmation = (refl, refl, refl, refl)
 header-says PacingResponse = (refl, refl, refl, refl)
 
 pub requests-unit : (n : ℕ) (h : Header) (ru : List ℕ) → requestsAmong (unitOf n h ru ∷ []) ≡ count (isAsking (sortOf h)) + 0
-unfolding requestsAmong
+unfolding among
 requests-unit n h ru = ap (λ (x : HeaderBytes). count (not (on 0x80 (x .b0))) + 0) (unit-header n h ru) ∙ rw (header-says h .0)
 
 pub request-received : (u : List ℕ) → headerGood (headerIn u) ≡ true → isRequest u ≡ isAsking (sortOf (headerReceived u))

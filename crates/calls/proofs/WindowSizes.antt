@@ -1,9 +1,9 @@
 -- No call changes the size of a window.
 -- Assumes nothing.
 use Rattle.calls.proofs.CallWords.{ℕ, List, _≡_, refl, advanced, answered, requestMade, bidMade, bytesRead, errorMarked, dataJoined, bidAnswered}
-use Rattle.calls.proofs.CallWords.{creditRaised, bytesKept, bytesSpilled, Called, Station, Verb, called, taken, takenExpedited}
+use Rattle.calls.proofs.CallWords.{creditRaised, bytesKept, bytesSpilled, Called, Station, Verb, called, taken}
 use Rattle.calls.proofs.CallCases.{allocate-cases, close-cases, confirmed-cases, pacing-response-cases, read-cases, send-cases, take-cases}
-use Rattle.calls.proofs.CallCases.{send-error-cases, request-cases, expedited-cases, defer-cases, withdraw-cases}
+use Rattle.calls.proofs.CallCases.{send-error-cases, request-cases, defer-cases, withdraw-cases}
 
 abbrev pub sizeOf : Station → ℕ
 sizeOf s = s .end .sending .window .size
@@ -28,6 +28,3 @@ module _ (s : Station) where
   pub size-takes : (u : List ℕ) → After (taken s u)
   unfolding dataJoined errorMarked bidAnswered creditRaised answered
   size-takes u = take-cases After s u (λ q w n. refl) (λ d a e k. refl) (λ p a e k m. refl) (λ p a e k m. refl) (λ c a e m. refl) (λ a e k. refl)
-
-  pub size-takes-expedited : (u : List ℕ) → After (takenExpedited s u)
-  size-takes-expedited u = expedited-cases After s u (λ q w n. refl) (λ a k. refl) (λ a k. refl)

@@ -5,12 +5,12 @@ use Prim.Native.Nat.{ℕ}
 use mathlib.Core.Path.{_≡_}
 use mathlib.Core.Bool.{Bool, true, false}
 use mathlib.Core.List.{List, [], _∷_}
-use lib.Dec.{eqb}
+use Rattle.header.specs.Rules.{oneOf}
 use Rattle.header.specs.declared.ExpeditedHeader.the-variants.{Signal, SignalResponse}
 use Rattle.unit.specs.Sequence.{nextNumber}
 use Rattle.unit.specs.Unit.{numberIn}
 use Rattle.unit.specs.ExpeditedUnit.{expeditedOf}
-use Rattle.answers.specs.Answers.{WRONG-STATE, UNREAD-MARK}
+use Rattle.answers.specs.Answers.{BAD-BUFFER, BAD-RECORD, SHORT-UNIT, BAD-HEADER, BAD-RU, BAD-NUMBER, BAD-RESPONSE}
 use Rattle.expedited.specs.Signals.{signalMade, signalTaken, responseTaken}
 use Rattle.expedited.specs.Takes.{headerTaken}
 use Rattle.end.specs.Outcome.{withExpedited}
@@ -37,6 +37,10 @@ pub record OnlyExpedited (s : Station) (m : Called) : Type 0 where
   pub inbox : m .end .inbox ≡ s .inbox
   pub sent : m .sent ≡ []
 
+-- what a take on the expedited line can answer: accepted, or refused by 4, 5, 20 to 23 or 28; by no state and by no unread mark
+abbrev pub expeditedNumbers : List ℕ
+expeditedNumbers = 0 ∷ BAD-BUFFER ∷ BAD-RECORD ∷ SHORT-UNIT ∷ BAD-HEADER ∷ BAD-RU ∷ BAD-NUMBER ∷ BAD-RESPONSE ∷ []
+
 -- every other call leaves what the record keeps of the expedited lines, and makes no unit for one
 pub record NothingExpedited (s : Station) (m : Called) : Type 0 where
   pub kept : m .end .end .expedited ≡ s .end .expedited
@@ -57,9 +61,10 @@ pub record Signalling : Type 0 where
   pub answered : (s : Station) (u : List ℕ) → refusalIn (takenExpedited s u .answer) ≡ 0 → headerTaken u ≡ SignalResponse
       → (takenExpedited s u .answer .signalled ≡ false) × (takenExpedited s u .expedited ≡ [])
       × (takenExpedited s u .end .end ≡ withExpedited (responseTaken (s .end .expedited)) (s .end))
-  -- no state and no unread mark refuses a take there
-  pub in-every-state : (s : Station) (u : List ℕ)
-      → (eqb (refusalIn (takenExpedited s u .answer)) WRONG-STATE ≡ false) × (eqb (refusalIn (takenExpedited s u .answer)) UNREAD-MARK ≡ false)
+  pub numbers : (s : Station) (u : List ℕ) → oneOf (refusalIn (takenExpedited s u .answer)) expeditedNumbers ≡ true
+  -- nothing but a take there tells of a signal
+  pub calls-tell-nothing : (s : Station) (v : Verb) → called s v .answer .signalled ≡ false
+  pub takes-tell-nothing : (s : Station) (u : List ℕ) → taken s u .answer .signalled ≡ false
   -- the two kinds of line are apart
   pub request-apart : (s : Station) → OnlyExpedited s (called s requestToSend)
   pub take-apart : (s : Station) (u : List ℕ) → OnlyExpedited s (takenExpedited s u)

@@ -53,7 +53,8 @@ pub record Refusals : Type 0 where
   pub number-of-expedited-take : (s : Station) (u : List ℕ)
       → refusalIn (takenExpedited s u .answer) ≡ firstNo (receiveExpeditedQuestions (s .end) u (length (s .unit)))
   -- the record and the cells lent at opening are as before, and no unit is made
-  pub changes-nothing : (s : Station) (v : Verb) → (refusalIn (called s v .answer) ≡ 0 → ⊥) → (called s v .end ≡ s) × (called s v .sent ≡ []) × (called s v .expedited ≡ [])
+  pub changes-nothing : (s : Station) (v : Verb) → (refusalIn (called s v .answer) ≡ 0 → ⊥)
+      → (called s v .end ≡ s) × (called s v .sent ≡ []) × (called s v .expedited ≡ [])
   -- the buffer lent to a read too
   pub leaves-buffer : (s : Station) (buffer : List ℕ) → (refusalIn (called s (receive buffer) .answer) ≡ 0 → ⊥)
       → called s (receive buffer) .answer .buffer ≡ buffer
@@ -62,7 +63,8 @@ pub record Refusals : Type 0 where
       → (taken s u .end ≡ s) × (taken s u .sent ≡ []) × (taken s u .expedited ≡ [])
   -- and one on the expedited line, which tells of no signal then
   pub takes-nothing-expedited : (s : Station) (u : List ℕ) → (refusalIn (takenExpedited s u .answer) ≡ 0 → ⊥)
-      → (takenExpedited s u .end ≡ s) × (takenExpedited s u .sent ≡ []) × (takenExpedited s u .expedited ≡ []) × (takenExpedited s u .answer .signalled ≡ false)
+      → (takenExpedited s u .end ≡ s) × (takenExpedited s u .sent ≡ []) × (takenExpedited s u .expedited ≡ [])
+      × (takenExpedited s u .answer .signalled ≡ false)
 
 -- ---- question 5
 

@@ -13,6 +13,11 @@ use Rattle.unit.specs.Unit.{RU-START, headerIn}
 abbrev pub count : Bool → ℕ
 count b = cond b 1 0
 
+-- how many units a test finds
+unfoldable pub among : (List ℕ → Bool) → List (List ℕ) → ℕ
+among found [] = 0
+among found (u ∷ us) = count (found u) + among found us
+
 -- on the line the data RUs, oldest first
 abbrev pub dataRu : List ℕ → List ℕ
 dataRu u = cond (isData (headerIn u)) (drop RU-START u) []
@@ -21,9 +26,8 @@ dataRu u = cond (isData (headerIn u)) (drop RU-START u) []
 abbrev pub isRequest : List ℕ → Bool
 isRequest u = not (on 0x80 (headerIn u .b0))
 
-unfoldable pub requestsAmong : List (List ℕ) → ℕ
-requestsAmong [] = 0
-requestsAmong (u ∷ us) = count (isRequest u) + requestsAmong us
+abbrev pub requestsAmong : List (List ℕ) → ℕ
+requestsAmong us = among isRequest us
 
 -- a pacing answer: 83 01 00
 abbrev pub isPacingResponse : List ℕ → Bool

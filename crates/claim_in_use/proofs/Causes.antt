@@ -68,7 +68,7 @@ unfolding announced
 still-announced [] e = refl
 still-announced (u ∷ us) e = by (on 0x80 (getD u 2 0)) refl e (λ f. still-announced us f)
   where
-    by : (b : Bool) → on 0x80 (getD u 2 0) ≡ b → cond b [] (u ∷ []) ++ each request us ≡ []
+    by : (b : Bool) → on 0x80 (getD u 2 0) ≡ b → cond (not b) (u ∷ []) [] ++ each request us ≡ []
         → (each request us ≡ [] → announced true us ≡ true) → announced (announcedBehind true u) us ≡ true
     by true o f h =
         subst (λ (x : Bool). announced x us ≡ true)

@@ -92,10 +92,10 @@ one-way x y b r t =
           ∙ ap (λ (bs : List ℕ). wholeTables bs ++ t .still-to-come) (sym (read-is (y .log)));
     }
 
--- none of two lists that have no item together has one
-none-of : {A : Type 0} (xs : List A) (n : ℕ) → length xs + n ≡ 0 → xs ≡ []
-none-of [] n e = refl
-none-of (x ∷ xs) n e = absurd (omega (arith, e))
+-- a list of no item
+none-of : {A : Type 0} (xs : List A) → length xs ≡ 0 → xs ≡ []
+none-of [] e = refl
+none-of (x ∷ xs) e = absurd (omega (arith, e))
 
 signals-told : (x y : OneEnd) → Signals x y → SignalsTold x y
 signals-told x y s =
@@ -107,8 +107,8 @@ signals-told x y s =
       waits-for-answer = λ u. let d = rw u at c in omega (arith, d, there, back);
       has-answer = λ u.
           let d = rw u at c in (
-            none-of (each signal (y .waiting expedited)) 0 (omega (arith, d, there)),
-            none-of (each response (x .waiting expedited)) 0 (omega (arith, d, back)),
+            none-of (each signal (y .waiting expedited)) (omega (arith, d, there)),
+            none-of (each response (x .waiting expedited)) (omega (arith, d, back)),
           );
     }
 

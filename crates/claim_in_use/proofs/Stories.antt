@@ -7,9 +7,8 @@ use mathlib.Core.List.{List, [], _∷_, _++_, append-nil, append-assoc}
 use native.Mathlib.Omega.{arith}
 use borrow.Author.Tests.{eq-eqb, le-leb, ne-eqb}
 use lib.Dec.{eqb}
-use lib.ListN.{length, take, getD, length-append}
+use lib.ListN.{length, take, length-append}
 use Rattle.bools.proofs.Tests.{right}
-use Rattle.header.specs.Weights.{on}
 use Rattle.logical_record.specs.Positions.{start}
 use Rattle.logical_record.specs.Walk.{walk}
 use Rattle.logical_record.specs.Records.{ended, wholeRecords, lastBit}
@@ -23,7 +22,7 @@ use Rattle.claim_in_use.specs.OtherWords.{Seen, story, each, All, number
 use Rattle.claim_in_use.specs.OtherWords.{pacingAnswer, dataBytes, madeExpedited, signal, response, told}
 use Rattle.joined.specs.Signals.{signalsAmong, responsesAmong, signalsMade, signalsTold}
 use Rattle.calls.specs.Calls.{Reply, Verb}
-use Rattle.calls.specs.UnitCounts.{count, requestsAmong, isPacingResponse, isSignalUnit, isResponseUnit}
+use Rattle.calls.specs.UnitCounts.{count, among, isRequest, requestsAmong, isPacingResponse, isSignalUnit, isResponseUnit}
 
 -- ---- lists
 
@@ -81,14 +80,19 @@ line-is (u ∷ us) = ap (λ (r : List ℕ). dataBytes u ++ r) (line-is us)
 
 -- ---- counts
 
-requests-in : (us : List (List ℕ)) → length (each request us) ≡ requestsAmong us
-unfolding requestsAmong
-requests-in [] = refl
-requests-in (u ∷ us) = by (on 0x80 (getD u 2 0)) (requests-in us)
+-- the units that a test finds
+found-in : (p : List ℕ → Bool) (us : List (List ℕ)) → length (each (λ (u : List ℕ). cond (p u) (u ∷ []) []) us) ≡ among p us
+unfolding among
+found-in p [] = refl
+found-in p (u ∷ us) = by (p u) (found-in p us)
   where
-    by : (b : Bool) → length (each request us) ≡ requestsAmong us → length (cond b [] (u ∷ []) ++ each request us) ≡ count (not b) + requestsAmong us
+    by : (b : Bool) → length (each (λ (v : List ℕ). cond (p v) (v ∷ []) []) us) ≡ among p us
+        → length (cond b (u ∷ []) [] ++ each (λ (v : List ℕ). cond (p v) (v ∷ []) []) us) ≡ count b + among p us
     by true h = omega (arith, h)
     by false h = omega (arith, h)
+
+requests-in : (us : List (List ℕ)) → length (each request us) ≡ requestsAmong us
+requests-in = found-in isRequest
 
 -- units of the kind f among those made, with those that the last call made
 more-made : (f : List ℕ → List (List ℕ)) (make : Seen → List (List ℕ)) (e : Seen) (es : Log) (n k : ℕ)
@@ -127,24 +131,11 @@ answers-are (took normal u r us ∷ es) =
 
 -- ---- signals
 
--- a kind of units, and a count of them
-kind-in : (p : List ℕ → Bool) (total : List (List ℕ) → ℕ) → total [] ≡ 0 → ((u : List ℕ) (us : List (List ℕ)) → total (u ∷ us) ≡ count (p u) + total us)
-    → (us : List (List ℕ)) → length (each (λ (u : List ℕ). cond (p u) (u ∷ []) []) us) ≡ total us
-kind-in p total z more [] = sym z
-kind-in p total z more (u ∷ us) = by (p u) (kind-in p total z more us) ∙ sym (more u us)
-  where
-    by : (b : Bool) → length (each (λ (v : List ℕ). cond (p v) (v ∷ []) []) us) ≡ total us
-        → length (cond b (u ∷ []) [] ++ each (λ (v : List ℕ). cond (p v) (v ∷ []) []) us) ≡ count b + total us
-    by true h = omega (arith, h)
-    by false h = omega (arith, h)
-
 pub signals-in : (us : List (List ℕ)) → length (each signal us) ≡ signalsAmong us
-unfolding signalsAmong
-signals-in = kind-in isSignalUnit signalsAmong refl (λ u us. refl)
+signals-in = found-in isSignalUnit
 
 pub responses-in : (us : List (List ℕ)) → length (each response us) ≡ responsesAmong us
-unfolding responsesAmong
-responses-in = kind-in isResponseUnit responsesAmong refl (λ u us. refl)
+responses-in = found-in isResponseUnit
 
 pub signals-are : (es : Log) → length (each signal (each madeExpedited (story es))) ≡ signalsMade es
 unfolding signalsMade

@@ -89,7 +89,7 @@ begun =
 abbrev pub early : List (J.At Lane Verb)
 early = begun ++ (first (act (Verb.defer deferral.Turn)) ∷ [])
 
--- while the turn is prepared: the bid is refused, and pacing answers cross
+-- while the turn is prepared: the bid is refused, a pacing answer is made, and the bidder takes a unit
 abbrev pub crossing : List (J.At Lane Verb)
 crossing =
     first (J.take normal)

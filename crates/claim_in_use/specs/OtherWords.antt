@@ -3,7 +3,7 @@
 -- Assumes nothing.
 use Prim.Native.Nat.{ℕ, _+_, _-_, _*_, _≤_, _<_}
 use mathlib.Core.Path.{_≡_}
-use mathlib.Core.Bool.{true, false, cond, _&&_}
+use mathlib.Core.Bool.{true, false, not, cond, _&&_}
 use mathlib.Core.List.{List, [], _∷_, _++_}
 use lib.Dec.{eqb, leb}
 use lib.ListN.{length, take, drop, getD}
@@ -143,7 +143,7 @@ readAnswer (took l u r us) = []
 
 -- a request has no weight 80 in header byte 0, which is the unit's third
 abbrev pub request : List ℕ → List (List ℕ)
-request u = cond (on 0x80 (getD u 2 0)) [] (u ∷ [])
+request u = cond (not (on 0x80 (getD u 2 0))) (u ∷ []) []
 
 -- a unit that was taken on the normal lane, if its header is 83 01 00
 abbrev pub pacingAnswer : Seen → List (List ℕ)

@@ -7,7 +7,7 @@ use mathlib.Core.Bool.{true, false}
 use mathlib.Core.List.{List, [], _∷_, _++_}
 use Rattle.control.specs.declared.State.the-variants.{Receive, DeferTurn}
 use Rattle.control.specs.declared.Deferred.the-variants as deferral
-use Rattle.expedited.specs.Signals.{signalMade, responseTaken}
+use Rattle.expedited.specs.Signals.{signalMade, signalTaken, responseTaken}
 use Rattle.end.specs.Outcome.{withExpedited}
 use Rattle.end.specs.Record.{creditOf}
 use Rattle.joined.specs.Joined.{At, run}
@@ -81,19 +81,31 @@ pub record SignalSaid : Type 0 where
   pub unit-made : called (receives .two .end) Verb.requestToSend .expedited ≡ aSignal ∷ []
   pub only-signal :
       called (receives .two .end) Verb.requestToSend .end .end ≡ withExpedited (signalMade (receives .two .end .end .expedited)) (receives .two .end .end)
+  -- it makes no unit for the normal line, changes no byte given or taken before, and tells nobody where it is made
+  pub request-apart : (called (receives .two .end) Verb.requestToSend .sent ≡ [])
+      × (called (receives .two .end) Verb.requestToSend .end .send ≡ receives .two .end .send)
+      × (called (receives .two .end) Verb.requestToSend .end .inbox ≡ receives .two .end .inbox)
+  pub not-told-here : called (receives .two .end) Verb.requestToSend .answer .signalled ≡ false
   -- a second one is refused
   pub one-at-a-time : refusalIn (called (asked .two .end) Verb.requestToSend .answer) ≡ 0 → ⊥
   -- the take, in Defer, tells the program and makes the response under the same number
   pub program-told : takenExpedited (asked .one .end) aSignal .answer .signalled ≡ true
   pub answer-made : takenExpedited (asked .one .end) aSignal .expedited ≡ anAnswer ∷ []
+  pub number-kept :
+      takenExpedited (asked .one .end) aSignal .end .end ≡ withExpedited (signalTaken 1 (asked .one .end .end .expedited)) (asked .one .end .end)
+  pub take-apart : (takenExpedited (asked .one .end) aSignal .sent ≡ [])
+      × (takenExpedited (asked .one .end) aSignal .end .send ≡ asked .one .end .send)
+      × (takenExpedited (asked .one .end) aSignal .end .inbox ≡ asked .one .end .inbox)
   pub in-defer : takenExpedited (prepared .one .end) aSignal ≡ inDefer deferral.Turn (takenExpedited before aSignal)
   -- the take of the response tells nobody, makes nothing and clears the flag
   pub untold : takenExpedited (told .two .end) anAnswer .answer .signalled ≡ false
   pub nothing-made : takenExpedited (told .two .end) anAnswer .expedited ≡ []
   pub cleared :
       takenExpedited (told .two .end) anAnswer .end .end ≡ withExpedited (responseTaken (told .two .end .end .expedited)) (told .two .end .end)
-  -- the bid's take makes no unit for the expedited line
-  pub apart : taken (prepared .one .end) aBid .expedited ≡ []
+  -- the bid's take makes no unit for the expedited line and tells of no signal; the pacing answer leaves what is kept of the expedited lines
+  pub bid-apart : taken (prepared .one .end) aBid .expedited ≡ []
+  pub bid-tells-nothing : taken (prepared .one .end) aBid .answer .signalled ≡ false
+  pub pacing-apart : called (prepared .one .end) Verb.sendPacingResponse .end .end .expedited ≡ prepared .one .end .end .expedited
 
 pub record OneSignal : Type 0 where
   pub happened : SignalHappened

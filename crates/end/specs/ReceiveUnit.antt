@@ -1,4 +1,4 @@
--- Take one unit.
+-- Take one unit from the normal line.
 -- Assumes nothing.
 use Prim.Native.Nat.{ℕ, _+_}
 use mathlib.Core.Bool.{Bool, cond, _&&_}

@@ -57,8 +57,8 @@ impl End {
         }
     }
 
-    // Takes one unit from the partner, or refuses it and changes nothing. If more bytes are held then, they are the unit's own and
-    // join the inbox. A bid is answered, under its number, which is the last one taken: its answer is the unit made.
+    // Takes one unit from the partner's normal line, or refuses it and changes nothing. If more bytes are held then, they are the unit's
+    // own and join the inbox. A bid is answered, under its number, which is the last one taken: its answer is the unit made.
     pub fn receive_unit(self, taken: &[u8], inbox: &mut [u8], unit: &mut [u8]) -> Done
         ensures { λ r. ⌜ takenBy r (now (inbox .exit)) (now (unit .exit))
             ≡ receiveUnit self (now (taken .entry)) (now (inbox .entry)) (now (unit .entry)) ⌝ }

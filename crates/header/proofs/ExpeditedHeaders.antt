@@ -139,15 +139,10 @@ h1-bits : (x : ℕ) → x < 256 → bitsExpeditedH1 (byte0 x) ≡ oneOf x (0x4B 
 h1-bits = at-byte (λ x. bitsExpeditedH1 (byte0 x)) (λ x. oneOf x (0x4B ∷ 0xCB ∷ [])) refl
 
 -- what is left of H2's list where byte 0 is one of the two
-signal-row : (a c : Bool) → cond (a && c) (Good Signal) (Breaks H2) ≡ readBy true (a && c || false) Signal
-signal-row true true = refl
-signal-row true false = refl
-signal-row false c = refl
-
-response-row : (a c : Bool) → cond (a && c) (Good SignalResponse) (Breaks H2) ≡ readBy true (a && c || false) SignalResponse
-response-row true true = refl
-response-row true false = refl
-response-row false c = refl
+one-row : (a c : Bool) (f : ExpeditedHeader) → cond (a && c) (Good f) (Breaks H2) ≡ readBy true (a && c || false) f
+one-row true true f = refl
+one-row true false f = refl
+one-row false c f = refl
 
 module _ (y z : ℕ) (hy : y < 256) (hz : z < 256) where
   abbrev Same : ℕ → Type 0
@@ -156,8 +151,8 @@ module _ (y z : ℕ) (hy : y < 256) (hz : z < 256) where
   both-kinds : All Same (0x4B ∷ 0xCB ∷ [])
   unfolding readExpeditedBits readExpedited expeditedGood brokenExpedited expeditedFields
   both-kinds = (
-    rw (unpaced true false false y hy, bracket false z hz) (signal-row (eqb y 0x80) (eqb z 0x00)),
-    (rw (unpaced true false false y hy, bracket false z hz) (response-row (eqb y 0x80) (eqb z 0x00)), tt),
+    rw (unpaced true false false y hy, bracket false z hz) (one-row (eqb y 0x80) (eqb z 0x00) Signal),
+    (rw (unpaced true false false y hy, bracket false z hz) (one-row (eqb y 0x80) (eqb z 0x00) SignalResponse), tt),
   )
 
 no-kind : (x y z : ℕ) → oneOf x (0x4B ∷ 0xCB ∷ []) ≡ false → Breaks H1 ≡ readExpedited (bytes x y z)

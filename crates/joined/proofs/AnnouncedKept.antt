@@ -14,7 +14,7 @@ use Rattle.header.specs.declared.Header.the-variants.{NegativeConfirmation, Pac
 use Rattle.cells.specs.Equal.{sameBytes}
 use Rattle.control.specs.Questions.{positiveResponseFits}
 use Rattle.control.specs.StateTests.{isConfirmAwaited}
-use Rattle.control.specs.declared.State.the-variants.{Reset, Receive, ConfirmOwed, ConfirmAwaited}
+use Rattle.control.specs.declared.State.the-variants.{Reset, ConfirmOwed, ConfirmAwaited}
 use Rattle.control.specs.declared.WhatReceived.the-variants as mark
 use Rattle.control.proofs.States.{state-is, holding-not-receive, in-defer}
 use Rattle.control.proofs.Within.{error-outside-send}

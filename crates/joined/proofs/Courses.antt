@@ -1,15 +1,15 @@
 -- The expedited half of two joined ends: a signal of an end is nowhere, on its way, or its response is; the numbers that the ends keep say which.
 -- Assumes nothing.
 use Rattle.joined.proofs.JoinedWords.{ℕ, _+_, Bool, true, false, not, cond, List, [], _∷_, _++_, append-nil, _≡_, refl, sym, ap, _∙_}
-use Rattle.joined.proofs.JoinedWords.{subst, never, numberIn, nextNumber, Expedited, count, RU-START, length, arith, le-leb, eq-eqb}
+use Rattle.joined.proofs.JoinedWords.{subst, never, numberIn, nextNumber, Expedited, count, among, RU-START, length, arith, le-leb, eq-eqb}
 use Rattle.header.specs.ExpeditedHeader.{isSignal, expeditedFields, expeditedBytes}
 use Rattle.header.specs.declared.ExpeditedHeader.{ExpeditedHeader}
 use Rattle.header.specs.declared.ExpeditedHeader.the-variants.{Signal, SignalResponse}
 use Rattle.header.specs.Rules.{bytes, sameHeader}
 use Rattle.header.specs.declared.HeaderBytes.{HeaderBytes}
-use Rattle.unit.specs.ExpeditedUnit.{expeditedRu, expeditedRuGood, expeditedOf}
+use Rattle.unit.specs.ExpeditedUnit.{expeditedRu, expeditedOf}
 use Rattle.unit.proofs.ExpeditedUnits.{expedited-length, expedited-number, expedited-header, expedited-ru, expedited-built-good, expedited-built-fields}
-use Rattle.cells.specs.Equal.{sameBytes}
+use Rattle.cells.proofs.Equal.{same-self}
 use Rattle.answers.specs.FirstNo.{firstNo}
 use Rattle.expedited.specs.Signals.{noSignal, signalMade, signalTaken, responseTaken}
 use Rattle.expedited.specs.Takes.{headerTaken, fieldQuestions, takeQuestions}
@@ -150,26 +150,24 @@ response-taken x taken k ss rs (coming a b c d) =
     record { on = a; number = f .0; after = quiet refl b c (f .1) }
 
 -- what is on a line whose first unit is this one
-signals-first : (u : List ℕ) (us : List (List ℕ)) → headerTaken u ≡ Signal
-    → (signalsOn (u ∷ us) ≡ numberIn u ∷ signalsOn us) × (responsesOn (u ∷ us) ≡ responsesOn us)
-signals-first u us e = (rw e, rw e)
-
-responses-first : (u : List ℕ) (us : List (List ℕ)) → headerTaken u ≡ SignalResponse
-    → (signalsOn (u ∷ us) ≡ signalsOn us) × (responsesOn (u ∷ us) ≡ numberIn u ∷ responsesOn us)
-responses-first u us e = (rw e, rw e)
+on-first : (u : List ℕ) (us : List (List ℕ)) (h : ExpeditedHeader) → headerTaken u ≡ h
+    → (signalsOn (u ∷ us) ≡ cond (isSignal h) (numberIn u ∷ signalsOn us) (signalsOn us))
+    × (responsesOn (u ∷ us) ≡ cond (isResponse h) (numberIn u ∷ responsesOn us) (responsesOn us))
+on-first u us h e = (rw e, rw e)
 
 module _ (x y : Expedited) (line : List (List ℕ)) (u : List ℕ) (us : List (List ℕ)) (h : Halves x y line (u ∷ us)) where
   -- a signal that is taken at x
   to-take : headerTaken u ≡ Signal → SignalTaken y (x .taken) (numberIn u) (signalsOn us) (responsesOn line)
   to-take e =
       signal-taken y (x .taken) (numberIn u) (signalsOn us) (responsesOn line)
-      (subst (λ (ss : List ℕ). Course y (x .taken) ss (responsesOn line)) (signals-first u us e .0) (h .into))
+      (subst (λ (ss : List ℕ). Course y (x .taken) ss (responsesOn line)) (on-first u us Signal e .0) (h .into))
 
   pub halves-told : headerTaken u ≡ Signal → Halves (signalTaken (numberIn u) x) y (line ++ (expeditedOf (numberIn u) SignalResponse ∷ [])) us
   halves-told e =
       record {
         out =
-            as-course refl refl (picked-more isSignal line (numberIn u) SignalResponse ∙ append-nil (signalsOn line)) (sym (signals-first u us e .1)) (h .out);
+            as-course refl refl (picked-more isSignal line (numberIn u) SignalResponse ∙ append-nil (signalsOn line))
+            (sym (on-first u us Signal e .1)) (h .out);
         into =
             subst (λ (rs : List ℕ). Course y (numberIn u) (signalsOn us) rs) (sym (picked-more isResponse line (numberIn u) SignalResponse))
             (to-take e .after);
@@ -181,13 +179,13 @@ module _ (x y : Expedited) (line : List (List ℕ)) (u : List ℕ) (us : List (L
   to-clear : headerTaken u ≡ SignalResponse → ResponseTaken x (y .taken) (numberIn u) (signalsOn line) (responsesOn us)
   to-clear e =
       response-taken x (y .taken) (numberIn u) (signalsOn line) (responsesOn us)
-      (subst (λ (rs : List ℕ). Course x (y .taken) (signalsOn line) rs) (responses-first u us e .1) (h .out))
+      (subst (λ (rs : List ℕ). Course x (y .taken) (signalsOn line) rs) (on-first u us SignalResponse e .1) (h .out))
 
   pub halves-cleared : headerTaken u ≡ SignalResponse → Halves (responseTaken x) y line us
   halves-cleared e =
       record {
         out = to-clear e .after;
-        into = as-course refl refl (sym (responses-first u us e .0)) refl (h .into);
+        into = as-course refl refl (sym (on-first u us SignalResponse e .0)) refl (h .into);
         line-written = h .line-written;
         back-written = h .back-written .1;
       }
@@ -200,18 +198,13 @@ module _ (x y : Expedited) (line : List (List ℕ)) (u : List ℕ) (us : List (L
       let long = le-leb RU-START (length (expeditedOf n k)) (omega (arith, expedited-length n k)) in
       rw (e, long, expedited-header n k, expedited-built-good k, expedited-built-fields k, expedited-number n k, expedited-ru n k)
 
-  ru-good : (k : ExpeditedHeader) → expeditedRuGood k (expeditedRu k) ≡ true
-  unfolding sameBytes
-  ru-good Signal = refl
-  ru-good SignalResponse = refl
-
   by : (n : ℕ) (k : ExpeditedHeader) → u ≡ expeditedOf n k → firstNo (fieldQuestions x k n (expeditedRu k)) ≡ 0
   by n Signal e =
       let t = to-take (ap headerTaken e ∙ header-written n Signal) .next in
-      rw (ru-good Signal, eq-eqb n (nextNumber (x .taken)) (sym (ap numberIn e ∙ expedited-number n Signal) ∙ t))
+      rw (same-self (expeditedRu Signal), eq-eqb n (nextNumber (x .taken)) (sym (ap numberIn e ∙ expedited-number n Signal) ∙ t))
   by n SignalResponse e =
       let t = to-clear (ap headerTaken e ∙ header-written n SignalResponse) in
-      rw (ru-good SignalResponse, t .on, eq-eqb n (x .sent) (sym (ap numberIn e ∙ expedited-number n SignalResponse) ∙ t .number))
+      rw (same-self (expeditedRu SignalResponse), t .on, eq-eqb n (x .sent) (sym (ap numberIn e ∙ expedited-number n SignalResponse) ∙ t .number))
 
   pub all-yes : firstNo (takeQuestions x u) ≡ 0
   all-yes =
@@ -237,7 +230,7 @@ count-one true n k ks e = omega (arith, e)
 count-one false n k ks e = omega (arith, e)
 
 pub signals-counted : (us : List (List ℕ)) → AllWritten us → (signalsAmong us ≡ length (signalsOn us)) × (responsesAmong us ≡ length (responsesOn us))
-unfolding signalsAmong responsesAmong
+unfolding among
 signals-counted [] w = (refl, refl)
 signals-counted (u ∷ us) w =
     let c = signals-counted us (w .1) in

@@ -49,8 +49,8 @@ pub use Rattle.end.specs.{SendData.gone, declared.End.End}
 pub use Rattle.end.specs.{Outcome.withExpedited}
 pub use Rattle.expedited.specs.{declared.Expedited.Expedited}
 pub use Rattle.end.proofs.{RecordGood.facts}
-pub use Rattle.calls.specs.{Calls.Station, Calls.Reply, Calls.Verb, UnitCounts.count, UnitCounts.isPacingResponse}
-unfoldable pub use Rattle.calls.specs.{UnitCounts.requestsAmong}
+pub use Rattle.calls.specs.{Calls.Station, Calls.Reply, Calls.Verb, UnitCounts.count, UnitCounts.isPacingResponse, UnitCounts.requestsAmong}
+unfoldable pub use Rattle.calls.specs.{UnitCounts.among}
 pub use Rattle.calls.proofs.{CallCases.allocate-cases, CallCases.bidNumber, CallCases.close-cases, CallCases.confirmed-cases}
 pub use Rattle.calls.proofs.{CallCases.defer-cases, CallCases.withdraw-cases, CallCases.send-error-cases, CallCases.request-cases, CallCases.expedited-cases, CallCases.sentEnd}
 pub use Rattle.calls.proofs.{CallCases.pacing-response-cases, CallCases.read-cases, CallCases.send-cases, CallCases.spilledRu, CallCases.take-cases}

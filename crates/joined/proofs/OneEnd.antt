@@ -3,7 +3,7 @@
 use Rattle.joined.proofs.JoinedWords.{ℕ, _+_, _*_, _≤_, _<_, eqb, take, Bool, true, false, _&&_, List, [], _∷_, _++_, append-nil, _≡_, refl, sym, ap}
 use Rattle.joined.proofs.JoinedWords.{_∙_, arith, isWhole, ended, thenWalk, walk, Position, Walked, walk-append, walk-prefix, Through, same-position}
 use Rattle.joined.proofs.JoinedWords.{credit, maySend, WhatReceived, readRefused, accepted, Station, Reply, Verb, count, isPacingResponse}
-use Rattle.joined.proofs.JoinedWords.{requestsAmong, Lane, normal, onNormal, Log, bytesAccepted, bytesInInbox, requestsMade, pacingResponsesTaken}
+use Rattle.joined.proofs.JoinedWords.{among, requestsAmong, Lane, normal, onNormal, Log, bytesAccepted, bytesInInbox, requestsMade, pacingResponsesTaken}
 use Rattle.joined.proofs.JoinedWords.{breaches, badReads, CompleteIsRight, MoreIsRight, NoneCrosses, isBreach, took, acted, Lines}
 use native.Mathlib.Nat.{zero-add}
 use borrow.Author.Tests.{ne-eqb}
@@ -11,7 +11,7 @@ use Rattle.logical_record.specs.Positions.{start, isBetween, moreFollows}
 use Rattle.logical_record.proofs.WholeRecords.{bit-remembered}
 use Rattle.logical_record.specs.declared.Walked.the-variants.{At}
 use Rattle.control.specs.declared.WhatReceived.the-variants as mark
-use Rattle.answers.specs.Answers.{refused, refusedNaming}
+use Rattle.answers.specs.Answers.{refused, refusedNaming, readAccepted}
 use Rattle.answers.specs.declared.Answer.{Answer}
 use Rattle.joined.specs.Histories.{given, bytesRead, isBadRead}
 use Rattle.calls.specs.Calls.{plain, readReply, expeditedReply}
@@ -113,7 +113,7 @@ pub local-refused :
     → isBadRead verb q ≡ false
     → Local v xs
     → Local v (acted verb (readReply (readRefused q) buffer) (onNormal []) ∷ xs)
-unfolding thenWalk requestsAmong
+unfolding thenWalk among
 local-refused {v} verb q buffer e b l =
     local-act verb (refused q) mark.Nothing buffer (onNormal []) v l (rw (refused-gives verb q e)) (l .whole) refl (zero-add (v .credit)) b
 
@@ -135,9 +135,9 @@ pub local-read :
     → w .credit ≡ v .credit
     → Local w
     (acted (Verb.receive asked)
-    (record { answer = record { answer = accepted 0; copied = k; complete = isBetween (w .inner .read); more = moreFollows (w .inner .read); mark = mark.Nothing }; buffer = buffer; signalled = false })
+    (readReply (readAccepted k (isBetween (w .inner .read)) (moreFollows (w .inner .read)) mark.Nothing) buffer)
     (onNormal []) ∷ xs)
-unfolding bytesAccepted bytesRead requestsAmong requestsMade pacingResponsesTaken CompleteIsRight MoreIsRight NoneCrosses badReads breaches
+unfolding bytesAccepted bytesRead among requestsMade pacingResponsesTaken CompleteIsRight MoreIsRight NoneCrosses badReads breaches
 local-read {v} {xs} asked k first rest buffer w l some f i r within b d g t z c =
     let p = v .inner .read in
     let q = w .inner .read in
@@ -204,7 +204,7 @@ pub local-take-refused :
     → isBreach q ≡ false
     → Local v xs
     → Local v (took normal u (plain (refusedNaming rule q)) (onNormal []) ∷ xs)
-unfolding requestsAmong
+unfolding among
 local-take-refused {v} u rule q e b l =
     local-took u (refusedNaming rule q) (onNormal []) false v l (rw e) b refl (l .whole) refl (l .inbox) refl (omega arith)
 
@@ -215,7 +215,7 @@ pub local-took-expedited :
     → isBreach (a .answer .refusal) ≡ false
     → us normal ≡ []
     → Local v (took expedited u (expeditedReply a) us ∷ xs)
-unfolding bytesAccepted bytesRead requestsAmong requestsMade pacingResponsesTaken CompleteIsRight MoreIsRight NoneCrosses badReads breaches
+unfolding bytesAccepted bytesRead among requestsMade pacingResponsesTaken CompleteIsRight MoreIsRight NoneCrosses badReads breaches
 local-took-expedited {v} {xs} u a us l q n =
     record {
       given = l .given;

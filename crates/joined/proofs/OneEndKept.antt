@@ -220,7 +220,8 @@ module _ (s : Station) (xs : Log) (u : List ℕ) (l : Local (valuesOf s) xs) whe
       let same = no-rise (credit w) (w .size) in
       take-cases (LanedTake Left) s u (λ q x n. local-take-refused u (ruleNamed u) q n (nb q x) l)
       (λ d a e k.
-      local-took u (accepted 0) (onNormal []) false _ l (counts-pacing _ e a) refl refl (λ m. l .whole (rw (not-holding (s .end .control .state) (k .away)))) refl
+      local-took u (accepted 0) (onNormal []) false _ l (counts-pacing _ e a) refl refl
+      (λ m. l .whole (rw (not-holding (s .end .control .state) (k .away)))) refl
       (ap (walk (r .read)) (written-bytes (r .held) ru (s .inbox) (inbox-room s (a .inbox) (a .good)))
       ∙ walk-append (r .read) (bytesInInbox s) ru ∙ ap (λ (x : Walked). thenWalk x ru) (l .inbox) ∙ k .walked) refl same)
       (λ p a e k m.

@@ -2,16 +2,14 @@
 -- Assumes nothing.
 use Rattle.joined.proofs.JoinedWords.{ℕ, _+_, Bool, false, cond, List, [], _∷_, _++_, _≡_, refl, sym, ap, _∙_, arith, length}
 use Rattle.joined.proofs.JoinedWords.{Station, Reply, Verb, Lane, normal, expedited, acts, takes, sameLane, openedBoth}
-use Rattle.joined.proofs.JoinedWords.{Log, Lines, Took, count, request-cases, expedited-cases, subst, allocate-cases, confirmed-cases}
-use Rattle.joined.proofs.JoinedWords.{send-error-cases, pacing-response-cases, withdraw-cases, send-cases, close-cases, defer-cases}
-use Rattle.joined.proofs.JoinedWords.{read-cases, take-cases, bytesRead}
-use Rattle.end.specs.Receive.{markRead}
+use Rattle.joined.proofs.JoinedWords.{Log, Lines, Took, count, among, expedited-cases, subst}
 use Rattle.header.specs.ExpeditedHeader.{isSignal}
 use Rattle.expedited.specs.Takes.{headerTaken}
 use Rattle.header.specs.declared.ExpeditedHeader.{ExpeditedHeader}
 use Rattle.header.specs.declared.ExpeditedHeader.the-variants.{Signal, SignalResponse}
-use Rattle.calls.specs.Calls.{Called, called, taken}
+use Rattle.calls.specs.Calls.{called}
 use Rattle.calls.specs.UnitCounts.{isSignalUnit}
+use Rattle.calls.proofs.ExpeditedLaws.{silent, silent-take}
 use Rattle.joined.specs.Signals.{signalsAmong, signalsMade, signalsTold, Signals, TheSignals}
 use Rattle.joined.specs.Claim.{JoinedEnd}
 use Rattle.joined.proofs.CallsOnLanes.{LanedTake}
@@ -22,7 +20,7 @@ use Rattle.joined.proofs.HalvesKept.{HalvesOf, halves-acts, halves-take
 -- ---- a count
 
 signals-append : (us vs : List (List ℕ)) → signalsAmong (us ++ vs) ≡ signalsAmong us + signalsAmong vs
-unfolding signalsAmong
+unfolding among
 signals-append [] vs = omega arith
 signals-append (u ∷ us) vs = let e = signals-append us vs in omega (arith, e)
 
@@ -37,28 +35,7 @@ Held e xs line back f ys = Told xs ys (line expedited) × HalvesOf e f (line exp
 joins : (xs ys : Log) (line new : List (List ℕ)) → Told xs ys line → signalsAmong new + signalsMade xs ≡ signalsTold ys + signalsAmong (line ++ new)
 joins xs ys line new t = rw (signals-append line new) (omega (arith, t))
 
--- ---- a call tells nobody
-
-module _ (e : Station) where
-  abbrev Silent : Called → Type 0
-  Silent m = m .answer .signalled ≡ false
-
-  silent : (v : Verb) → Silent (called e v)
-  unfolding called bytesRead markRead
-  silent Verb.allocate = allocate-cases Silent e (λ q n. refl) (λ g a w. refl) (λ g a w k. refl)
-  silent Verb.confirmed = confirmed-cases Silent e (λ q n. refl) (λ g a. refl)
-  silent Verb.sendError = send-error-cases Silent e (λ q n. refl) (λ g a. refl)
-  silent Verb.sendPacingResponse = pacing-response-cases Silent e (λ q n. refl) (λ g a. refl)
-  silent Verb.requestToSend = request-cases Silent e (λ q n. refl) (λ a. refl)
-  silent Verb.withdraw = withdraw-cases Silent e (λ q n. refl) (λ g a. refl)
-  silent (Verb.sendData bytes) = send-cases Silent e bytes (λ q n. refl) (λ a k. refl) (λ a k h. refl)
-  silent (Verb.close f b) = close-cases Silent e f b (λ q n. refl) (λ a n. refl) (λ a n k. refl) (λ a n k. refl)
-  silent (Verb.defer d) = defer-cases Silent e d (λ q n. refl) (λ a. refl)
-  silent (Verb.receive buffer) = read-cases Silent e buffer (λ q w n. refl) (λ a h. refl) (λ a h m. refl)
-
-  silent-take : (u : List ℕ) → Silent (taken e u)
-  silent-take u =
-      take-cases Silent e u (λ q w n. refl) (λ d a x k. refl) (λ p a x k m. refl) (λ p a x k m. refl) (λ c a x m. refl) (λ a x k. refl)
+-- ---- a call tells nobody, and no take on the normal lane
 
 -- an answer that tells nobody is not counted
 untold : (b : Bool) (made told line : ℕ) → b ≡ false → made ≡ told + line → made ≡ count b + told + line
@@ -83,7 +60,7 @@ silent-took e u = silent-take e u
 
 -- ---- a take on the expedited lane: the program is told exactly of a signal that goes from the line
 
-module _ (e : Station) (xs ys : Log) (line : List (List ℕ)) (u : List ℕ) (us : List (List ℕ)) (w : Written u) where
+module _ (e : Station) (xs ys : Log) (u : List ℕ) (us : List (List ℕ)) (w : Written u) where
   abbrev Counted : Took Lane Station Reply (List ℕ) → Type 0
   Counted t =
       signalsMade ys ≡ signalsTold xs + signalsAmong (u ∷ us)
@@ -95,7 +72,7 @@ module _ (e : Station) (xs ys : Log) (line : List (List ℕ)) (u : List ℕ) (us
       ∙ ap isSignal (sym (header-written (w .number) (w .header)) ∙ ap headerTaken (sym (w .is)) ∙ k)
 
   counted : Counted (takes expedited e u)
-  unfolding takes signalsAmong
+  unfolding takes among
   counted =
       expedited-cases (LanedTake Counted) e u (λ q z n t. rw n (omega (arith, t)))
       (λ a k t. let s = rw (is-signal Signal k) at t in omega (arith, s))
@@ -120,7 +97,7 @@ take-kept e xs line back f ys expedited u us p i j =
     let h = halves-takes-expedited e f (line expedited) u us b in (
       (joins xs ys (line expedited) (m .sent expedited) (i .0), h),
       (
-        counted e xs ys (line expedited) u us (b .back-written .0) (subst (λ (vs : List (List ℕ)). Told ys xs vs) p (j .0)),
+        counted e xs ys u us (b .back-written .0) (subst (λ (vs : List (List ℕ)). Told ys xs vs) p (j .0)),
         halves-flip h,
       ),
     )
@@ -141,7 +118,7 @@ signals-of x y i =
     }
 
 pub the-signals : TheSignals
-unfolding signalsMade signalsTold signalsAmong
+unfolding signalsMade signalsTold among
 the-signals s t b c l x y =
     let w =
     run-ways sameLane acts takes Held Held keeps keeps (openedBoth s t b c) l (

@@ -5,20 +5,18 @@ use mathlib.Core.Path.{_≡_}
 use mathlib.Core.List.{List, [], _∷_}
 use Rattle.session.specs.declared.Session.{Session}
 use Rattle.calls.specs.Calls.{Verb}
-use Rattle.calls.specs.UnitCounts.{count, isSignalUnit, isResponseUnit}
+use Rattle.calls.specs.UnitCounts.{count, among, isSignalUnit, isResponseUnit}
 use Rattle.joined.specs.Joined.{At, acted, took}
 use Rattle.joined.specs.Ends.{Lane, expedited, Buffers, OpeningAccepted}
 use Rattle.joined.specs.Histories.{Log}
 use Rattle.joined.specs.Claim.{JoinedEnd, Pair, after}
 
 -- among units of the expedited lane, the signals, and the responses to them
-unfoldable pub signalsAmong : List (List ℕ) → ℕ
-signalsAmong [] = 0
-signalsAmong (u ∷ us) = count (isSignalUnit u) + signalsAmong us
+abbrev pub signalsAmong : List (List ℕ) → ℕ
+signalsAmong us = among isSignalUnit us
 
-unfoldable pub responsesAmong : List (List ℕ) → ℕ
-responsesAmong [] = 0
-responsesAmong (u ∷ us) = count (isResponseUnit u) + responsesAmong us
+abbrev pub responsesAmong : List (List ℕ) → ℕ
+responsesAmong us = among isResponseUnit us
 
 -- the signals made at an end
 unfoldable pub signalsMade : Log → ℕ

@@ -16,8 +16,8 @@ use Rattle.session.specs.declared.Session.{Session}
 use Rattle.end.specs.declared.End.{End}
 use Rattle.end.specs.declared.Done.{Done}
 
--- Reset, stay, no mark, chains closed, record places between records with no other part to follow, counts and numbers 0, credit and open equal to their W, flags off; no
--- signal unanswered
+-- Reset, stay, no mark, chains closed, record places between records with no other part to follow, counts and numbers 0, credit and
+-- open equal to their W, flags off; no signal unanswered
 abbrev pub freshEnd : Role → ℕ → ℕ → ℕ → ℕ → ℕ → End
 freshEnd role outwindow outmax inwindow inmax inbox =
     record {

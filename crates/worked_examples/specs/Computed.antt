@@ -33,12 +33,12 @@ use Rattle.end.specs.ReceiveUnit.{receiveUnitRefusal, dataJoined, errorMarked, 
 use Rattle.end.specs.Receive.{receiveRefusal, copyCount, bytesRead, markRead, receiveDecision, inboxMoved, receive}
 use Rattle.end.specs.SendPacingResponse.{sendPacingResponseRefusal, sendPacingResponseDecision, sendPacingResponse}
 use Rattle.calls.specs.Calls.{called, taken, takenExpedited}
-use Rattle.calls.specs.UnitCounts.{requestsAmong}
+use Rattle.calls.specs.UnitCounts.{among}
 use Rattle.joined.specs.Ends.{acts, takes}
 use Rattle.joined.specs.Histories as H
 use Rattle.joined.specs.Denials.{unitsMade, unitsTaken, announced, AsAnnounced}
-use Rattle.joined.specs.Signals.{signalsAmong, responsesAmong, signalsMade, signalsTold}
+use Rattle.joined.specs.Signals.{signalsMade, signalsTold}
 
 unfoldable pub computed : Unit {0}
-unfolding front written sameBytes thenWalk groupsFrom keeps lowestBroken headerGood headerBytes fieldsOf ruGood unitBytes unitOf credit advanced answered controlGood allocated spilled closed deferred withdrawn confirmationMade markAnswered dataReceived bidReceived positiveResponseReceived negativeResponseReceived confirmationReceived confirmationDenied errorMade errorReceived negativeConfirmationReceived sendingGood requestMade receivingGood requestReceived openingRefusal opened recordGood dataHeader allocateRefusal bidMade allocateDecision allocate sendRefusal bytesKept bytesSpilled sendDecision sendCells sendData closeRefusal lastMade closeDecision close deferRefusal deferDecision defer withdrawRefusal withdrawDecision withdraw confirmedRefusal confirmedDecision confirmed sendErrorDecision sendError receiveUnitRefusal dataJoined errorMarked bidAnswered creditRaised receiveUnitDecision inboxCells receiveUnit receiveRefusal copyCount bytesRead markRead receiveDecision inboxMoved receive sendPacingResponseRefusal sendPacingResponseDecision sendPacingResponse called taken acts takes H.bytesAccepted H.bytesRead H.bytesOnLine H.pacingResponsesTaken H.requestsMade requestsAmong unitsMade unitsTaken announced AsAnnounced expeditedGood brokenExpedited expeditedBytes expeditedFields expeditedOf requestRefusal requestDecision requestToSend receiveExpeditedRefusal receiveExpeditedDecision receiveExpedited takenExpedited signalsAmong responsesAmong signalsMade signalsTold
+unfolding front written sameBytes thenWalk groupsFrom keeps lowestBroken headerGood headerBytes fieldsOf ruGood unitBytes unitOf credit advanced answered controlGood allocated spilled closed deferred withdrawn confirmationMade markAnswered dataReceived bidReceived positiveResponseReceived negativeResponseReceived confirmationReceived confirmationDenied errorMade errorReceived negativeConfirmationReceived sendingGood requestMade receivingGood requestReceived openingRefusal opened recordGood dataHeader allocateRefusal bidMade allocateDecision allocate sendRefusal bytesKept bytesSpilled sendDecision sendCells sendData closeRefusal lastMade closeDecision close deferRefusal deferDecision defer withdrawRefusal withdrawDecision withdraw confirmedRefusal confirmedDecision confirmed sendErrorDecision sendError receiveUnitRefusal dataJoined errorMarked bidAnswered creditRaised receiveUnitDecision inboxCells receiveUnit receiveRefusal copyCount bytesRead markRead receiveDecision inboxMoved receive sendPacingResponseRefusal sendPacingResponseDecision sendPacingResponse called taken acts takes H.bytesAccepted H.bytesRead H.bytesOnLine H.pacingResponsesTaken H.requestsMade unitsMade unitsTaken announced AsAnnounced expeditedGood brokenExpedited expeditedBytes expeditedFields expeditedOf requestRefusal requestDecision requestToSend receiveExpeditedRefusal receiveExpeditedDecision receiveExpedited takenExpedited among signalsMade signalsTold
 computed = tt

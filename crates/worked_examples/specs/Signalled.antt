@@ -84,7 +84,8 @@ pub record Requests : Type 0 where
   -- the number after 65,535 is 0
   pub wraps : signals (keeping false 65535 0 receiving) Verb.requestToSend ≡ signal 0 ∷ []
 
--- ---- "The take of a signal makes its answer, under the signal's number; the take of the answer clears the flag. The answer of the take tells the far program"
+-- ---- "The take of a signal makes its answer, under the signal's number; the take of the answer clears the flag. The answer of the take
+-- tells the far program"
 
 pub record Answers : Type 0 where
   pub made : takingExpedited sending (signal 1) .sent expedited ≡ response 1 ∷ []

@@ -1,7 +1,7 @@
 -- `header::expedited::read_expedited` meets its contract. It is `readExpeditedBits`, and that is the rules' answer.
 -- Assumes nothing.
 use mathlib.Core.Path.{_≡_, sym, ap, _∙_}
-use mathlib.Core.Bool.{Bool, true, false}
+use mathlib.Core.Bool.{Bool, true, false, cond}
 use Prim.Native.Nat.{_<_}
 use borrow.Author.Needs.{needs}
 use borrow.Author.Tests.{not-true, not-false}
@@ -39,13 +39,9 @@ module _ (h : HeaderBytes) (b0 : Byte0) (k1 : Bool) (e0 : b0 ≡ byte0 (h .b0)) 
     unfolding readExpeditedBits
     breaks-h2 n = rw (h1-says true y, h2-says false n)
 
-    responds : k2 ≡ true → b0 .response ≡ true → Good SignalResponse ≡ readExpeditedBits h
+    kept-both : (response : Bool) → k2 ≡ true → b0 .response ≡ response → cond response (Good SignalResponse) (Good Signal) ≡ readExpeditedBits h
     unfolding readExpeditedBits
-    responds k r = rw (h1-says true y, h2-says true k, ap (λ (x : Byte0). x .response) (sym e0) ∙ r)
-
-    signals : k2 ≡ true → b0 .response ≡ false → Good Signal ≡ readExpeditedBits h
-    unfolding readExpeditedBits
-    signals k r = rw (h1-says true y, h2-says true k, ap (λ (x : Byte0). x .response) (sym e0) ∙ r)
+    kept-both response k r = rw (h1-says true y, h2-says true k, ap (λ (x : Byte0). x .response) (sym e0) ∙ r)
 
 returns : tie.Need-returns
 returns c =
@@ -71,8 +67,8 @@ returns-3 c =
     let k2 = c .before .before .keeps-h2 in
     let kept = not-false (k1 .result) (c .before .before .before .before .before .if1 .left) in
     answered h (Good SignalResponse) (search needs) (search needs) (search needs)
-    (responds h _ (k1 .result) (c .before .before .before .before .before .before .before .byte-0 .ensures) (k1 .ensures) _ _ (k2 .result)
-    (c .before .before .before .before .byte-1 .ensures) (c .before .before .before .byte-2 .ensures) (k2 .ensures) kept (not-false (k2 .result) (c .before .if2 .left)) (c .if3 .taken))
+    (kept-both h _ (k1 .result) (c .before .before .before .before .before .before .before .byte-0 .ensures) (k1 .ensures) _ _ (k2 .result)
+    (c .before .before .before .before .byte-1 .ensures) (c .before .before .before .byte-2 .ensures) (k2 .ensures) kept true (not-false (k2 .result) (c .before .if2 .left)) (c .if3 .taken))
 
 returns-4 : tie.Need-returns-4
 returns-4 c =
@@ -81,8 +77,8 @@ returns-4 c =
     let k2 = c .before .before .keeps-h2 in
     let kept = not-false (k1 .result) (c .before .before .before .before .before .if1 .left) in
     answered h (Good Signal) (search needs) (search needs) (search needs)
-    (signals h _ (k1 .result) (c .before .before .before .before .before .before .before .byte-0 .ensures) (k1 .ensures) _ _ (k2 .result)
-    (c .before .before .before .before .byte-1 .ensures) (c .before .before .before .byte-2 .ensures) (k2 .ensures) kept (not-false (k2 .result) (c .before .if2 .left)) (c .if3 .left))
+    (kept-both h _ (k1 .result) (c .before .before .before .before .before .before .before .byte-0 .ensures) (k1 .ensures) _ _ (k2 .result)
+    (c .before .before .before .before .byte-1 .ensures) (c .before .before .before .byte-2 .ensures) (k2 .ensures) kept false (not-false (k2 .result) (c .before .if2 .left)) (c .if3 .left))
 
 pub read-expedited-spec : {M : Type 1} → statement M
 read-expedited-spec =
