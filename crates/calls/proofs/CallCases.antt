@@ -74,7 +74,7 @@ refusedAct s q = record { end = s; answer = plain (refused q); sent = []; expedi
 bytes-out : (u cells : List ℕ) (k : ℕ) → length u ≡ RU-START + k → unitsOf (RU-START + k) (front u cells) ≡ u ∷ []
 bytes-out u cells k l =
     let t : take (RU-START + k) (front u cells) ≡ u = ap (λ (n : ℕ). take n (front u cells)) (sym l) ∙ front-bytes u cells in
-    rw (ne-eqb (RU-START + k) 0 (λ z. omega arith), t)
+    rw (ne-eqb (RU-START + k) 0 (λ z. omega arith)) (ap (λ (x : List ℕ). x ∷ []) t)
 
 pub unit-out : (n : ℕ) (h : Header) (ru cells : List ℕ) → unitsOf (RU-START + length ru) (front (unitOf n h ru) cells) ≡ unitOf n h ru ∷ []
 unit-out n h ru cells = bytes-out (unitOf n h ru) cells (length ru) (unit-length n h ru)
