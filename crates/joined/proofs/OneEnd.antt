@@ -2,7 +2,7 @@
 -- Assumes nothing.
 use Rattle.joined.proofs.JoinedWords.{ℕ, _+_, _*_, _≤_, _<_, eqb, take, Bool, true, false, _&&_, List, [], _∷_, _++_, append-nil, _≡_, refl, sym, ap}
 use Rattle.joined.proofs.JoinedWords.{_∙_, arith, isWhole, ended, thenWalk, walk, Position, Walked, walk-append, walk-prefix, Through, same-position}
-use Rattle.joined.proofs.JoinedWords.{credit, maySend, WhatReceived, readRefused, accepted, Station, Reply, Verb, count, isPacingResponse}
+use Rattle.joined.proofs.JoinedWords.{credit, maySend, WhatReceived, readRefused, Station, Reply, Verb, count, isPacingResponse}
 use Rattle.joined.proofs.JoinedWords.{among, requestsAmong, Lane, normal, onNormal, Log, bytesAccepted, bytesInInbox, requestsMade, pacingResponsesTaken}
 use Rattle.joined.proofs.JoinedWords.{breaches, badReads, CompleteIsRight, MoreIsRight, NoneCrosses, isBreach, took, acted, Lines}
 use native.Mathlib.Nat.{zero-add}
