@@ -49,15 +49,29 @@ void session_refused(struct session *session, const char *what, const struct lu6
                  lu62_refusal_text(answer->refusal), answer->sense, rule);
 }
 
-/* One of the two programs: its name, its partner's, and what it opens the session with. */
+/* One of the two programs: its name, its partner's, the length of its inbox, and how it opens the session. */
 struct program {
     const char *name, *partner;
-    struct lu62_session terms;
+    size_t inbox_length;
+    uint32_t (*open)(struct lu62_end *end);
 };
+
+/* The laboratory's network people hold only the session's bytes. */
+static uint32_t open_by_bytes(struct lu62_end *end)
+{
+    static const struct lu62_session_bytes bytes = {LU62_FIRST_SPEAKER, LABORATORY_WINDOW, BLENDER_WINDOW, LABORATORY_SIZE_BYTE,
+                                                    BLENDER_SIZE_BYTE};
+    return lu62_end_open_bind(end, &bytes);
+}
+
+static uint32_t open_by_numbers(struct lu62_end *end)
+{
+    static const struct lu62_session numbers = {LU62_BIDDER, BLENDER_WINDOW, LABORATORY_WINDOW, BLENDER_MAXIMUM, LABORATORY_MAXIMUM};
+    return lu62_end_open(end, &numbers);
+}
 
 static bool open_session(struct session *session, int socket, const struct options *options, const struct program *program)
 {
-    size_t inbox_length = LU62_INBOX((size_t)program->terms.in_window, program->terms.in_max);
     memset(session, 0, sizeof *session);
     session->name = program->name;
     session->partner = program->partner;
@@ -65,25 +79,24 @@ static bool open_session(struct session *session, int socket, const struct optio
     session->pause_ms = options->pause_ms;
     session->moved_at = clock_ms();
     lu62_end_lend(&session->end, session->send, sizeof session->send, session->unit, sizeof session->unit, session->inbox,
-                  inbox_length);
+                  program->inbox_length);
     if (!line_open(&session->line, socket))
         session_fail(session, "the line cannot be used");
-    else if (lu62_end_open(&session->end, &program->terms) != LU62_ACCEPTED)
+    else if (program->open(&session->end) != LU62_ACCEPTED)
         session_refused(session, "the session cannot be opened", &session->end.answer);
     return !session->failed;
 }
 
 bool session_open_laboratory(struct session *session, int socket, const struct options *options)
 {
-    static const struct program laboratory = {
-        "laboratory", "blender", {LU62_FIRST_SPEAKER, LABORATORY_WINDOW, BLENDER_WINDOW, LABORATORY_MAXIMUM, BLENDER_MAXIMUM}};
+    static const struct program laboratory = {"laboratory", "blender", LU62_INBOX(BLENDER_WINDOW, BLENDER_MAXIMUM), open_by_bytes};
     return open_session(session, socket, options, &laboratory);
 }
 
 bool session_open_blender(struct session *session, int socket, const struct options *options)
 {
-    static const struct program blender = {
-        "blender", "laboratory", {LU62_BIDDER, BLENDER_WINDOW, LABORATORY_WINDOW, BLENDER_MAXIMUM, LABORATORY_MAXIMUM}};
+    static const struct program blender = {"blender", "laboratory", LU62_INBOX(LABORATORY_WINDOW, LABORATORY_MAXIMUM),
+                                           open_by_numbers};
     return open_session(session, socket, options, &blender);
 }
 

@@ -8,12 +8,14 @@
 #include "text.h"
 
 enum {
-    /* What the laboratory sends: little units, so that most records are cut. */
+    /* What the laboratory sends: little units, so that most records are cut. The byte says 12 times 2 to the power of 2. */
     LABORATORY_WINDOW = 3,
     LABORATORY_MAXIMUM = 48,
-    /* What the blender sends. */
+    LABORATORY_SIZE_BYTE = 0xC2,
+    /* What the blender sends. The byte says 8 times 2 to the power of 1. */
     BLENDER_WINDOW = 2,
     BLENDER_MAXIMUM = 16,
+    BLENDER_SIZE_BYTE = 0x81,
     LARGEST_MAXIMUM = 48,
     SMALLEST_MAXIMUM = 16,
     LARGEST_INBOX = LU62_INBOX(3, 48)

@@ -23,10 +23,10 @@
  * the buffers lie apart.
  *
  * A call returns its refusal number, LU62_ACCEPTED or one of the numbers below, and writes the whole answer to `answer`.
- * A refused call changes nothing but `answer`; lu62_open alone writes an image when it refuses, if the image is LU62_IMAGE bytes
- * long: LU62_FORMAT and zeros, which every call refuses. If several refusals fit, the answer is the first in the order in which
- * they are listed at the call. Every call but lu62_open also refuses, before all else, an image of a wrong length
- * (LU62_BAD_BUFFER), then one of another format or with a code or flag that no record has (LU62_BAD_RECORD).
+ * A refused call changes nothing but `answer`; the two openings, lu62_open and lu62_open_bind, alone write an image when they refuse,
+ * if it is LU62_IMAGE bytes long: LU62_FORMAT and zeros, which every call refuses. If several refusals fit, the answer is the first in
+ * the order in which they are listed at the call. Every call on an image but the openings also refuses, before all else, one of a wrong
+ * length (LU62_BAD_BUFFER), then one of another format or with a code or flag that no record has (LU62_BAD_RECORD).
  *
  * If `answer->unit` is not 0, a unit of that many bytes stands at the front of the unit buffer. The host must carry it to the
  * partner, on one of two lines:
@@ -53,8 +53,8 @@ extern "C" {
  * its length is another too, else with BAD_RECORD. Version 0.4.0 has two states more and the format of 0.3.0: it takes up the images
  * of 0.3.0, which refuses an image in one of the new states with BAD_RECORD. Version 0.5.0 has format 4, whose images are a
  * byte longer, and version 0.6.0 format 5, whose images are five bytes longer again: each refuses an image of an older library with
- * BAD_BUFFER, by its length, and so the other way round. */
-#define LU62_VERSION "0.6.0"
+ * BAD_BUFFER, by its length, and so the other way round. Version 0.7.0 has the format of 0.6.0. */
+#define LU62_VERSION "0.7.0"
 #define LU62_FORMAT 5
 
 /* Sizes, in bytes. W is a window, 1 to 63; M is a maximum RU, 8 to 1,024. */
@@ -114,6 +114,9 @@ extern "C" {
 /* Refusal of lu62_request_to_send; no breach. */
 #define LU62_SIGNAL_UNANSWERED 30 /* the partner has not answered the signal that this end made last */
 
+/* Refusal of lu62_size_byte; no breach. */
+#define LU62_NO_SIZE_BYTE 31      /* the maximum RU is in range, and no size byte means it */
+
 /* The rules of a header, the three bytes behind the number. Bytes are in hexadecimal; data has a byte 0 of 00 to 03. Of a normal unit:
  *   H1  byte 0 is 00, 01 (last in chain), 02 (first), 03 (first and last), 0B, 4B, 83, 87, CB or CF
  *   H2  not data: the header is 0B 90 00, 0B 91 00, 4B 80 80, 4B 81 80, 83 01 00, 83 20 00, 87 30 00, CB 80 00 or CF 90 00
@@ -165,6 +168,20 @@ uint32_t lu62_open(uint8_t role, uint8_t out_window, uint8_t in_window, uint32_t
                    size_t send_length, size_t unit_length, size_t inbox_length,
                    uint8_t *image, size_t image_length, struct lu62_answer *answer);
 
+/* Opens a session as lu62_open does, by the bytes with which it starts, as they stand in BIND: a window byte and a size byte for each
+ * direction. W is the low six bits of a window byte; its two high bits are ignored. A size byte has a mantissa a, its high four bits, 8 to
+ * 15, and an exponent b, its low four, and means an M of a times 2 to the power of b: 0x85 is 256 and 0x87 is 1,024. Opened either way
+ * with equal numbers it is the same end, and the image has the same bytes.
+ * In BIND a window of 0 asks for no pacing; here it is refused, as is a size byte whose mantissa is below 8.
+ * Refusals: BAD_BUFFER for the image (which is then left as it was), BAD_ROLE, BAD_WINDOW, BAD_MAXIMUM, BAD_BUFFER. */
+uint32_t lu62_open_bind(uint8_t role, uint8_t out_window, uint8_t in_window, uint8_t out_size, uint8_t in_size,
+                        size_t send_length, size_t unit_length, size_t inbox_length,
+                        uint8_t *image, size_t image_length, struct lu62_answer *answer);
+
+/* The size byte of a maximum RU, to `*byte`. Of the maxima from 8 to 1,024 only 57 have one. Refused, `*byte` is 0, which means no size.
+ * It needs no end. Refusals: BAD_MAXIMUM, NO_SIZE_BYTE. */
+uint32_t lu62_size_byte(uint32_t max, uint8_t *byte);
+
 /* Begins a conversation. A first speaker is in LU62_SEND at once and no unit is made. A bidder makes a bid and must wait: the
  * partner's answer puts it in LU62_SEND, or leaves it where it is, and then it may ask again.
  * Lent: unit. Refusals: BAD_BUFFER, BAD_RECORD, WRONG_STATE, NO_CREDIT (bidder only). */
@@ -212,7 +229,7 @@ uint32_t lu62_deallocate(uint8_t *image, size_t image_length, uint8_t confirm, c
  * whole. It is only noted: no unit is made, and the bytes kept stay kept. This end is then in Defer, LU62_DEFER_TURN or
  * LU62_DEFER_END, until lu62_flush or lu62_confirm carries the turn or end out, or lu62_withdraw drops it. Refused with NO_CREDIT,
  * flush and confirm leave this end in Defer: take a pacing response and make the call again. Units of both lines are taken, bytes read
- * and pacing responses made in Defer as in LU62_SEND; of the other calls none but lu62_open is accepted there (WRONG_STATE).
+ * and pacing responses made in Defer as in LU62_SEND; of the other calls none but the openings is accepted there (WRONG_STATE).
  * Lent: nothing. Refusals: BAD_RECORD, WRONG_STATE, UNFINISHED_RECORD. */
 uint32_t lu62_defer_turn(uint8_t *image, size_t image_length, struct lu62_answer *answer);
 uint32_t lu62_defer_end(uint8_t *image, size_t image_length, struct lu62_answer *answer);
@@ -337,6 +354,7 @@ static inline const char *lu62_refusal_text(uint32_t refusal)
     case LU62_BAD_RESPONSE: return "a response to nothing asked";
     case LU62_BAD_RECORDS: return "a bad record length, or a mark behind a record not whole or with another part to follow";
     case LU62_SIGNAL_UNANSWERED: return "a signal has not been answered";
+    case LU62_NO_SIZE_BYTE: return "no size byte means this maximum RU";
     default: return "no refusal has this number";
     }
 }

@@ -32,6 +32,13 @@ struct lu62_session {
     uint32_t out_max, in_max;
 };
 
+/* The same by the bytes of BIND, for lu62_open_bind: windows and sizes of both directions. */
+struct lu62_session_bytes {
+    uint8_t role;
+    uint8_t out_window, in_window;
+    uint8_t out_size, in_size;
+};
+
 struct lu62_end {
     uint8_t image[LU62_IMAGE];
     uint8_t *send;
@@ -86,6 +93,13 @@ static inline uint32_t lu62_end_open(struct lu62_end *end, const struct lu62_ses
     LU62_ASSERT(lu62_end_sound(end));
     return lu62_open(session->role, session->out_window, session->in_window, session->out_max, session->in_max, end->send_length,
                      end->unit_length, end->inbox_length, end->image, sizeof end->image, &end->answer);
+}
+
+static inline uint32_t lu62_end_open_bind(struct lu62_end *end, const struct lu62_session_bytes *bytes)
+{
+    LU62_ASSERT(lu62_end_sound(end));
+    return lu62_open_bind(bytes->role, bytes->out_window, bytes->in_window, bytes->out_size, bytes->in_size, end->send_length,
+                          end->unit_length, end->inbox_length, end->image, sizeof end->image, &end->answer);
 }
 
 static inline uint32_t lu62_end_allocate(struct lu62_end *end)

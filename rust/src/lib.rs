@@ -1,6 +1,6 @@
 //! One end of a basic conversation of LU type 6.2: a safe face of the library liblu62.a.
 //!
-//! An [`End`] is opened with its role, windows and maximum RUs. Each call is lent the buffers that it uses, and either is
+//! An [`End`] is opened with its role, windows and maximum RUs, or with the bytes that say these in BIND. Each call is lent the buffers that it uses, and either is
 //! accepted, or gives a [`Refusal`] and changes nothing. [`Answer::unit`] is the length of the unit that now stands at the front
 //! of the unit buffer; the caller carries it to the partner's [`End::receive_unit`], in the order in which units are made.
 //!
@@ -82,6 +82,15 @@ pub enum Role {
     Bidder,
 }
 
+impl Role {
+    fn number(self) -> u8 {
+        match self {
+            Role::FirstSpeaker => 0,
+            Role::Bidder => 1,
+        }
+    }
+}
+
 /// What a session is opened with. The partner has the other role, and windows and maximum RUs exchanged.
 #[derive(Clone, Copy, Debug, PartialEq, Eq)]
 pub struct Session {
@@ -95,6 +104,38 @@ pub struct Session {
     pub out_max: u32,
     /// Maximum RU of what this end receives, 8 to 1,024.
     pub in_max: u32,
+}
+
+/// The bytes with which a session starts, as they stand in BIND. The partner has the other role, and windows and sizes exchanged.
+///
+/// A window is the low six bits of its byte; the two high bits are ignored. A size byte has a mantissa, its high four bits, 8 to 15, and an
+/// exponent, its low four, and means a maximum RU of the mantissa times 2 to the power of the exponent: 0x85 is 256, 0x87 is 1,024.
+#[derive(Clone, Copy, Debug, PartialEq, Eq)]
+pub struct SessionBytes {
+    /// This end's role.
+    pub role: Role,
+    /// Window byte of what this end sends.
+    pub out_window: u8,
+    /// Window byte of what this end receives.
+    pub in_window: u8,
+    /// Size byte of what this end sends.
+    pub out_size: u8,
+    /// Size byte of what this end receives.
+    pub in_size: u8,
+}
+
+/// The size byte of a maximum RU (document 02). Of the maxima from 8 to 1,024 only 57 have one; the others are refused with
+/// [`Reason::NoSizeByte`], and what is out of range with [`Reason::BadMaximum`].
+///
+/// ```
+/// use lu62::{size_byte, Reason};
+///
+/// assert_eq!(size_byte(256), Ok(0x85));
+/// assert_eq!(size_byte(1_023).map_err(|refusal| refusal.reason), Err(Reason::NoSizeByte));
+/// ```
+pub fn size_byte(max: u32) -> Result<u8, Refusal> {
+    let (refusal, byte) = raw::size_byte(max);
+    outcome(raw::Answer { refusal, ..raw::Answer::default() }).map(|_| byte)
 }
 
 /// The state of an end.
@@ -224,17 +265,30 @@ pub struct End {
 impl End {
     /// Opens a session, for calls that will be lent these buffers. Only their lengths matter here.
     pub fn open(session: Session, send: &[u8], unit: &[u8], inbox: &[u8]) -> Result<End, Refusal> {
-        let role = match session.role {
-            Role::FirstSpeaker => 0,
-            Role::Bidder => 1,
-        };
         let mut end = End { image: [0; IMAGE] };
         let raw = raw::open(
-            role,
+            session.role.number(),
             session.out_window,
             session.in_window,
             session.out_max,
             session.in_max,
+            send.len(),
+            unit.len(),
+            inbox.len(),
+            &mut end.image,
+        );
+        outcome(raw).map(|_| end)
+    }
+
+    /// Opens a session by its bytes (document 02). Opened either way with equal numbers it is the same end.
+    pub fn open_bind(bytes: SessionBytes, send: &[u8], unit: &[u8], inbox: &[u8]) -> Result<End, Refusal> {
+        let mut end = End { image: [0; IMAGE] };
+        let raw = raw::open_bind(
+            bytes.role.number(),
+            bytes.out_window,
+            bytes.in_window,
+            bytes.out_size,
+            bytes.in_size,
             send.len(),
             unit.len(),
             inbox.len(),

@@ -46,6 +46,22 @@ extern "C" {
         answer: *mut Answer,
     ) -> u32;
 
+    pub fn lu62_open_bind(
+        role: u8,
+        out_window: u8,
+        in_window: u8,
+        out_size: u8,
+        in_size: u8,
+        send_length: usize,
+        unit_length: usize,
+        inbox_length: usize,
+        image: *mut u8,
+        image_length: usize,
+        answer: *mut Answer,
+    ) -> u32;
+
+    pub fn lu62_size_byte(max: u32, byte: *mut u8) -> u32;
+
     pub fn lu62_allocate(image: *mut u8, image_length: usize, unit: *mut u8, unit_length: usize, answer: *mut Answer) -> u32;
 
     pub fn lu62_send_data(
@@ -192,6 +208,47 @@ pub fn open(
         );
     }
     answer
+}
+
+/// Opens a session by its bytes: writes its record to the image.
+#[allow(clippy::too_many_arguments)]
+pub fn open_bind(
+    role: u8,
+    out_window: u8,
+    in_window: u8,
+    out_size: u8,
+    in_size: u8,
+    send_length: usize,
+    unit_length: usize,
+    inbox_length: usize,
+    image: &mut [u8],
+) -> Answer {
+    let mut answer = Answer::default();
+    // SAFETY: the image is borrowed mutably and as long as said; the answer is a local of the library's layout.
+    unsafe {
+        lu62_open_bind(
+            role,
+            out_window,
+            in_window,
+            out_size,
+            in_size,
+            send_length,
+            unit_length,
+            inbox_length,
+            image.as_mut_ptr(),
+            image.len(),
+            &mut answer,
+        );
+    }
+    answer
+}
+
+/// The refusal number of a maximum RU, 0 if it has a size byte; and that byte.
+pub fn size_byte(max: u32) -> (u32, u8) {
+    let mut byte = 0;
+    // SAFETY: the byte is a local, and the library writes nothing else.
+    let refusal = unsafe { lu62_size_byte(max, &mut byte) };
+    (refusal, byte)
 }
 
 fn by_image(call: ByImage, image: &mut [u8]) -> Answer {

@@ -82,6 +82,8 @@ reasons! {
     BadRecords = 29, "a bad record length, or a mark behind a record not whole or with another part to follow";
     /// The partner has not answered the signal that this end made last.
     SignalUnanswered = 30, "a signal has not been answered";
+    /// The maximum RU is in range, and no size byte means it.
+    NoSizeByte = 31, "no size byte means this maximum RU";
 }
 
 impl Reason {

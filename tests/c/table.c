@@ -1146,6 +1146,60 @@ static void refused_openings(void)
     }
 }
 
+/* Document 02's examples of the bytes of a session: opened by them, the image is that of the numbers. */
+static void openings_by_bytes(void)
+{
+    static const struct {
+        struct lu62_session_bytes bytes;
+        struct lu62_session numbers;
+        uint32_t refusal;
+    } cases[] = {
+        {{0, 0xC7, 0x03, 0x85, 0x80}, {0, 7, 3, 256, 8}, LU62_ACCEPTED},
+        {{1, 0x01, 0xFF, 0x87, 0xF6}, {1, 1, 63, 1024, 960}, LU62_ACCEPTED},
+        {{2, 0x40, 0x00, 0x75, 0x97}, {2, 0, 0, 0, 1152}, LU62_BAD_ROLE},
+        {{0, 0x40, 0x03, 0x75, 0x97}, {0, 0, 3, 0, 1152}, LU62_BAD_WINDOW},
+        {{0, 0x03, 0x80, 0x85, 0x85}, {0, 3, 0, 256, 256}, LU62_BAD_WINDOW},
+        {{0, 0x07, 0x07, 0x97, 0x85}, {0, 7, 7, 1152, 256}, LU62_BAD_MAXIMUM},
+        {{0, 0x07, 0x07, 0x85, 0x75}, {0, 7, 7, 256, 0}, LU62_BAD_MAXIMUM},
+        {{0, 0x07, 0x3F, 0x87, 0x87}, {0, 7, 63, 1024, 1024}, LU62_BAD_BUFFER},
+    };
+    ours("openings by the bytes of a session");
+    for (size_t i = 0; i < sizeof cases / sizeof cases[0]; i++) {
+        const struct lu62_session_bytes *b = &cases[i].bytes;
+        const struct lu62_session *s = &cases[i].numbers;
+        uint8_t by_bytes[LU62_IMAGE], by_numbers[LU62_IMAGE];
+        struct lu62_answer answer;
+        memset(by_bytes, 0xEE, sizeof by_bytes);
+        uint32_t returned = lu62_open_bind(b->role, b->out_window, b->in_window, b->out_size, b->in_size, 1024, LU62_UNIT(1024),
+                                           LU62_INBOX(63, 960), by_bytes, sizeof by_bytes, &answer);
+        expect_number("number returned", returned, cases[i].refusal);
+        expect_number("refusal in the answer", answer.refusal, cases[i].refusal);
+        (void)lu62_open(s->role, s->out_window, s->in_window, s->out_max, s->in_max, 1024, LU62_UNIT(1024), LU62_INBOX(63, 960),
+                        by_numbers, sizeof by_numbers, &answer);
+        expect_number("refusal of the numbers", answer.refusal, cases[i].refusal);
+        expect_bytes("image", by_bytes, sizeof by_bytes, by_numbers, sizeof by_numbers);
+    }
+}
+
+static void bytes_of_sizes(void)
+{
+    static const struct {
+        uint32_t max;
+        uint32_t refusal;
+        uint8_t byte;
+    } cases[] = {
+        {256, LU62_ACCEPTED, 0x85},   {1024, LU62_ACCEPTED, 0x87},    {8, LU62_ACCEPTED, 0x80},  {384, LU62_ACCEPTED, 0xC5},
+        {1023, LU62_NO_SIZE_BYTE, 0}, {17, LU62_NO_SIZE_BYTE, 0},     {7, LU62_BAD_MAXIMUM, 0},  {1025, LU62_BAD_MAXIMUM, 0},
+        {1152, LU62_BAD_MAXIMUM, 0},  {UINT32_MAX, LU62_BAD_MAXIMUM, 0},
+    };
+    ours("bytes of sizes");
+    for (size_t i = 0; i < sizeof cases / sizeof cases[0]; i++) {
+        uint8_t byte = 0xEE;
+        expect_number("number returned", lu62_size_byte(cases[i].max, &byte), cases[i].refusal);
+        expect_number("byte", byte, cases[i].byte);
+    }
+}
+
 /* An image of another format, and one as older libraries left it, which had no byte for the format. */
 static void other_formats(void)
 {
@@ -1200,6 +1254,8 @@ int main(void)
     confirmations_refused();
     signals();
     refused_openings();
+    openings_by_bytes();
+    bytes_of_sizes();
     other_formats();
     if (failures != 0) {
         fprintf(stderr, "table: %d differences\n", failures);

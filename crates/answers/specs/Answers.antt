@@ -82,9 +82,12 @@ BAD-RESPONSE = 28
 abbrev pub BAD-RECORDS : ℕ
 BAD-RECORDS = 29
 
--- document 02's first number, that of a call of this end
+-- document 02's numbers, of this side's own calls
 abbrev pub SIGNAL-UNANSWERED : ℕ
 SIGNAL-UNANSWERED = 30
+
+abbrev pub NO-SIZE-BYTE : ℕ
+NO-SIZE-BYTE = 31
 
 -- the senses by number, zero where none; document 02's numbers go to 38, and none of them has one
 abbrev pub senses : List ℕ

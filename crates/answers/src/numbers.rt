@@ -48,3 +48,5 @@ pub const BAD_RECORDS: u8 = 29;
 
 // Document 02: this end's own call.
 pub const SIGNAL_UNANSWERED: u8 = 30;
+
+pub const NO_SIZE_BYTE: u8 = 31;

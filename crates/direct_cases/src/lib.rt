@@ -7,6 +7,7 @@ mod forged_error;
 mod lent_short;
 mod opened;
 mod refused;
+mod session_bytes;
 mod wrapping;
 
 use check::same;
@@ -38,6 +39,11 @@ use lent_short::refusal_4_inbox_of_take;
 use lent_short::refusal_4_send_buffer;
 use lent_short::refusal_4_unit_buffer;
 use opened::refusal_1_role;
+use session_bytes::bytes_of_sizes;
+use session_bytes::opened_by_bytes;
+use session_bytes::refusal_3_before_31;
+use session_bytes::refusal_31_no_byte;
+use session_bytes::refusals_by_bytes;
 use wrapping::seq;
 
 fn opened_and_forged(name: &[u8]) -> bool {
@@ -84,7 +90,20 @@ fn expedited(name: &[u8]) -> bool {
         | (same(name, b"signal_unanswered_in_each_state") & signal_unanswered_in_each_state())
 }
 
+fn from_bytes(name: &[u8]) -> bool {
+    (same(name, b"opened_by_bytes") & opened_by_bytes())
+        | (same(name, b"refusals_by_bytes") & refusals_by_bytes())
+        | (same(name, b"bytes_of_sizes") & bytes_of_sizes())
+        | (same(name, b"refusal_31_no_byte") & refusal_31_no_byte())
+        | (same(name, b"refusal_3_before_31") & refusal_3_before_31())
+}
+
 // Whether the case of that name went as it should; an unknown name is bad. Every case is run whatever the name: they are short.
 pub fn run(name: &[u8]) -> bool {
-    opened_and_forged(name) | lent(name) | in_defer(name) | error_due(name) | expedited(name)
+    opened_and_forged(name)
+        | lent(name)
+        | in_defer(name)
+        | error_due(name)
+        | expedited(name)
+        | from_bytes(name)
 }

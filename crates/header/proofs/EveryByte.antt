@@ -1,24 +1,11 @@
 -- Two tests that agree at each number below 256, which antt computes, agree at every byte; and so at every byte and every value of a finite type.
 -- Assumes nothing.
 use mathlib.Core.Path.{_≡_, refl}
-use mathlib.Core.Bool.{Bool, true, false, _&&_, Bool·beq}
-use Prim.Native.Nat.{ℕ, zero, suc, _<_}
-use native.Mathlib.Omega.{arith}
-use borrow.Author.Tests.{eqb-true, eqb-false}
-use lib.Dec.{eqb}
-use Rattle.bools.proofs.Cases.{never, split}
-use Rattle.bools.proofs.Tests.{left, right}
+use mathlib.Core.Bool.{Bool, true, false, Bool·beq}
+use Prim.Native.Nat.{ℕ, _<_}
+use Rattle.bools.proofs.Below.{allBelow, at-below}
+use Rattle.bools.proofs.Cases.{never}
 use Rattle.bools.proofs.Finite.{Finite}
-
-abbrev allBelow : (ℕ → Bool) → ℕ → Bool
-allBelow f zero = true
-allBelow f (suc n) = f n && allBelow f n
-
-at-below : (f : ℕ → Bool) (n : ℕ) → allBelow f n ≡ true → (x : ℕ) → x < n → f x ≡ true
-at-below f zero t x h = absurd (omega arith)
-at-below f (suc n) t x h =
-    split (eqb x n) (λ e. rw (eqb-true x n e) (left (f n) (allBelow f n) t))
-    (λ e. let ne = eqb-false x n e in at-below f n (right (f n) (allBelow f n) t) x (omega (arith, ne)))
 
 same : (a b : Bool) → Bool·beq a b ≡ true → a ≡ b
 same true true e = refl

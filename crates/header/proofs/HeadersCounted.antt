@@ -11,7 +11,7 @@ use Rattle.bools.proofs.Tests.{both}
 
 -- ---- sums
 
-same-sums : (f g : ℕ → ℕ) → ((n : ℕ) → f n ≡ g n) → (k : ℕ) → sumBelow f k ≡ sumBelow g k
+pub same-sums : (f g : ℕ → ℕ) → ((n : ℕ) → f n ≡ g n) → (k : ℕ) → sumBelow f k ≡ sumBelow g k
 same-sums f g e zero = refl
 same-sums f g e (suc k) = ap (λ (m : ℕ). m + sumBelow f k) (e k) ∙ ap (λ (m : ℕ). g k + m) (same-sums f g e k)
 

@@ -6,6 +6,6 @@ mod SameAnswers
 pub mod RoundTrip
 pub mod OnlyH1
 mod LowestNamed
-mod HeadersCounted
+pub mod HeadersCounted
 pub mod FiftyOne
 pub mod ExpeditedHeaders

@@ -1,4 +1,4 @@
--- Opening and the fifteen calls on an image: each is the end's own definition at the record that the image holds.
+-- Opening, by numbers and by bytes, and the fifteen calls on an image: each is the end's own definition at the record that the image holds.
 -- Assumes nothing.
 use Prim.Native.Nat.{ℕ}
 use mathlib.Core.Bool.{Bool, true, false, cond}
@@ -10,7 +10,9 @@ use Rattle.header.specs.declared.Follows.the-variants.{Stay, ChangeDirection, E
 use Rattle.control.specs.declared.Deferred.{Deferred}
 use Rattle.answers.specs.Answers.{BAD-BUFFER}
 use Rattle.end.specs.Outcome.{Made, Sent, Taken, TakenExpedited, Copied}
+use Rattle.bind.specs.SessionBytes.{sizeByte}
 use Rattle.session.specs.Opening.{opened}
+use Rattle.session.specs.BindOpening.{openedByBytes}
 use Rattle.end.specs.Allocate.{allocate}
 use Rattle.end.specs.SendData.{sendData}
 use Rattle.end.specs.Close.{close}
@@ -23,6 +25,7 @@ use Rattle.end.specs.ReceiveUnit.{receiveUnit}
 use Rattle.end.specs.ReceiveExpedited.{receiveExpedited}
 use Rattle.end.specs.Receive.{receive}
 use Rattle.session.specs.declared.Session.{Session}
+use Rattle.session.specs.declared.bind_opening.SessionBytes.{SessionBytes}
 use Rattle.end.specs.declared.Done.{Done}
 use Rattle.image.specs.Image.{IMAGE}
 use Rattle.lu62.specs.Handing.{answerNumbers, readNumbers, expeditedNumbers, Handed, handedOut, handedBack, Left, left, onImage, onImageAlone}
@@ -59,8 +62,23 @@ session role outwindow inwindow outmax inmax =
 
 -- of the image opening asks the length alone, and leaves one of a wrong length as it was; refused for anything else, it leaves the image
 -- of a record of zeros
-unfoldable pub openedOn : Session → ℕ → ℕ → ℕ → List ℕ → Handed
-openedOn s send unit inbox image = cond (eqb (length image) IMAGE) (doneOut (opened s send unit inbox)) (handedBack BAD-BUFFER image)
+unfoldable pub openingOut : Done → List ℕ → Handed
+openingOut d image = cond (eqb (length image) IMAGE) (doneOut d) (handedBack BAD-BUFFER image)
+
+abbrev pub openedOn : Session → ℕ → ℕ → ℕ → List ℕ → Handed
+openedOn s send unit inbox image = openingOut (opened s send unit inbox) image
+
+-- document 02: opening from the session's own bytes
+abbrev pub sessionBytes : ℕ → ℕ → ℕ → ℕ → ℕ → SessionBytes
+sessionBytes role outwindow inwindow outsize insize =
+    record { role = role; outwindow = outwindow; inwindow = inwindow; outsize = outsize; insize = insize }
+
+abbrev pub openedByBytesOn : SessionBytes → ℕ → ℕ → ℕ → List ℕ → Handed
+openedByBytesOn b send unit inbox image = openingOut (openedByBytes b send unit inbox) image
+
+-- and the way back: the value returned, and the byte
+abbrev pub sizeByteOut : ℕ → ℕ × ℕ
+sizeByteOut size = (sizeByte size .answer .refusal, sizeByte size .byte)
 
 abbrev pub allocateOn : List ℕ → List ℕ → Left (List ℕ)
 allocateOn image unit = onImage image unit (λ e. madeOut (allocate e unit))

@@ -1,11 +1,13 @@
 // What each exported call hands out: the answer as nine numbers, and the new record over the image. The numbers are: refusal,
 // sense, rule, length of the unit made, bytes copied, complete (0 or 1), more (0 or 1), mark (0 to 6), signalled (0 or 1).
+use answers::numbers::BAD_BUFFER;
 use end::Answer;
 use end::Done;
 use end::ExpeditedAnswer;
 use end::ExpeditedDone;
 use end::ReadAnswer;
 use end::ReadDone;
+use image::IMAGE;
 use image::codes::flag_code;
 use image::codes::mark_code;
 use image::encoding::write_image;
@@ -14,6 +16,7 @@ ghost use Prim.Native.Nat.{_<_};
 ghost use lib.ListN.{length};
 ghost use Rattle.image.specs.Image.{IMAGE};
 ghost use Rattle.lu62.specs.Handing.{answerNumbers, readNumbers, expeditedNumbers, refusalNumbers, handed, handedOut};
+ghost use Rattle.lu62.specs.Exported.{openingOut};
 
 // A length as a number of 32 bits. The end's units are at most 1,029 bytes long, and a read copies at most 65,535.
 fn word(n: usize) -> u32
@@ -114,4 +117,15 @@ pub fn refuse_image(number: u8, answer: &mut [u32; 9]) -> u32
     let refusal = number as u32;
     *answer = [refusal, 0, 0, 0, 0, 0, 0, 0, 0];
     refusal
+}
+
+// After an opening: the new record goes over whatever the image held, if it has the length of one.
+pub fn hand_opened(done: Done, image: &mut [u8], answer: &mut [u32; 9]) -> u32
+    requires { ⌜ done .answer .unit < 4294967296 ⌝ }
+    ensures { λ r. ⌜ handed r (now (answer .exit)) (now (image .exit)) ≡ openingOut done (now (image .entry)) ⌝ }
+{
+    if image.len() != IMAGE {
+        return refuse_image(BAD_BUFFER, answer);
+    }
+    hand_out(done, image, answer)
 }

@@ -1,8 +1,7 @@
 // Opening a session and starting a conversation.
+use crate::handing::hand_opened;
 use crate::handing::hand_out;
 use crate::handing::refuse_image;
-use answers::numbers::BAD_BUFFER;
-use image::IMAGE;
 use image::ImageRead;
 use image::decoding::read_image;
 use session::Session;
@@ -28,9 +27,6 @@ pub extern "C" fn lu62_open(
     ensures { λ r. ⌜ handed r (now (answer .exit)) (now (image .exit))
         ≡ openedOn (session role «out_window» «in_window» «out_max» «in_max») «send_length» «unit_length» «inbox_length» (now (image .entry)) ⌝ }
 {
-    if image.len() != IMAGE {
-        return refuse_image(BAD_BUFFER, answer);
-    }
     let session = Session {
         role,
         outwindow: out_window,
@@ -38,8 +34,11 @@ pub extern "C" fn lu62_open(
         outmax: out_max,
         inmax: in_max,
     };
-    let done = open_session(session, send_length, unit_length, inbox_length);
-    hand_out(done, image, answer)
+    hand_opened(
+        open_session(session, send_length, unit_length, inbox_length),
+        image,
+        answer,
+    )
 }
 
 // Starts a conversation. A bidder makes a bid.

@@ -1,1 +1,2 @@
 mod OpeningFits
+mod BindClaims

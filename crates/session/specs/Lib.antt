@@ -1,2 +1,4 @@
 pub mod OpeningQuestions
 pub mod Opening
+pub mod BindOpening
+pub mod BindClaims

@@ -1,5 +1,7 @@
 // Opening a session: the questions asked of its sizes and of the buffers, and the end as it starts.
+pub mod bind_opening;
 pub mod opening_questions;
+pub mod theorems;
 
 use control::Role;
 use control::state_tests::role_of;

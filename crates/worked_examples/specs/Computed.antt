@@ -17,8 +17,10 @@ use Rattle.transitions.specs.Transitions.{positiveResponseReceived, negativeRes
 use Rattle.transitions.specs.Transitions.{confirmationDenied, errorMade, errorReceived, negativeConfirmationReceived}
 use Rattle.sending.specs.Sending.{sendingGood, requestMade}
 use Rattle.receiving.specs.Receiving.{receivingGood, requestReceived}
+use Rattle.bind.specs.SessionBytes.{sizeOf, byteOf, sizeByte}
 use Rattle.session.specs.OpeningQuestions.{openingRefusal}
 use Rattle.session.specs.Opening.{opened}
+use Rattle.session.specs.BindOpening.{openedByBytes}
 use Rattle.end.specs.Record.{recordGood}
 use Rattle.end.specs.Requests.{dataHeader}
 use Rattle.end.specs.Allocate.{allocateRefusal, bidMade, allocateDecision, allocate}
@@ -40,5 +42,5 @@ use Rattle.joined.specs.Denials.{unitsMade, unitsTaken, announced, AsAnnounced}
 use Rattle.joined.specs.Signals.{signalsMade, signalsTold}
 
 unfoldable pub computed : Unit {0}
-unfolding front written sameBytes thenWalk groupsFrom keeps lowestBroken headerGood headerBytes fieldsOf ruGood unitBytes unitOf credit advanced answered controlGood allocated spilled closed deferred withdrawn confirmationMade markAnswered dataReceived bidReceived positiveResponseReceived negativeResponseReceived confirmationReceived confirmationDenied errorMade errorReceived negativeConfirmationReceived sendingGood requestMade receivingGood requestReceived openingRefusal opened recordGood dataHeader allocateRefusal bidMade allocateDecision allocate sendRefusal bytesKept bytesSpilled sendDecision sendCells sendData closeRefusal lastMade closeDecision close deferRefusal deferDecision defer withdrawRefusal withdrawDecision withdraw confirmedRefusal confirmedDecision confirmed sendErrorDecision sendError receiveUnitRefusal dataJoined errorMarked bidAnswered creditRaised receiveUnitDecision inboxCells receiveUnit receiveRefusal copyCount bytesRead markRead receiveDecision inboxMoved receive sendPacingResponseRefusal sendPacingResponseDecision sendPacingResponse called taken acts takes H.bytesAccepted H.bytesRead H.bytesOnLine H.pacingResponsesTaken H.requestsMade unitsMade unitsTaken announced AsAnnounced expeditedGood brokenExpedited expeditedBytes expeditedFields expeditedOf requestRefusal requestDecision requestToSend receiveExpeditedRefusal receiveExpeditedDecision receiveExpedited takenExpedited among signalsMade signalsTold
+unfolding front written sameBytes thenWalk groupsFrom keeps lowestBroken headerGood headerBytes fieldsOf ruGood unitBytes unitOf credit advanced answered controlGood allocated spilled closed deferred withdrawn confirmationMade markAnswered dataReceived bidReceived positiveResponseReceived negativeResponseReceived confirmationReceived confirmationDenied errorMade errorReceived negativeConfirmationReceived sendingGood requestMade receivingGood requestReceived openingRefusal opened openedByBytes sizeOf byteOf sizeByte recordGood dataHeader allocateRefusal bidMade allocateDecision allocate sendRefusal bytesKept bytesSpilled sendDecision sendCells sendData closeRefusal lastMade closeDecision close deferRefusal deferDecision defer withdrawRefusal withdrawDecision withdraw confirmedRefusal confirmedDecision confirmed sendErrorDecision sendError receiveUnitRefusal dataJoined errorMarked bidAnswered creditRaised receiveUnitDecision inboxCells receiveUnit receiveRefusal copyCount bytesRead markRead receiveDecision inboxMoved receive sendPacingResponseRefusal sendPacingResponseDecision sendPacingResponse called taken acts takes H.bytesAccepted H.bytesRead H.bytesOnLine H.pacingResponsesTaken H.requestsMade unitsMade unitsTaken announced AsAnnounced expeditedGood brokenExpedited expeditedBytes expeditedFields expeditedOf requestRefusal requestDecision requestToSend receiveExpeditedRefusal receiveExpeditedDecision receiveExpedited takenExpedited among signalsMade signalsTold
 computed = tt

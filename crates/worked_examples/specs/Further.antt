@@ -16,6 +16,7 @@ use Rattle.worked_examples.specs.Parts.{Parts, parts}
 use Rattle.worked_examples.specs.Prepared.{Prepared, all-prepared}
 use Rattle.worked_examples.specs.Denied.{Denied, all-denied}
 use Rattle.worked_examples.specs.Signalled.{Signalled, all-signalled}
+use Rattle.worked_examples.specs.FromBytes.{FromBytes, all-from-bytes}
 use Rattle.calls.specs.Calls.{Station, Verb}
 
 -- ---- "Last sequence number sent and last taken, from 0; the number after 65,535 is 0."
@@ -158,6 +159,7 @@ pub record FurtherRows : Type 0 where
   pub prepared : Prepared
   pub denied : Denied
   pub signalled : Signalled
+  pub from-bytes : FromBytes
 
 numbered : Numbers
 unfolding computed
@@ -246,4 +248,5 @@ further =
       prepared = all-prepared;
       denied = all-denied;
       signalled = all-signalled;
+      from-bytes = all-from-bytes;
     }

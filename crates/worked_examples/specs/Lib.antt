@@ -8,4 +8,5 @@ pub mod Parts
 pub mod Prepared
 pub mod Denied
 pub mod Signalled
+pub mod FromBytes
 pub mod Further

@@ -10,7 +10,7 @@ pub fn proved_examples()
 {}
 
 // The number after 65,535; credit and open raised by W; a second allocate; an unfinished record; a forged unit for each of 20 to 29; 13; the rule
-// that 21 names; tables in parts; a turn or an end prepared; no confirmation, and its cause; signals.
+// that 21 names; tables in parts; a turn or an end prepared; no confirmation, and its cause; signals; a session opened by its bytes, and sizes.
 pub fn further_examples()
     ensures { λ _. ⌜ FurtherRows ⌝ }
 {}

@@ -1,0 +1,5 @@
+mod Normalized
+mod Search
+mod SizeBytes
+mod SizeAsked
+pub mod BindClaims

@@ -1,0 +1,2 @@
+pub mod SessionBytes
+pub mod BindClaims
