@@ -179,7 +179,7 @@ uint32_t lu62_open_bind(uint8_t role, uint8_t out_window, uint8_t in_window, uin
                         uint8_t *image, size_t image_length, struct lu62_answer *answer);
 
 /* The size byte of a maximum RU, to `*byte`. Of the maxima from 8 to 1,024 only 57 have one. Refused, `*byte` is 0, which means no size.
- * It needs no end. Refusals: BAD_MAXIMUM, NO_SIZE_BYTE. */
+ * It is no call on an end: it has no image and no `answer`. Refusals: BAD_MAXIMUM, NO_SIZE_BYTE. */
 uint32_t lu62_size_byte(uint32_t max, uint8_t *byte);
 
 /* Begins a conversation. A first speaker is in LU62_SEND at once and no unit is made. A bidder makes a bid and must wait: the
