@@ -3,6 +3,7 @@
 use mathlib.Core.Path.{_≡_, refl, sym, ap, _∙_, subst}
 use mathlib.Core.Bool.{Bool, true, false, cond, not, _&&_}
 use Prim.Native.Nat.{ℕ, _+_, _*_, _/_, _%_, _<_}
+use native.Mathlib.Nat.{div-add-mod'}
 use native.Mathlib.Omega.{arith}
 use lib.Count.{leadingZeros}
 use lib.Dec.{eqb, leb}
@@ -18,7 +19,7 @@ use Rattle.bind.specs.declared.SizeByte.{SizeByte}
 use Rattle.bind.specs.BindClaims.{BothWays, ByteGivenBack, SizeGivenBack, NoneMeans, hasByte, FiftySeven}
 use Rattle.bind.proofs.Search.{byte-means, none-means}
 use Rattle.bind.proofs.SizeAsked.{out-of-range, byteless, given}
-use Rattle.bind.proofs.SizeBytes.{moved, size-at, moved-at, found-is-moved, mantissa-below, exponent-below, whole}
+use Rattle.bind.proofs.SizeBytes.{moved, size-at, moved-at, found-is-moved, mantissa-below, exponent-below}
 
 -- ---- there and back
 
@@ -36,9 +37,9 @@ pub byte-given-back : ByteGivenBack
 byte-given-back byte h s =
     let a = byte / 16 in
     let b = byte % 16 in
-    let f = ap sizeOf (sym (whole byte)) ∙ size-at a b (mantissa-below byte h) (exponent-below byte) in
+    let f = ap sizeOf (sym (div-add-mod' byte 16)) ∙ size-at a b (mantissa-below byte h) (exponent-below byte) in
     split (maximumGood a b)
-    (λ m. rw (f, m) (back-at a b (mantissa-below byte h) (exponent-below byte) m ∙ ap oneByte (whole byte)))
+    (λ m. rw (f, m) (back-at a b (mantissa-below byte h) (exponent-below byte) m ∙ ap oneByte (div-add-mod' byte 16)))
     (λ m. never (sym s ∙ rw (f, m)))
 
 -- the maximum that a byte means is the size, if that is one

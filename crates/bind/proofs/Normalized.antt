@@ -2,7 +2,7 @@
 -- Assumes nothing.
 use mathlib.Core.Path.{_≡_, ap, _∙_, subst}
 use mathlib.Core.Bool.{true}
-use Prim.Native.Nat.{ℕ, suc, _+_, _-_, _/_, _^_, _≤_, _<_}
+use Prim.Native.Nat.{ℕ, suc, _+_, _-_, _*_, _/_, _^_, _≤_, _<_}
 use native.Mathlib.Nat.{le-div-iff-mul-le, div-lt-iff-lt-mul, lt-of-le-of-lt}
 use native.Mathlib.Omega.{arith}
 use lib.Count.{leadingZeros, leading-top}
@@ -22,6 +22,10 @@ pub record Normalized (size : ℕ) : Type 0 where
   pub most-exponent : place size ≤ 7
   pub least : 8 ≤ size / 2 ^ place size
   pub most : size / 2 ^ place size < 16
+
+-- mantissa and exponent make a byte
+pub byte-below : (size : ℕ) → Normalized size → size / 2 ^ place size * 16 + place size < 256
+byte-below size n = let e = n .most-exponent in let m = n .most in omega (arith, e, m)
 
 smaller-power : (i k : ℕ) → 2 ^ i < 2 ^ k → i < k
 smaller-power i k h =

@@ -3,6 +3,7 @@
 use mathlib.Core.Path.{_≡_, refl, sym, _∙_, subst}
 use mathlib.Core.Bool.{Bool, true, false, cond, not, _&&_, _||_}
 use Prim.Native.Nat.{ℕ, _+_, _*_, _/_, _%_, _^_, _<_}
+use native.Mathlib.Nat.{div-add-mod'}
 use native.Mathlib.Omega.{arith}
 use lib.Arith.{digits-div, digits-mod}
 use lib.Count.{leadingZeros}
@@ -13,7 +14,7 @@ use Rattle.bools.proofs.Cases.{never, split}
 use Rattle.bools.proofs.Tests.{left, right, join, follows-from}
 use Rattle.unit.specs.Maximum.{maxGood}
 use Rattle.bind.specs.SessionBytes.{times, means, maximumGood, sizeOf, byteOf}
-use Rattle.bind.proofs.Normalized.{place, Normalized, normalized}
+use Rattle.bind.proofs.Normalized.{place, Normalized, normalized, byte-below}
 use Rattle.bind.proofs.Search.{byte-means, none-means}
 
 -- the byte of a size whose highest bit is moved to the mantissa's place; 0 if a bit is lost there
@@ -54,9 +55,6 @@ mantissa-below byte h = omega (arith, h)
 pub exponent-below : (byte : ℕ) → byte % 16 < 16
 exponent-below byte = omega arith
 
-pub whole : (byte : ℕ) → byte / 16 * 16 + byte % 16 ≡ byte
-whole byte = omega arith
-
 -- ---- the size moved is the byte that is found
 
 moved-means : (size : ℕ) → Normalized size → eqb (size / 2 ^ place size * 2 ^ place size) size ≡ true
@@ -74,7 +72,7 @@ at-byte size byte g m h =
     let e = eqb-true (times (byte / 16) (byte % 16)) size (right (leb 8 (byte / 16)) _ m) in
     let w = subst (λ (s : ℕ). maxGood s ≡ true) (sym e) g in
     subst (λ (s : ℕ). moved s ≡ byte) e
-    (moved-at (byte / 16) (byte % 16) (mantissa-below byte h) (exponent-below byte) (join (leb 8 (byte / 16)) _ (left _ _ m) w) ∙ whole byte)
+    (moved-at (byte / 16) (byte % 16) (mantissa-below byte h) (exponent-below byte) (join (leb 8 (byte / 16)) _ (left _ _ m) w) ∙ div-add-mod' byte 16)
 
 pub found-is-moved : (size : ℕ) → maxGood size ≡ true → byteOf size ≡ moved size
 found-is-moved size g =
@@ -84,8 +82,6 @@ found-is-moved size g =
     nothing : ((byte : ℕ) → byte < 256 → means byte size ≡ false) → moved size ≡ 0
     nothing f =
         let n = normalized size g in
-        let k = n .most-exponent in
-        let m = n .most in
         split (eqb (size / 2 ^ place size * 2 ^ place size) size)
-        (λ e. never (sym (f (size / 2 ^ place size * 16 + place size) (omega (arith, k, m))) ∙ moved-means size n e))
+        (λ e. never (sym (f (size / 2 ^ place size * 16 + place size) (byte-below size n)) ∙ moved-means size n e))
         (λ e. rw e)

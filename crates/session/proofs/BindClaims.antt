@@ -2,7 +2,7 @@
 -- Assumes nothing.
 use Prim.Native.Nat.{ℕ, _<_}
 use mathlib.Core.Path.{_≡_, refl, sym, ap, ap₂, _∙_}
-use mathlib.Core.Bool.{Bool, true, false, cond, not, _&&_, _||_}
+use mathlib.Core.Bool.{Bool, true, false, cond, not, _&&_}
 use native.Mathlib.Nat.{mod-eq-of-lt}
 use native.Mathlib.Omega.{arith}
 use lib.Dec.{eqb, leb}
@@ -14,7 +14,7 @@ use Rattle.unit.specs.Maximum.{maxGood}
 use Rattle.answers.specs.Answers.{refused}
 use Rattle.bind.specs.SessionBytes.{windowOf, mantissa, exponent, times, means, sizeOf}
 use Rattle.bind.proofs.BindClaims.{size-meant, byte-given}
-use Rattle.session.specs.OpeningQuestions.{openingRefusal}
+use Rattle.session.specs.OpeningQuestions.{roleGood, openingRefusal}
 use Rattle.session.specs.Opening.{opened, zeroEnd}
 use Rattle.session.specs.BindOpening.{meant, openedByBytes}
 use Rattle.session.specs.BindClaims.{sizeByteGood, AsAsked, SameEnd, bytesOf, BytesOfNumbers}
@@ -57,12 +57,12 @@ early false windows = refl
 refused-early : (s : Session) (send unit inbox : ℕ) → maxGood (s .outmax) && maxGood (s .inmax) ≡ false
     → opened s send unit inbox
     ≡ record {
-      answer = refused (cond (eqb (s .role) 0 || eqb (s .role) 1) (cond (sizeGood (s .outwindow) && sizeGood (s .inwindow)) 3 2) 1);
+      answer = refused (cond (roleGood (s .role)) (cond (sizeGood (s .outwindow) && sizeGood (s .inwindow)) 3 2) 1);
       end = zeroEnd;
     }
 unfolding opened openingRefusal
 refused-early s send unit inbox g =
-    rw (g, early (eqb (s .role) 0 || eqb (s .role) 1) (sizeGood (s .outwindow) && sizeGood (s .inwindow)))
+    rw (g, early (roleGood (s .role)) (sizeGood (s .outwindow) && sizeGood (s .inwindow)))
 
 pub same-end : SameEnd
 unfolding openedByBytes

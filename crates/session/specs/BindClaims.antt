@@ -2,13 +2,13 @@
 -- Assumes nothing.
 use Prim.Native.Nat.{ℕ, _<_}
 use mathlib.Core.Path.{_≡_}
-use mathlib.Core.Bool.{Bool, true, not, _&&_, _||_}
+use mathlib.Core.Bool.{Bool, true, not, _&&_}
 use mathlib.Core.List.{List, [], _∷_}
 use lib.Dec.{eqb}
 use Rattle.answers.specs.FirstNo.{firstNo}
 use Rattle.answers.specs.Answers.{BAD-ROLE, BAD-WINDOW, BAD-MAXIMUM, BAD-BUFFER}
 use Rattle.bind.specs.SessionBytes.{windowOf, mantissa, exponent, means, maximumGood, oneByte, sizeByte}
-use Rattle.session.specs.OpeningQuestions.{buffersGood}
+use Rattle.session.specs.OpeningQuestions.{roleGood, buffersGood}
 use Rattle.session.specs.Opening.{opened}
 use Rattle.session.specs.BindOpening.{meant, openedByBytes}
 use Rattle.session.specs.declared.Session.{Session}
@@ -22,7 +22,7 @@ sizeByteGood byte = maximumGood (mantissa byte) (exponent byte)
 
 abbrev pub bindQuestions : SessionBytes → ℕ → ℕ → ℕ → List (Bool × ℕ)
 bindQuestions b send unit inbox =
-    (eqb (b .role) 0 || eqb (b .role) 1, BAD-ROLE)
+    (roleGood (b .role), BAD-ROLE)
     ∷ (not (eqb (windowOf (b .outwindow)) 0) && not (eqb (windowOf (b .inwindow)) 0), BAD-WINDOW)
     ∷ (sizeByteGood (b .outsize) && sizeByteGood (b .insize), BAD-MAXIMUM)
     ∷ (buffersGood (meant b) send unit inbox, BAD-BUFFER)

@@ -10,6 +10,9 @@ use Rattle.answers.specs.Answers.{BAD-ROLE, BAD-WINDOW, BAD-MAXIMUM, BAD-BUFFER
 use Rattle.unit.specs.Maximum.{maxGood}
 use Rattle.session.specs.declared.Session.{Session}
 
+abbrev pub roleGood : ℕ → Bool
+roleGood role = eqb role 0 || eqb role 1
+
 -- the send buffer at least the sending M, the unit buffer at least that M+5, the inbox the receiving W×M to 65,535
 abbrev pub buffersGood : Session → ℕ → ℕ → ℕ → Bool
 buffersGood s send unit inbox =
@@ -17,7 +20,7 @@ buffersGood s send unit inbox =
 
 abbrev pub openingQuestions : Session → ℕ → ℕ → ℕ → List (Bool × ℕ)
 openingQuestions s send unit inbox =
-    (eqb (s .role) 0 || eqb (s .role) 1, BAD-ROLE)
+    (roleGood (s .role), BAD-ROLE)
     ∷ (sizeGood (s .outwindow) && sizeGood (s .inwindow), BAD-WINDOW)
     ∷ (maxGood (s .outmax) && maxGood (s .inmax), BAD-MAXIMUM)
     ∷ (buffersGood s send unit inbox, BAD-BUFFER)

@@ -2,11 +2,13 @@
 -- mantissa; and what the search finds is what is moved there.
 -- Assumes nothing.
 use mathlib.Core.Path.{_≡_, sym, _∙_}
-use Prim.Native.Nat.{ℕ, _*_, _/_, _%_, _^_, _<_}
+use mathlib.Core.Bool.{true}
+use Prim.Native.Nat.{ℕ, _+_, _*_, _/_, _%_, _^_, _<_}
 use native.Mathlib.Nat.{div-mul-le-self, mod-eq-of-lt, lt-of-le-of-lt}
 use native.Mathlib.Omega.{arith}
 use borrow.Author.Tests.{eq-eqb, ne-eqb}
-use Rattle.bind.proofs.Normalized.{place, normalized}
+use Rattle.unit.specs.Maximum.{maxGood}
+use Rattle.bind.proofs.Normalized.{place, normalized, byte-below}
 use Rattle.bind.proofs.SizeBytes.{found-is-moved}
 use borrow.Author.Needs.{needs}
 use Rattle.bind.proofs.byte_of.Statement.{statement}
@@ -15,22 +17,17 @@ use Rattle.bind.proofs.byte_of.Tie as tie
 sub-exponent : tie.Need-sub-exponent
 sub-exponent c = normalized (c .args .size) (c .pre) .zeros
 
+below : (size : ℕ) → maxGood size ≡ true → size / 2 ^ place size * 16 + place size < 256
+below size g = byte-below size (normalized size g)
+
 mul-result : tie.Need-mul-result
-mul-result c = let m = normalized (c .before .args .size) (c .before .pre) .most in record { fits = omega (arith, m) }
+mul-result c = let b = below (c .before .args .size) (c .before .pre) in record { fits = omega (arith, b) }
 
 add-result : tie.Need-add-result
-add-result c =
-    let n = normalized (c .before .args .size) (c .before .pre) in
-    let m = n .most in
-    let e = n .most-exponent in
-    record { fits = omega (arith, m, e) }
+add-result c = let b = below (c .before .args .size) (c .before .pre) in record { fits = omega (arith, b) }
 
 cast-result : tie.Need-cast-result
-cast-result c =
-    let n = normalized (c .before .args .size) (c .before .pre) in
-    let m = n .most in
-    let e = n .most-exponent in
-    record { fits = omega (arith, m, e) }
+cast-result c = record { fits = below (c .before .args .size) (c .before .pre) }
 
 -- what is moved back is no greater than the size, so it loses no bit
 kept : (size e : ℕ) → size < 2 ^ 32 → (size / 2 ^ e * 2 ^ e) % 2 ^ 32 ≡ size / 2 ^ e * 2 ^ e
