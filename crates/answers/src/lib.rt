@@ -1,4 +1,6 @@
 // The answers that calls give: the refusal number, its sense, and the rule that a refusal names.
+#![tactic(auto)]
+
 pub mod first_no;
 pub mod numbers;
 
@@ -11,7 +13,7 @@ use control::{Control, WhatReceived};
 use header::Rule;
 
 // The refusal number, 0 if accepted; its sense; the rule for 21, else 0; and the length of the unit made, 0 for none.
-#[derive(Drop)]
+#[derive(Clone, Copy)]
 pub struct Answer {
     pub refusal: u8,
     pub sense: u32,
@@ -21,7 +23,7 @@ pub struct Answer {
 
 // A read's answer has besides: the bytes copied; whether a record is complete; whether the record completed is a part that another
 // follows; and the mark answered.
-#[derive(Drop)]
+#[derive(Clone, Copy)]
 pub struct ReadAnswer {
     pub answer: Answer,
     pub copied: usize,
@@ -31,7 +33,7 @@ pub struct ReadAnswer {
 }
 
 // The answer of a take on the expedited line has besides: whether a signal was taken.
-#[derive(Drop)]
+#[derive(Clone, Copy)]
 pub struct ExpeditedAnswer {
     pub answer: Answer,
     pub signalled: bool,

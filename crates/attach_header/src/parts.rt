@@ -3,7 +3,7 @@ ghost use Rattle.std.specs.Prelude.{◌≡◌, ◌≤◌, length};
 ghost use Rattle.attach_header.specs.Places.{part_at};
 
 // Where a field stands: from `start` up to `end`. It is not whole if its length byte counts more bytes than there are.
-#[derive(Drop)]
+#[derive(Clone, Copy)]
 pub struct Part {
     pub whole: bool,
     pub start: usize,

@@ -29,14 +29,14 @@ const FIXED: usize = 6;
 const LEAST_FIXED: u8 = 3;
 
 // What is read: the fields, every one 0 or absent where the header is refused.
-#[derive(Drop)]
+#[derive(Clone, Copy)]
 pub struct AttachRead {
     pub answer: Answer,
     pub attach: Attach,
 }
 
 // Where the variable part's fields stand.
-#[derive(Drop)]
+#[derive(Clone, Copy)]
 pub struct Places {
     pub program: Part,
     pub security: Part,

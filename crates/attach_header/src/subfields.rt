@@ -24,7 +24,7 @@ pub const PASSWORD: u8 = 1;
 pub const USER: u8 = 2;
 
 // The three as a program keeps them, each of length 0 if there is none.
-#[derive(Drop)]
+#[derive(Clone, Copy)]
 pub struct Security {
     pub profile: SymbolString,
     pub password: SymbolString,

@@ -17,7 +17,7 @@ const INSTANCE: usize = 6;
 const NUMBERS: usize = 8;
 
 // The identifier as a program keeps it.
-#[derive(Drop)]
+#[derive(Clone, Copy)]
 pub struct Work {
     pub lu: SymbolString,
     pub instance: [u8; 6],

@@ -14,7 +14,7 @@ use answers::{Answer, accept, refuse};
 use digits::printed::put;
 
 // What is written: the length of the header, 0 where it is refused.
-#[derive(Drop)]
+#[derive(Clone, Copy)]
 pub struct Written {
     pub answer: Answer,
     pub length: usize,

@@ -1,6 +1,8 @@
 // Two joined ends on the bench, one step at a time: a request at one end, the units that wait for it on the two lines to it, and the
 // unit that it makes on one of the two lines to the other end. A step is lent the two lines of one flow; those of the other, which it
 // cannot touch, stand in its promise.
+#![tactic(auto)]
+
 mod made_call;
 
 ghost use Rattle.std.specs.Prelude.{◌≡◌, List, ℕ};
@@ -14,7 +16,7 @@ use script::{Flow, Request, Verb};
 use unit_lines::{Line, deliver, is_full, oldest_end, remove_oldest};
 
 // Whether the call was made.
-#[derive(Drop)]
+#[derive(Clone, Copy)]
 pub enum Outcome {
     Answered,
     NothingWaiting,
@@ -22,14 +24,14 @@ pub enum Outcome {
 }
 
 // The two lines of one flow: the line to this end, and the line to the other end.
-#[derive(Drop)]
+#[derive(Clone, Copy)]
 pub struct Pair {
     pub from: Line,
     pub to: Line,
 }
 
 // What a take hands back: its answer, whether it tells of a signal, and the new end.
-#[derive(Drop)]
+#[derive(Clone, Copy)]
 pub struct Told {
     pub answer: ReadAnswer,
     pub signalled: bool,
@@ -37,7 +39,7 @@ pub struct Told {
 }
 
 // What a step hands back: the answer, if one was made, with the new end; and the two lines of its flow.
-#[derive(Drop)]
+#[derive(Clone, Copy)]
 pub struct Stepped {
     pub outcome: Outcome,
     pub told: Told,

@@ -1,5 +1,7 @@
 // The bytes with which a session starts, in document 000 bytes 8 to 13 of BIND (appendix E): what a window byte and a size byte mean,
 // and the byte of a size.
+#![tactic(auto)]
+
 pub mod theorems;
 
 ghost use Rattle.std.specs.Prelude.{◌≡◌, true};
@@ -14,7 +16,7 @@ use unit::maximum::max_good;
 const LEAST_MANTISSA: u32 = 8;
 
 // The answer to a size: its byte, 0 where the size is refused.
-#[derive(Drop)]
+#[derive(Clone, Copy)]
 pub struct SizeByte {
     pub answer: Answer,
     pub byte: u8,

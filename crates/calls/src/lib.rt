@@ -1,6 +1,8 @@
 // The calls of an end as one function each of the end and the cells lent to it, and the laws that hold of each call by itself, at any
 // record, cells and unit, forged ones too. The functions do nothing; their contracts are the laws, so that a check prints their names
 // and fails if a proof goes.
+#![tactic(auto)]
+
 ghost use Rattle.calls.specs.Laws.{Refusals, StaysGood, CreditExact, UnitsFit};
 ghost use Rattle.calls.specs.DeferLaws.{Deferring};
 ghost use Rattle.calls.specs.ErrorLaws.{Denying};

@@ -5,7 +5,7 @@ use end::{Done, End};
 
 // The two ends: `place` counts the units taken in the window, `at` is where the next part of the record starts, `read` counts
 // the bytes read.
-#[derive(Drop)]
+#[derive(Clone, Copy)]
 pub(crate) struct Pair {
     pub giver: End,
     pub reader: End,

@@ -4,6 +4,8 @@
 //   calls_alone M W PARTS
 //
 // Prints the bytes read. The last part given stays in the send buffer. The benchmark counts its instructions.
+#![tactic(auto)]
+
 mod carrying;
 
 use carrying::{Pair, part_carried};

@@ -1,5 +1,7 @@
 // Reads names of cases from standard input, one a line, and prints for each the name, a blank, and `ok` or `bad`; a name that
 // no case has is bad.
+#![tactic(auto)]
+
 use libc::{STDIN_FILENO, STDOUT_FILENO};
 use script::text::line_end;
 
@@ -59,7 +61,7 @@ fn lines(text: &[u8], name: &mut [u8], before: usize) -> usize {
 }
 
 // Reads once, and answers whether there may be more; `length` is then that of the line begun.
-#[derive(Drop)]
+#[derive(Clone, Copy)]
 struct Read {
     more: bool,
     length: usize,

@@ -1,5 +1,7 @@
 // Cells of a lent buffer: what a call leaves in them. Between two buffers the kit's `bytes::copy` moves bytes;
 // what it lacks, a move within one buffer, is here. Two buffers compared.
+#![tactic(auto)]
+
 ghost use Rattle.std.specs.Prelude.{◌≡◌, drop};
 ghost use Rattle.cells.specs.Cells.{front};
 ghost use Rattle.cells.specs.Equal.{same_bytes};

@@ -1,6 +1,8 @@
 // The claim about two joined ends put to use: said once more in other words, and read off one conversation; the laws of Defer, of an
 // error that is due and of signals too. The functions do nothing but call those that carry the claim and the laws; their contracts
 // follow from the contracts of these.
+#![tactic(auto)]
+
 ghost use Rattle.claim_in_use.specs.Conversation.{OneConversation};
 ghost use Rattle.claim_in_use.specs.Deferral.{OneDeferral};
 ghost use Rattle.claim_in_use.specs.Denial.{OneDenial};

@@ -1,12 +1,13 @@
 // The finite part of an end's record: role, state, what follows a confirmation, the mark, the flags and the open chains. Numbers,
 // windows and bytes are left to the end.
+#![tactic(auto)]
 
 mod field_changed;
 pub mod questions;
 pub mod state_tests;
 
 // Document 01's role.
-#[derive(Drop)]
+#[derive(Clone, Copy)]
 pub enum Role {
     FirstSpeaker,
     Bidder,
@@ -14,7 +15,7 @@ pub enum Role {
 
 // Document 01's state; ConfirmOwed is its Owes, ConfirmAwaited its Waits. DeferTurn and DeferEnd are document 02's Defer: a turn
 // or an end is prepared and not yet carried out (document 004: Defer Receive and Defer Deallocate).
-#[derive(Drop)]
+#[derive(Clone, Copy)]
 pub enum State {
     Reset,
     Send,
@@ -26,7 +27,7 @@ pub enum State {
 }
 
 // What is prepared in Defer.
-#[derive(Drop)]
+#[derive(Clone, Copy)]
 pub enum Deferred {
     Turn,
     End,
@@ -34,7 +35,7 @@ pub enum Deferred {
 
 // Document 01's mark: what the last unit taken says after its bytes, kept until a read answers it. Error is document 02's: the
 // partner does not confirm, and this is the cause.
-#[derive(Drop)]
+#[derive(Clone, Copy)]
 pub enum WhatReceived {
     Nothing,
     Turn,
@@ -48,7 +49,7 @@ pub enum WhatReceived {
 // `follows` is what follows a confirmation; `due` is BB-due: the next data unit begins the bracket; `bid` is the flag bid: a bid is
 // unanswered; `outchain` and `inchain` say whether the sending and the receiving chain is open; `error` is error-due: the next
 // request is the error header. It stands last, where it costs least (docs/BENCHMARK.md).
-#[derive(Drop)]
+#[derive(Clone, Copy)]
 pub struct Control {
     pub role: Role,
     pub state: State,

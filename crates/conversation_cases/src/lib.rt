@@ -1,6 +1,8 @@
 // Named cases of conversations, headers, tables in parts, turns and ends prepared, confirmations denied, and signals. A case is one
 // text: its name, its script, a line `=`, and the answers that the script must have. A wrong length in the type of a case is refused
 // by the compiler.
+#![tactic(auto)]
+
 mod conversations;
 mod denied;
 mod headers;

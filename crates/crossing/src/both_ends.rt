@@ -6,7 +6,7 @@ use unit_lines::empty;
 
 // An end and what the program lends it at each call; of the inbox it lends as many cells as the end's record says. The buffers
 // are held by value: a slice that is lent through every function down to the call would cost a proof in each of them.
-#[derive(Drop)]
+#[derive(Clone, Copy)]
 pub struct Side {
     pub send: [u8; 1024],
     pub inbox: [u8; 65535],
@@ -14,7 +14,7 @@ pub struct Side {
 }
 
 // The two sides, the lines between them, and what was met. Of each flow one line leads to the near end, and one to the other.
-#[derive(Drop)]
+#[derive(Clone, Copy)]
 pub struct Joined {
     pub near: Side,
     pub away: Side,

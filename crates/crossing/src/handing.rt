@@ -3,7 +3,7 @@ use check::same;
 use libc::STDOUT_FILENO;
 
 // Whether texts are printed; otherwise how far the answers expected are met, and `same` while they are.
-#[derive(Drop)]
+#[derive(Clone, Copy)]
 pub struct Met {
     pub print: bool,
     pub at: usize,

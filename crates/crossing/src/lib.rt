@@ -1,4 +1,6 @@
 // A script run on two joined ends: each line is read, its call made, and its answer handed out.
+#![tactic(auto)]
+
 mod both_ends;
 mod handing;
 pub mod named;

@@ -9,7 +9,7 @@ use end::End;
 use script::{Flow, Request};
 
 // What a step leaves: what it hands back, and each buffer that was lent to it.
-#[derive(Drop)]
+#[derive(Clone, Copy)]
 struct Made {
     stepped: Stepped,
     send: [u8; 1024],

@@ -11,7 +11,7 @@ use script::{FirstLine, Sizes};
 use unit_lines::Line;
 
 // Both ends within a script, and where the next line begins, with its number.
-#[derive(Drop)]
+#[derive(Clone, Copy)]
 struct Ran {
     joined: Joined,
     at: usize,
@@ -206,7 +206,7 @@ fn run_sizes(
 }
 
 // Where a line begins, with its number.
-#[derive(Drop)]
+#[derive(Clone, Copy)]
 struct Place {
     at: usize,
     number: usize,

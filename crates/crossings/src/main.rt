@@ -1,5 +1,7 @@
 // Two joined ends on the bench: reads a script of calls from standard input, makes each call at the end that it names, and
 // prints what it answered.
+#![tactic(auto)]
+
 use crossing::run::print_answers;
 use libc::STDIN_FILENO;
 

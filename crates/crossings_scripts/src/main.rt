@@ -1,5 +1,7 @@
 // Runs the scripts that its arguments name, one after the other, as `crossings` runs its input: for the stored scripts, whose
 // answers are held to those stored with them.
+#![tactic(auto)]
+
 use crossing::run::print_answers;
 use libc::STDOUT_FILENO;
 

@@ -133,7 +133,7 @@ pub fn signal_unanswered_in_each_state() -> bool {
         & response_taken(State::DeferEnd)
 }
 
-#[derive(Drop)]
+#[derive(Clone, Copy)]
 struct Signalled {
     end: End,
     right: bool,

@@ -1,4 +1,6 @@
 // Named cases that no script can ask for: each makes the delivered calls itself and compares every byte.
+#![tactic(auto)]
+
 mod deferred;
 mod expedited_calls;
 mod forged;

@@ -19,7 +19,7 @@ pub fn begins(cells: &[u8], front: &[u8]) -> bool {
     same(&cells[0..n], front)
 }
 
-#[derive(Drop)]
+#[derive(Clone, Copy)]
 struct Sent {
     end: End,
     right: bool,

@@ -1,4 +1,6 @@
 // One end of a basic conversation on one session: its record, and the calls that a program makes on it.
+#![tactic(auto)]
+
 mod allocate;
 mod close;
 mod confirmed;
@@ -25,7 +27,7 @@ pub use sending::Sending;
 
 // The end's record. `bidding` is the bid's number, `owed` the number owed a confirmation; `expedited` is what it keeps of its expedited
 // lines, which no other part depends on.
-#[derive(Drop)]
+#[derive(Clone, Copy)]
 pub struct End {
     pub control: Control,
     pub sending: Sending,
@@ -36,19 +38,19 @@ pub struct End {
 }
 
 // What a call hands back: its answer and the new end.
-#[derive(Drop)]
+#[derive(Clone, Copy)]
 pub struct Done {
     pub answer: Answer,
     pub end: End,
 }
 
-#[derive(Drop)]
+#[derive(Clone, Copy)]
 pub struct ReadDone {
     pub answer: ReadAnswer,
     pub end: End,
 }
 
-#[derive(Drop)]
+#[derive(Clone, Copy)]
 pub struct ExpeditedDone {
     pub answer: ExpeditedAnswer,
     pub end: End,

@@ -1,4 +1,6 @@
 // The laboratory gives one record and ends; the blender takes the unit, reads the record and prints its data.
+#![tactic(auto)]
+
 use libc::STDOUT_FILENO;
 use session::{Session, open};
 
@@ -14,7 +16,7 @@ fn session(role: u8) -> Session {
 }
 
 // A unit that has gone out: its length, and the buffer at whose front it stands.
-#[derive(Drop)]
+#[derive(Clone, Copy)]
 struct Outgoing {
     length: usize,
     unit: [u8; 69],

@@ -11,7 +11,7 @@ use crate::weights::{
 };
 
 // What byte 0 says: response or request, flow control or data, and so on; `other` is on if one of the bits is that no good header has on.
-#[derive(Drop)]
+#[derive(Clone, Copy)]
 pub struct Byte0 {
     pub response: bool,
     pub flow: bool,
@@ -23,7 +23,7 @@ pub struct Byte0 {
 }
 
 // What byte 1 says: the form of response, and pacing.
-#[derive(Drop)]
+#[derive(Clone, Copy)]
 pub struct Byte1 {
     pub dr1: bool,
     pub dr2: bool,
@@ -33,7 +33,7 @@ pub struct Byte1 {
 }
 
 // What byte 2 says: brackets, and change direction.
-#[derive(Drop)]
+#[derive(Clone, Copy)]
 pub struct Byte2 {
     pub bb: bool,
     pub cd: bool,

@@ -1,5 +1,7 @@
 // The laboratory gives one record and ends; the blender takes the unit, reads the record and prints its data. Both make their calls
 // as the host does, on a record that is changed in place.
+#![tactic(auto)]
+
 use host::by_value;
 use libc::STDOUT_FILENO;
 use session::{Session, open};
@@ -16,7 +18,7 @@ fn session(role: u8) -> Session {
 }
 
 // A unit that has gone out: its length, and the buffer at whose front it stands.
-#[derive(Drop)]
+#[derive(Clone, Copy)]
 struct Outgoing {
     length: usize,
     unit: [u8; 69],

@@ -38,6 +38,8 @@
 // A record place is a kind byte and a value of two bytes: kind 0 between records, value 0; kind 2 past LL, the number of bytes left;
 // kinds 1 and 3 are 0 and 2 where LL says that another part follows; kind 4 after the first LL byte, that byte as the value, at most
 // 255.
+#![tactic(auto)]
+
 pub mod codes;
 pub mod decoding;
 pub mod encoding;
@@ -55,7 +57,7 @@ pub const FORMAT: u8 = 5;
 
 // What an image holds: a record, or a refusal number: 4 where the length is wrong, 5 where the format is another or a value is one
 // that no record has.
-#[derive(Drop)]
+#[derive(Clone, Copy)]
 pub enum ImageRead {
     Record(end::End),
     Refused(u8),

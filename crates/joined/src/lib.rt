@@ -1,5 +1,7 @@
 // Two joined ends. The definitions are in specs/: the two ends, the lines between them, the list of calls, and what is claimed after
 // every list. The functions do nothing; their contracts are the claims, so that a check prints their names and fails if a proof goes.
+#![tactic(auto)]
+
 ghost use Rattle.joined.specs.Claim.{Claim, TheRecords, AlwaysGood};
 ghost use Rattle.joined.specs.Denials.{TheDenials};
 ghost use Rattle.joined.specs.Signals.{TheSignals};

@@ -1,5 +1,7 @@
 // Logical records in a stream of bytes. A logical record is LL, then its data. LL is 2 bytes, high first. Its top bit says that another
 // part follows: a table is sent as several records, its parts. The other 15 bits are the length, LL itself counted.
+#![tactic(auto)]
+
 mod length_field;
 pub mod positions;
 pub mod rest_of_record;
@@ -8,7 +10,7 @@ mod total;
 pub mod walk;
 
 // What LL says.
-#[derive(Drop)]
+#[derive(Clone, Copy)]
 pub enum Length {
     // The length of the record, 2 to 32,767, and whether another part follows.
     Part(u16, bool),
@@ -20,7 +22,7 @@ pub enum Length {
 // Any value may come in, also one that no stream leads to: `is_position` tells the paper's record places from those.
 // Other crates go by this one's functions and definitions and not by the variants, so that a record place may come to hold more;
 // only `image`, which lays a record out in bytes, names them, and examples.
-#[derive(Drop)]
+#[derive(Clone, Copy)]
 pub enum Position {
     // Between records: whether the last record says that another part follows.
     Between(bool),
@@ -31,14 +33,14 @@ pub enum Position {
 }
 
 // What a walk over bytes finds: the record place after them, or a bad LL.
-#[derive(Drop)]
+#[derive(Clone, Copy)]
 pub enum Walked {
     At(Position),
     BadLength,
 }
 
 // The rest of the current record, for a read: the number of its bytes not yet read, or a bad LL.
-#[derive(Drop)]
+#[derive(Clone, Copy)]
 pub enum Rest {
     Bytes(u16),
     BadLength,

@@ -1,11 +1,13 @@
 // Pacing of one direction: the window, the position in it, and how many requests may still go before a pacing response.
 // The same rules serve both directions: the sending end counts its credit by them, the receiving end what it has open.
+#![tactic(auto)]
+
 ghost use Rattle.std.specs.Prelude.{◌≡◌, ◌≤◌};
 ghost use Rattle.pacing.specs.Pacing.{size_good, fresh_window, window_good, whole, left, credit, has_credit, paced, next_position, advanced, answered};
 
 // `size` is document 01's W; `position` its window place; `pending` is its pacing request unanswered (sending) or answer
 // owed (receiving).
-#[derive(Drop)]
+#[derive(Clone, Copy)]
 pub struct Window {
     pub size: u8,
     pub position: u8,

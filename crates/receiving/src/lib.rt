@@ -1,5 +1,7 @@
 // The receiving side of an end: what it keeps, what is asked of it and of a unit that comes, and the bytes read. Nothing here
 // knows the whole end.
+#![tactic(auto)]
+
 pub mod bytes_read_lem;
 pub mod incoming;
 pub mod units_received;
@@ -9,7 +11,7 @@ use pacing::Window;
 
 // The receiving side. `inbox` is the length of the receive buffer (document 01's inbox) and `held` the bytes in it; `number` the
 // last sequence number taken; `taken` and `read` the record places of the bytes taken and of those read.
-#[derive(Drop)]
+#[derive(Clone, Copy)]
 pub struct Receiving {
     pub window: Window,
     pub max: u16,

@@ -1,5 +1,7 @@
 // Named cases of refusals. A case is one text: its name, its script, a line `=`, and the answers that the script must have.
 // A wrong length in the type of a case is refused by the compiler.
+#![tactic(auto)]
+
 mod breaches;
 mod error_due;
 mod error_units;

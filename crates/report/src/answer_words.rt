@@ -9,7 +9,7 @@ use header::Follows;
 use script::{Flow, Request, Verb};
 
 // Letters, filled up with blanks, and how many of them count.
-#[derive(Drop)]
+#[derive(Clone, Copy)]
 pub(crate) struct Word(pub [u8; 14], pub usize);
 
 pub(crate) fn put_word(out: &mut [u8], at: usize, word: Word) -> usize

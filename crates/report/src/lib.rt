@@ -1,4 +1,5 @@
 // What the program `crossings` prints: a line for each call, and two at the end of the input.
+#![tactic(auto)]
 
 pub mod answer_line;
 mod answer_words;

@@ -1,4 +1,6 @@
 // A script of calls on two joined ends: the forms of its lines.
+#![tactic(auto)]
+
 pub mod line_forms;
 mod six_numbers;
 pub mod text;
@@ -9,7 +11,7 @@ use control::Deferred;
 use header::Follows;
 
 // A call that an end answers by itself. Bytes given, and the buffer of a read, stand beside it.
-#[derive(Drop)]
+#[derive(Clone, Copy)]
 pub enum Verb {
     Allocate,
     Confirmed,
@@ -30,14 +32,14 @@ pub enum Verb {
 }
 
 // The two lines on which units come to an end: the normal one, and that of signals and their answers.
-#[derive(Drop)]
+#[derive(Clone, Copy)]
 pub enum Flow {
     Normal,
     Expedited,
 }
 
 // What a line asks: a call, a take of the oldest unit that waits, or a take of a unit that the line gives.
-#[derive(Drop)]
+#[derive(Clone, Copy)]
 pub enum Request {
     Call(Verb),
     Take(Flow),
@@ -45,21 +47,21 @@ pub enum Request {
 }
 
 // A line that asks for a call: at which end, and how many bytes it gives; of a read the cells of its buffer.
-#[derive(Drop)]
+#[derive(Clone, Copy)]
 pub struct Asked {
     pub second: bool,
     pub request: Request,
     pub count: usize,
 }
 
-#[derive(Drop)]
+#[derive(Clone, Copy)]
 pub enum Parsed {
     Call(Asked),
     Bad,
 }
 
 // The first line: window and maximum RU from end 1 to end 2, then from 2 to 1, then the two inbox lengths.
-#[derive(Drop)]
+#[derive(Clone, Copy)]
 pub struct Sizes {
     pub window12: u16,
     pub max12: u16,
@@ -69,7 +71,7 @@ pub struct Sizes {
     pub inbox2: u16,
 }
 
-#[derive(Drop)]
+#[derive(Clone, Copy)]
 pub enum FirstLine {
     Ends(Sizes),
     Bad,

@@ -7,7 +7,7 @@ use bind::{size_of, window_of};
 use end::Done;
 
 // The role, and for each direction the byte of the window and that of the maximum RU.
-#[derive(Drop)]
+#[derive(Clone, Copy)]
 pub struct SessionBytes {
     pub role: u8,
     pub outwindow: u8,

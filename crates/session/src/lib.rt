@@ -1,4 +1,6 @@
 // Opening a session: the questions asked of its sizes and of the buffers, and the end as it starts.
+#![tactic(auto)]
+
 pub mod bind_opening;
 pub mod opening_questions;
 pub mod theorems;
@@ -17,7 +19,7 @@ use sending::outgoing::fresh_sending;
 use transitions::fresh;
 
 // What a session is opened with: the role, and for each direction the window and the maximum RU.
-#[derive(Drop)]
+#[derive(Clone, Copy)]
 pub struct Session {
     pub role: u8,
     pub outwindow: u8,

@@ -1,4 +1,6 @@
 // Every transition of the finite part.
+#![tactic(auto)]
+
 ghost use Rattle.std.specs.Prelude.{◌≡◌, cond};
 ghost use Rattle.transitions.specs.Transitions.{fresh, allocated, begin_of, spilled, after_last, closed, after_owed, confirmation_made};
 ghost use Rattle.transitions.specs.Transitions.{after_mark, mark_answered, mark_of_last, mark_of, data_received, bid_received, bid_answer};

@@ -1,4 +1,6 @@
 // The unit: a 2-byte sequence number, high byte first, the header, and the RU from byte 5 on.
+#![tactic(auto)]
+
 pub mod expedited;
 pub mod maximum;
 pub mod read_unit;
@@ -13,14 +15,14 @@ use header::{ExpeditedHeader, Header, Rule};
 pub const RU_START: usize = 5;
 
 // What stands before a unit's RU.
-#[derive(Drop)]
+#[derive(Clone, Copy)]
 pub struct Heading {
     pub number: u16,
     pub header: Header,
 }
 
 // What a unit says: its heading; or that it is too short for one (refusal 20); or a rule that its header breaks (21).
-#[derive(Drop)]
+#[derive(Clone, Copy)]
 pub enum UnitRead {
     Good(Heading),
     TooShort,
@@ -28,13 +30,13 @@ pub enum UnitRead {
 }
 
 // The same of a unit on an expedited line.
-#[derive(Drop)]
+#[derive(Clone, Copy)]
 pub struct ExpeditedHeading {
     pub number: u16,
     pub header: ExpeditedHeader,
 }
 
-#[derive(Drop)]
+#[derive(Clone, Copy)]
 pub enum ExpeditedUnitRead {
     Good(ExpeditedHeading),
     TooShort,

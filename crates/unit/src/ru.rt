@@ -23,7 +23,7 @@ pub fn data_ru_good(max: usize, d: DataHeader, n: usize) -> bool
 }
 
 // The RU of a kind that has a fixed one: the first len of these bytes. The rest fill the array.
-#[derive(Drop)]
+#[derive(Clone, Copy)]
 pub(crate) struct FixedRu {
     pub bytes: [u8; 7],
     pub len: usize,

@@ -1,5 +1,7 @@
 // A line of units, first in first out, in lent cells: each unit stands behind its length in two bytes, high byte first.
 // Any line and any cells are taken; a line that does not agree with its cells is left as it is.
+#![tactic(auto)]
+
 ghost use Rattle.std.specs.Prelude.{◌≡◌, false, List, [], ◌∷◌, ◌++◌, ℕ, ◌+◌, ◌*◌, ◌≤◌, ◌<◌, leb, length, get_or};
 ghost use Rattle.cells.specs.Cells.{front};
 ghost use Rattle.calls.specs.Calls.{units_of};
@@ -17,7 +19,7 @@ pub const LONGEST_UNIT: usize = 1029;
 const LONGEST_FRAME: usize = 1031;
 
 // The units on a line, and the cells that they take.
-#[derive(Drop)]
+#[derive(Clone, Copy)]
 pub struct Line {
     pub units: u16,
     pub used: usize,

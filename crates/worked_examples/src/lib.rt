@@ -1,5 +1,7 @@
 // Document 01's table 'Proved examples' as one statement about the definitions, further rows, and whole conversations run on them. The
 // functions do nothing; their contracts are the statements, so that a check prints their names and fails if one does not hold.
+#![tactic(auto)]
+
 ghost use Rattle.worked_examples.specs.Table.{Table};
 ghost use Rattle.worked_examples.specs.Further.{FurtherRows};
 ghost use Rattle.worked_examples.specs.Conversations.{Conversations};
