@@ -40,7 +40,7 @@ pub fn is_full(line: Line) -> bool
 }
 
 // A unit may join where there is room for the longest.
-fn has_room_lem(line: Line, cells: usize, n: usize) -> bool
+fn has_room(line: Line, cells: usize, n: usize) -> bool
     ensures { result ≡ has_room line cells n }
 {
     if cells < LONGEST_FRAME {
@@ -68,7 +68,7 @@ pub fn put(line: Line, cells: &mut [u8], unit: &[u8]) -> Line
     ensures kept { has_room line (length cells.old) (length unit.now) ≡ false
         → (result ≡ line) × (cells.new ≡ cells.old) }
 {
-    if has_room_lem(line, cells.len(), unit.len()) {
+    if has_room(line, cells.len(), unit.len()) {
         let at = line.used;
         put_frame(&mut cells[at..], unit);
         Line {

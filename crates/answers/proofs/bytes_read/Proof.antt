@@ -1,8 +1,8 @@
 -- `answers::bytes_read` meets its contract. It is an accepted answer with the count and the flags given, and no mark.
 -- Assumes nothing.
 use borrow.Author.Rules.{rules}
-use Rattle.answers.proofs.bytes_read_lem.Statement.{statement}
-use Rattle.answers.proofs.bytes_read_lem.Tie as tie
+use Rattle.answers.proofs.bytes_read.Statement.{statement}
+use Rattle.answers.proofs.bytes_read.Tie as tie
 
 returns : tie.Need-returns
 returns c = rw c.accept.ensures
