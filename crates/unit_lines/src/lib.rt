@@ -7,7 +7,7 @@ ghost use Rattle.cells.specs.Cells.{front};
 ghost use Rattle.calls.specs.Calls.{units_of};
 ghost use Rattle.unit_lines.specs.UnitLine.{MOST_UNITS, LONGEST_UNIT, LONGEST_FRAME, framed, Holds, has_room, stands, oldest_end, UnitTo};
 
-use cells::move_to_front;
+use cells::{copy, move_to_front};
 
 // A line holds up to 512 units.
 pub const MOST_UNITS: u16 = 512;
@@ -57,7 +57,7 @@ fn put_frame(cells: &mut [u8], unit: &[u8])
     let n = unit.len();
     cells[0] = (n / 256) as u8;
     cells[1] = (n % 256) as u8;
-    bytes::copy(unit, &mut cells[2..]);
+    copy(unit, &mut cells[2..]);
 }
 
 // The unit joins behind those on the line.
