@@ -123,7 +123,7 @@ pub fn read_refuse(number: u8) -> ReadAnswer
 }
 
 // Bytes read, and no mark.
-pub fn bytes_read_lem(copied: usize, complete: bool, more: bool) -> ReadAnswer
+pub fn bytes_read(copied: usize, complete: bool, more: bool) -> ReadAnswer
     ensures { result ≡ read_accepted copied complete more WhatReceived.Nothing }
 {
     ReadAnswer {

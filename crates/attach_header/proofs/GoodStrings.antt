@@ -8,7 +8,7 @@ use native.Mathlib.Omega.{arith}
 use lib.Dec.{leb, eqb}
 use lib.ListN.{length, get_or, take, drop, length-append, length-take, length-drop, take-append-drop}
 use borrow.Author.Tests.{leb-true, eqb-true, eqb-false, ne_eqb}
-use Rattle.bytes.specs.Bytes.{index_of}
+use Rattle.cells.specs.Found.{index_of}
 use Rattle.bools.proofs.Tests.{both, left, right}
 use Rattle.bools.proofs.Cases.{split, never}
 use Rattle.attach_header.specs.Characters.{SPACE, PERIOD, belongs, every, is_empty, unpadded, is_graphic, is_letter, first_good, program_good, data_good, part_good, lu_name_good}

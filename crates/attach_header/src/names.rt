@@ -3,6 +3,7 @@ ghost use Rattle.std.specs.Prelude.{◌≡◌};
 ghost use Rattle.attach_header.specs.Characters.{program_good, data_good, part_good, lu_name_good};
 
 use crate::characters::{all_belong, is_graphic, is_letter};
+use cells::find;
 
 const LONGEST_PROGRAM: usize = 64;
 
@@ -47,7 +48,7 @@ pub(crate) fn lu_name_good(s: &[u8]) -> bool
     ensures { result ≡ lu_name_good s.now }
 {
     let n = s.len();
-    let p = bytes::scan::find(s, 0, n, PERIOD);
+    let p = find(s, 0, n, PERIOD);
     if p == n {
         return part_good(s);
     }

@@ -4,6 +4,7 @@ ghost use Rattle.attach_header.specs.Characters.{unpadded, SPACE};
 ghost use Rattle.attach_header.specs.Fields.{string_of};
 
 use crate::SymbolString;
+use cells::copy;
 
 // Fills a string out to the right, and is no part of it.
 const SPACE: u8 = 0x40;
@@ -39,7 +40,7 @@ pub(crate) fn symbol_string(s: &[u8]) -> SymbolString
 {
     let n = unpadded_length(s);
     let mut bytes = [0u8; 64];
-    bytes::copy(&s[..n], &mut bytes);
+    copy(&s[..n], &mut bytes);
     SymbolString {
         length: n as u8,
         bytes,

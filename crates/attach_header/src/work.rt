@@ -8,6 +8,7 @@ use crate::SymbolString;
 use crate::names::lu_name_good;
 use crate::parts::part_at;
 use crate::strings::{symbol_string, unpadded_length};
+use cells::copy;
 
 const LONGEST_LU_NAME: usize = 17;
 
@@ -45,7 +46,7 @@ fn instance_of(numbers: &[u8]) -> [u8; 6]
     ensures { result ≡ front (take 6 numbers.now) (replicate 6 0) }
 {
     let mut instance = [0u8; 6];
-    bytes::copy(&numbers[..INSTANCE], &mut instance);
+    copy(&numbers[..INSTANCE], &mut instance);
     instance
 }
 
@@ -54,7 +55,7 @@ fn sequence_of(numbers: &[u8]) -> [u8; 2]
     ensures { result ≡ front (drop 6 numbers.now) (replicate 2 0) }
 {
     let mut sequence = [0u8; 2];
-    bytes::copy(&numbers[INSTANCE..], &mut sequence);
+    copy(&numbers[INSTANCE..], &mut sequence);
     sequence
 }
 

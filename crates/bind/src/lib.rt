@@ -59,7 +59,7 @@ fn byte_of(size: u32) -> u8
     }
 }
 
-fn no_byte_lem(number: u8) -> SizeByte
+fn no_byte(number: u8) -> SizeByte
     ensures { result ≡ no_byte number }
 {
     SizeByte {
@@ -73,11 +73,11 @@ pub fn size_byte(size: u32) -> SizeByte
     ensures { result ≡ size_byte size }
 {
     if !max_good(size) {
-        return no_byte_lem(BAD_MAXIMUM);
+        return no_byte(BAD_MAXIMUM);
     }
     let byte = byte_of(size);
     if byte == 0 {
-        return no_byte_lem(NO_SIZE_BYTE);
+        return no_byte(NO_SIZE_BYTE);
     }
     SizeByte {
         answer: accept(0),

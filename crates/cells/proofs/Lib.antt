@@ -3,3 +3,4 @@ pub mod Fronts
 pub mod PartLent
 pub mod Copies
 pub mod Equal
+pub mod Finds

@@ -1,10 +1,22 @@
-// Cells of a lent buffer: what a call leaves in them. Between two buffers the kit's `bytes::copy` moves bytes;
-// what it lacks, a move within one buffer, is here. Two buffers compared.
+// Cells of a lent buffer: what a call leaves in them. Bytes copied from one buffer to the front of another, and moved to the
+// front of their own. Two buffers compared, and a byte looked for in one.
 #![tactic(auto)]
 
-ghost use Rattle.std.specs.Prelude.{◌≡◌, drop};
+ghost use Rattle.std.specs.Prelude.{◌≡◌, ◌+◌, ◌≤◌, ◌++◌, length, take, drop, slice_range};
 ghost use Rattle.cells.specs.Cells.{front};
 ghost use Rattle.cells.specs.Equal.{same_bytes};
+ghost use Rattle.cells.specs.Found.{index_of};
+
+// Copies the bytes to the front of `to`, and answers how many there are. Cells past them keep what they had.
+pub fn copy(from: &[u8], to: &mut [u8]) -> usize
+    requires { length from.now ≤ length to.old }
+    ensures count { result ≡ length from.now }
+    ensures cells { to.new ≡ take (length from.now) from.now ++ drop (length from.now) to.old }
+{
+    let n = from.len();
+    to[..n].copy_from_slice(from);
+    n
+}
 
 // Moves the cells from `from` on to the front of a. Cells past those that arrive keep what they had; a `from` past the
 // end moves nothing.
@@ -25,4 +37,19 @@ pub fn same(a: &[u8], b: &[u8]) -> bool
     ensures { result ≡ same_bytes a.now b.now }
 {
     check::same(a, b)
+}
+
+// The place of the first such byte from `from` on and before `to`; `to` where there is none.
+pub fn find(text: &[u8], from: usize, to: usize, byte: u8) -> usize
+    requires start { from ≤ to }
+    requires end { to ≤ length text.now }
+    ensures place { result ≡ from + index_of byte (slice_range text.now from to) }
+    ensures within { result ≤ to }
+{
+    for i in from..to {
+        if text[i] == byte {
+            return i;
+        }
+    }
+    to
 }

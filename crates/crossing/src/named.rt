@@ -1,6 +1,6 @@
 // A named case as one text: its name on the first line, then its script, a line `=`, and the answers that the script must have.
 use crate::run::answers_as;
-use bytes::scan::find;
+use cells::find;
 use check::same;
 
 // What follows the first line, run. No script has the byte `=`.

@@ -5,6 +5,8 @@ ghost use Rattle.std.specs.Prelude.{◌≡◌, ◌<◌};
 ghost use Rattle.digits.specs.PutAt.{put_at};
 ghost use Rattle.digits.specs.Printed.{hex_digit, hex_byte, hex_of, hex_word_of, decimal_of};
 
+use cells::copy;
+
 pub fn put(out: &mut [u8], at: usize, text: &[u8]) -> usize
     ensures { (result, out.new) ≡ put_at text.now at out.old }
 {
@@ -14,7 +16,7 @@ pub fn put(out: &mut [u8], at: usize, text: &[u8]) -> usize
     if out.len() - at < text.len() {
         return at;
     }
-    bytes::copy(text, &mut out[at..]);
+    copy(text, &mut out[at..]);
     at + text.len()
 }
 

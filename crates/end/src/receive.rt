@@ -7,7 +7,7 @@ use crate::results::read_refused;
 use crate::{End, ReadDone};
 use answers::first_no::then_ask;
 use answers::numbers::{BAD_BUFFER, BAD_LENGTH, BAD_LL, BAD_RECORD, NOTHING_TO_READ};
-use answers::{bytes_read_lem, mark_read};
+use answers::{bytes_read, mark_read};
 use logical_record::Rest;
 use logical_record::positions::{is_between, more_follows};
 use receiving::bytes_read::{after_read, copy_count, hand_over, record_rest, rest_good, some_held};
@@ -38,7 +38,7 @@ impl End {
         let next = after_read(self.receiving, k, inbox);
         let place = next.read;
         ReadDone {
-            answer: bytes_read_lem(k, is_between(place), more_follows(place)),
+            answer: bytes_read(k, is_between(place), more_follows(place)),
             end: self.with_receiving(next),
         }
     }

@@ -5,7 +5,7 @@ ghost use Rattle.image.specs.ImageParts.{place_at};
 ghost use Rattle.image.specs.Image.{IMAGE, format_good, codes_good, flags_good, sending_in, receiving_in, expedited_in, record_in, image_read};
 
 use crate::codes::{follows_of, mark_of, state_of};
-use crate::image_parts::{number_at, place_at_lem, place_good_at};
+use crate::image_parts::{number_at, place_at, place_good_at};
 use crate::{FORMAT, IMAGE, ImageRead};
 use answers::numbers::{BAD_BUFFER, BAD_RECORD};
 use control::Control;
@@ -129,14 +129,14 @@ pub fn read_image(image: &[u8]) -> ImageRead
     if place_good_at(image, 18) {} else {
         return ImageRead::Refused(BAD_RECORD);
     }
-    let given = place_at_lem(image, 18);
+    let given = place_at(image, 18);
     if place_good_at(image, 32) {} else {
         return ImageRead::Refused(BAD_RECORD);
     }
-    let taken = place_at_lem(image, 32);
+    let taken = place_at(image, 32);
     if place_good_at(image, 35) {} else {
         return ImageRead::Refused(BAD_RECORD);
     }
-    let read = place_at_lem(image, 35);
+    let read = place_at(image, 35);
     ImageRead::Record(record_in(image, given, taken, read))
 }

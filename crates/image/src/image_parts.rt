@@ -69,7 +69,7 @@ fn place_value(p: Position) -> u16
     }
 }
 
-pub fn place_at_lem(image: &[u8], at: usize) -> Position
+pub fn place_at(image: &[u8], at: usize) -> Position
     requires { at + 3 ≤ length image.now }
     ensures { result ≡ place_at image.now at }
 {

@@ -11,7 +11,7 @@ use end::End;
 use logical_record::Position;
 
 // The first LL byte, where the place is after it. Read here so that the proof knows it for a u8.
-fn first_byte_lem(p: Position) -> u8
+fn first_byte(p: Position) -> u8
     ensures { result ≡ first_byte p }
 {
     match p {
@@ -30,9 +30,9 @@ pub fn written_is_read(end: End)
     let given = sending.given;
     let taken = receiving.taken;
     let read = receiving.read;
-    first_byte_lem(given);
-    first_byte_lem(taken);
-    first_byte_lem(read);
+    first_byte(given);
+    first_byte(taken);
+    first_byte(read);
 }
 
 // Every image that holds a record is what writing that record leaves, byte for byte.

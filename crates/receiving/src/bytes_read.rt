@@ -6,7 +6,7 @@ ghost use Rattle.logical_record.specs.RestOfRecord.{rest};
 ghost use Rattle.receiving.specs.BytesRead.{rest_good, rest_bytes, bytes_gone};
 
 use crate::Receiving;
-use cells::move_to_front;
+use cells::{copy, move_to_front};
 use logical_record::rest_of_record::rest_of_record;
 use logical_record::walk::{place_or, walk_over};
 use logical_record::{Position, Rest};
@@ -68,7 +68,7 @@ pub fn hand_over(inbox: &mut [u8], held: usize, k: usize, buffer: &mut [u8])
     ensures copied { buffer.new ≡ front (take k inbox.old) buffer.old }
     ensures moved { inbox.new ≡ front (drop k (take held inbox.old)) inbox.old }
 {
-    bytes::copy(&inbox[..k], buffer);
+    copy(&inbox[..k], buffer);
     move_to_front(&mut inbox[..held], k);
 }
 

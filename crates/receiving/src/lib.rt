@@ -2,7 +2,7 @@
 // knows the whole end.
 #![tactic(auto)]
 
-pub mod bytes_read_lem;
+pub mod bytes_read;
 pub mod incoming;
 pub mod units_received;
 

@@ -12,6 +12,7 @@ use answers::first_no::then_ask;
 use answers::numbers::{
     BAD_BRACKET, BAD_CHAIN, BAD_NUMBER, BAD_PACING, BAD_RECORDS, BAD_RESPONSE, BAD_RU, BAD_STATE,
 };
+use cells::copy;
 use control::Control;
 use control::state_tests::agree;
 use header::build::{begins_bracket, is_first};
@@ -156,7 +157,7 @@ pub fn join(before: u16, after: u16, taken: &[u8], inbox: &mut [u8])
         return;
     }
     let from = before as usize;
-    bytes::copy(&taken[RU_START..], &mut inbox[from..]);
+    copy(&taken[RU_START..], &mut inbox[from..]);
 }
 
 // The number owed is that of the last unit that asked for a confirmation.

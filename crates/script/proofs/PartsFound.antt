@@ -8,12 +8,12 @@ use native.Mathlib.Omega.{arith}
 use lib.ListN.{length, take, drop, drop_of_length-le}
 use lib.Seq.{take-length, drop-length}
 use borrow.Rule.Slice.PartMut.{mid_of}
-use Rattle.bytes.specs.Bytes.{index_of, slice}
+use Rattle.std.specs.Prelude.{slice_range}
+use Rattle.cells.specs.Found.{index_of}
 use Rattle.cells.proofs.PartLent.{part_is}
 
 -- a place that was found in the whole of a text
-pub found_in_all : (b : ℕ) (text : List ℕ) → 0 + index_of b (slice 0 (length text) text) ≡ index_of b text
-unfolding slice
+pub found_in_all : (b : ℕ) (text : List ℕ) → 0 + index_of b (slice_range text 0 (length text)) ≡ index_of b text
 found_in_all b text = zero-add (index_of b (take (length text) text)) ∙ ap (index_of b) (take-length text)
 
 -- nothing stands behind the end

@@ -1,7 +1,7 @@
 -- How long a script may be, where a line of it ends, what of a line is read, and which lines are passed over.
 -- Assumes nothing.
-use Rattle.std.specs.Prelude.{ℕ, ◌+◌, ◌-◌, Bool, cond, ◌||◌, List, eqb, ltb, length, get_or}
-use Rattle.bytes.specs.Bytes.{slice, index_of}
+use Rattle.std.specs.Prelude.{ℕ, ◌+◌, ◌-◌, Bool, cond, ◌||◌, List, eqb, ltb, length, get_or, slice_range}
+use Rattle.cells.specs.Found.{index_of}
 
 -- the bytes of the longest script
 abbrev pub SCRIPT_MOST : ℕ
@@ -13,7 +13,7 @@ too_long bytes = ltb SCRIPT_MOST bytes
 
 -- at the next byte 0A, or at the end of the text
 unfoldable pub line_end : ℕ → List ℕ → ℕ
-line_end from text = cond (ltb (length text) from) (length text) (from + index_of 0x0A (slice from (length text) text))
+line_end from text = cond (ltb (length text) from) (length text) (from + index_of 0x0A (slice_range text from (length text)))
 
 -- a line without one byte 0D at its end: so many bytes of it
 abbrev pub text_length : List ℕ → ℕ

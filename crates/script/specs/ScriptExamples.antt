@@ -1,8 +1,8 @@
 -- The definitions at work, each computed: the lines of a script, with bytes and lines at their bounds.
 -- Assumes nothing.
 use Rattle.std.specs.Prelude.{◌≡◌, refl, true, false, [], ◌∷◌}
-use Rattle.bytes.specs.Bytes.{index_of, index_after}
 use Rattle.cells.specs.Equal.{same_bytes}
+use Rattle.cells.specs.Found.{index_of}
 use Rattle.script.specs.TextParts.{begins, word_of, behind_word}
 use Rattle.digits.specs.DecimalRead.{read_on, number_of}
 use Rattle.digits.specs.HexadecimalRead.{are_pairs, bytes_of, bytes_read}
@@ -30,22 +30,22 @@ one_more_not_read = refl
 
 -- `ends 3 64 3 64 192 192`
 ends : first_line_of (0x65 ∷ 0x6E ∷ 0x64 ∷ 0x73 ∷ 0x20 ∷ 0x33 ∷ 0x20 ∷ 0x36 ∷ 0x34 ∷ 0x20 ∷ 0x33 ∷ 0x20 ∷ 0x36 ∷ 0x34 ∷ 0x20 ∷ 0x31 ∷ 0x39 ∷ 0x32 ∷ 0x20 ∷ 0x31 ∷ 0x39 ∷ 0x32 ∷ []) ≡ first.Ends (record { window12 = 3; max12 = 64; window21 = 3; max21 = 64; inbox1 = 192; inbox2 = 192 })
-unfolding first_line_of sizes_of begins same_bytes word_of behind_word index_of index_after number_of read_on
+unfolding first_line_of sizes_of begins same_bytes word_of behind_word index_of number_of read_on
 ends = refl
 
 -- `ends 3 64 3 64 192`: five numbers
 ends_five : first_line_of (0x65 ∷ 0x6E ∷ 0x64 ∷ 0x73 ∷ 0x20 ∷ 0x33 ∷ 0x20 ∷ 0x36 ∷ 0x34 ∷ 0x20 ∷ 0x33 ∷ 0x20 ∷ 0x36 ∷ 0x34 ∷ 0x20 ∷ 0x31 ∷ 0x39 ∷ 0x32 ∷ []) ≡ first.Bad
-unfolding first_line_of sizes_of begins same_bytes word_of behind_word index_of index_after number_of read_on
+unfolding first_line_of sizes_of begins same_bytes word_of behind_word index_of number_of read_on
 ends_five = refl
 
 -- `ends 3 64 3 64 192 192 `: a blank behind the sixth
 ends_blank_behind : first_line_of (0x65 ∷ 0x6E ∷ 0x64 ∷ 0x73 ∷ 0x20 ∷ 0x33 ∷ 0x20 ∷ 0x36 ∷ 0x34 ∷ 0x20 ∷ 0x33 ∷ 0x20 ∷ 0x36 ∷ 0x34 ∷ 0x20 ∷ 0x31 ∷ 0x39 ∷ 0x32 ∷ 0x20 ∷ 0x31 ∷ 0x39 ∷ 0x32 ∷ 0x20 ∷ []) ≡ first.Bad
-unfolding first_line_of sizes_of begins same_bytes word_of behind_word index_of index_after number_of read_on
+unfolding first_line_of sizes_of begins same_bytes word_of behind_word index_of number_of read_on
 ends_blank_behind = refl
 
 -- `ends 3  64 3 64 192 192`: two blanks
 ends_two_blanks : first_line_of (0x65 ∷ 0x6E ∷ 0x64 ∷ 0x73 ∷ 0x20 ∷ 0x33 ∷ 0x20 ∷ 0x20 ∷ 0x36 ∷ 0x34 ∷ 0x20 ∷ 0x33 ∷ 0x20 ∷ 0x36 ∷ 0x34 ∷ 0x20 ∷ 0x31 ∷ 0x39 ∷ 0x32 ∷ 0x20 ∷ 0x31 ∷ 0x39 ∷ 0x32 ∷ []) ≡ first.Bad
-unfolding first_line_of sizes_of begins same_bytes word_of behind_word index_of index_after number_of read_on
+unfolding first_line_of sizes_of begins same_bytes word_of behind_word index_of number_of read_on
 ends_two_blanks = refl
 
 -- ---- lines that ask for a call; 2,048 cells are lent

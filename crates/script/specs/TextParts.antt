@@ -2,7 +2,7 @@
 -- Assumes nothing.
 use Rattle.std.specs.Prelude.{ℕ, ◌+◌, Bool, List, length, take, drop}
 use Rattle.cells.specs.Equal.{same_bytes}
-use Rattle.bytes.specs.Bytes.{index_of}
+use Rattle.cells.specs.Found.{index_of}
 
 -- its first bytes are those of the word
 unfoldable pub begins : List ℕ → List ℕ → Bool

@@ -2,6 +2,8 @@
 ghost use Rattle.std.specs.Prelude.{◌≤◌, ◌≡◌, length};
 ghost use Rattle.script.specs.LineEnds.{too_long, line_end, text_length, passed_over};
 
+use cells::find;
+
 // 1 MiB.
 const SCRIPT_MOST: usize = 1048576;
 
@@ -23,7 +25,7 @@ pub fn line_end(text: &[u8], from: usize) -> usize
     if n < from {
         return n;
     }
-    bytes::scan::find(text, from, n, b'\n')
+    find(text, from, n, b'\n')
 }
 
 // How much of a line is its text: all but one byte 0D at its end.

@@ -2,7 +2,7 @@
 ghost use Rattle.std.specs.Prelude.{◌≡◌, take, drop};
 ghost use Rattle.script.specs.TextParts.{begins, word_of, behind_word};
 
-use cells::same;
+use cells::{find, same};
 
 const BLANK: u8 = 0x20;
 
@@ -35,12 +35,12 @@ pub(crate) fn begins(text: &[u8], word: &[u8]) -> bool
 pub(crate) fn word(text: &[u8]) -> &[u8]
     ensures { result.now ≡ word_of text.now }
 {
-    first(text, bytes::scan::find(text, 0, text.len(), BLANK))
+    first(text, find(text, 0, text.len(), BLANK))
 }
 
 // The bytes behind the first blank; where there is none, none.
 pub(crate) fn behind_word(text: &[u8]) -> &[u8]
     ensures { result.now ≡ behind_word text.now }
 {
-    behind(text, bytes::scan::find(text, 0, text.len(), BLANK) + 1)
+    behind(text, find(text, 0, text.len(), BLANK) + 1)
 }

@@ -6,6 +6,7 @@ ghost use Rattle.unit.specs.Unit.{unit_of};
 ghost use Rattle.sending.specs.Sending.{keeps, bytes_added};
 
 use crate::Sending;
+use cells::copy;
 use header::Header;
 use logical_record::Walked;
 use logical_record::walk::{place_or, walk_over};
@@ -58,7 +59,7 @@ pub fn keep(held: u16, bytes: &[u8], send: &mut [u8])
     ensures { send.new ≡ written held bytes.now send.old }
 {
     let from = held as usize;
-    bytes::copy(bytes, &mut send[from..]);
+    copy(bytes, &mut send[from..]);
 }
 
 // Makes the unit of the bytes held.
@@ -88,5 +89,5 @@ pub fn send_full(
     ensures kept { send.new ≡ front (drop gone bytes.now) send.old }
 {
     write_unit(unit, number, header, &send[..held], &bytes[..gone]);
-    bytes::copy(&bytes[gone..], send);
+    copy(&bytes[gone..], send);
 }

@@ -6,6 +6,7 @@ ghost use Rattle.unit.specs.Ru.{fixed_ru};
 
 use crate::RU_START;
 use crate::ru::fixed_ru;
+use cells::copy;
 use header::build::build_header;
 use header::{Header, HeaderBytes};
 
@@ -26,8 +27,8 @@ fn write_ru(ru: &mut [u8], a: &[u8], b: &[u8])
     requires { length a.now + length b.now ≤ length ru.old }
     ensures { ru.new ≡ front (a.now ++ b.now) ru.old }
 {
-    let n = bytes::copy(a, ru);
-    bytes::copy(b, &mut ru[n..]);
+    let n = copy(a, ru);
+    copy(b, &mut ru[n..]);
 }
 
 // Makes the unit of this number and these bytes of a header, on any line, whose RU is the bytes of a and then those of b, and answers

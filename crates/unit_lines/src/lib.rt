@@ -7,7 +7,7 @@ ghost use Rattle.cells.specs.Cells.{front};
 ghost use Rattle.calls.specs.Calls.{units_of};
 ghost use Rattle.unit_lines.specs.UnitLine.{MOST_UNITS, LONGEST_UNIT, LONGEST_FRAME, framed, Holds, has_room, stands, oldest_end, UnitTo};
 
-use cells::move_to_front;
+use cells::{copy, move_to_front};
 
 // A line holds up to 512 units.
 pub const MOST_UNITS: u16 = 512;
@@ -40,7 +40,7 @@ pub fn is_full(line: Line) -> bool
 }
 
 // A unit may join where there is room for the longest.
-fn has_room_lem(line: Line, cells: usize, n: usize) -> bool
+fn has_room(line: Line, cells: usize, n: usize) -> bool
     ensures { result ≡ has_room line cells n }
 {
     if cells < LONGEST_FRAME {
@@ -57,7 +57,7 @@ fn put_frame(cells: &mut [u8], unit: &[u8])
     let n = unit.len();
     cells[0] = (n / 256) as u8;
     cells[1] = (n % 256) as u8;
-    bytes::copy(unit, &mut cells[2..]);
+    copy(unit, &mut cells[2..]);
 }
 
 // The unit joins behind those on the line.
@@ -68,7 +68,7 @@ pub fn put(line: Line, cells: &mut [u8], unit: &[u8]) -> Line
     ensures kept { has_room line (length cells.old) (length unit.now) ≡ false
         → (result ≡ line) × (cells.new ≡ cells.old) }
 {
-    if has_room_lem(line, cells.len(), unit.len()) {
+    if has_room(line, cells.len(), unit.len()) {
         let at = line.used;
         put_frame(&mut cells[at..], unit);
         Line {

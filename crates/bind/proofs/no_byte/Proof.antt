@@ -1,8 +1,8 @@
 -- `bind::no_byte` meets its contract. The answer is the refusal's.
 -- Assumes nothing.
 use borrow.Author.Rules.{rules}
-use Rattle.bind.proofs.no_byte_lem.Statement.{statement}
-use Rattle.bind.proofs.no_byte_lem.Tie as tie
+use Rattle.bind.proofs.no_byte.Statement.{statement}
+use Rattle.bind.proofs.no_byte.Tie as tie
 
 returns : tie.Need-returns
 returns c = rw c.refuse.ensures

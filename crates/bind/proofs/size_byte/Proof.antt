@@ -10,7 +10,7 @@ use Rattle.bind.proofs.size_byte.Tie as tie
 returns : tie.Need-returns
 returns c =
     let good = c.before.before.max_good in
-    c.no_byte_lem.ensures ∙ sym (out_of_range _ (sym good.ensures ∙ not-true good.result c.before.if1.true))
+    c.no_byte.ensures ∙ sym (out_of_range _ (sym good.ensures ∙ not-true good.result c.before.if1.true))
 
 byte-of-requires : tie.Need-byte-of-requires
 byte-of-requires c κs = sym c.before.max_good.ensures ∙ not-false c.before.max_good.result c.if1.false

@@ -3,8 +3,8 @@
 use mathlib.Core.Path.{sym}
 use native.Mathlib.Omega.{arith}
 use Rattle.unit_lines.proofs.PutAndRemoved.{room_is, no_room}
-use Rattle.unit_lines.proofs.has_room_lem.Statement.{statement}
-use Rattle.unit_lines.proofs.has_room_lem.Tie as tie
+use Rattle.unit_lines.proofs.has_room.Statement.{statement}
+use Rattle.unit_lines.proofs.has_room.Tie as tie
 
 pub has-room-spec : {M : Type 1} → statement M
 has-room-spec =

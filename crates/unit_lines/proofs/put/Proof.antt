@@ -15,7 +15,7 @@ room_at : (c : tie.Then1)
     → (let a = c.before.before.before.before.args in (a.line.units < 512) × (length a.unit.now ≤ 1029) × (a.line.used + 1031 ≤ length a.cells.now))
 room_at c =
     let a = c.before.before.before.before.args in
-    room_for a.line (length a.cells.now) (length a.unit.now) (sym c.before.has_room_lem.ensures ∙ c.if1.true)
+    room_for a.line (length a.cells.now) (length a.unit.now) (sym c.before.has_room.ensures ∙ c.if1.true)
 
 add-t11 : tie.Need-overflow-add-t11
 add-t11 c = omega (arith, (room_at c.before.before.before.before.before).2, c.before.before.before.before.before.before.before.before.before.well-formed)
@@ -29,13 +29,13 @@ returns c =
     let a = c.before.before.before.before.before.before.before.before.before.args in
     let e = part_back a.line.used a.cells.now c.before.before.before.put-frame.new.0 in (
       λ us h m s. rw (e, c.before.before.before.put-frame.ensures, part_is) (joined a.line a.cells.now us a.unit.now h m s),
-      λ f. absurd (apart (sym c.before.before.before.before.before.before.has_room_lem.ensures ∙ c.before.before.before.before.before.if1.true) f),
+      λ f. absurd (apart (sym c.before.before.before.before.before.before.has_room.ensures ∙ c.before.before.before.before.before.if1.true) f),
     )
 
 returns-2 : tie.Need-returns-2
 returns-2 c =
     let a = c.before.before.before.before.args in (
-      λ us h m s. absurd (apart (has_room_lem a.line a.cells.now us (length a.unit.now) h m s) (sym c.before.has_room_lem.ensures ∙ c.if1.false)),
+      λ us h m s. absurd (apart (has_room_lem a.line a.cells.now us (length a.unit.now) h m s) (sym c.before.has_room.ensures ∙ c.if1.false)),
       λ f. (refl, refl),
     )
 

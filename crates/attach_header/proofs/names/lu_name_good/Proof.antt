@@ -7,7 +7,8 @@ use lib.ListN.{length}
 use lib.Seq.{length-take-le, take-length}
 use native.Mathlib.Nat.{zero-add}
 use mathlib.Core.List.{List}
-use Rattle.bytes.specs.Bytes.{index_of, slice}
+use Rattle.std.specs.Prelude.{slice_range}
+use Rattle.cells.specs.Found.{index_of}
 use borrow.Author.Rules.{rules}
 use borrow.Author.Tests.{eq-eqb, ne_eqb}
 use Rattle.cells.proofs.PartLent.{part_is}
@@ -16,8 +17,7 @@ use Rattle.attach_header.proofs.names.lu_name_good.Statement.{statement}
 use Rattle.attach_header.proofs.names.lu_name_good.Tie as tie
 
 -- the whole string is searched
-found : (s : List ℕ) {r : ℕ} → r ≡ 0 + index_of PERIOD (slice 0 (length s) s) → r ≡ index_of PERIOD s
-unfolding slice
+found : (s : List ℕ) {r : ℕ} → r ≡ 0 + index_of PERIOD (slice_range s 0 (length s)) → r ≡ index_of PERIOD s
 found s e = e ∙ rw (zero-add, take-length s) refl
 
 returns : tie.Need-returns

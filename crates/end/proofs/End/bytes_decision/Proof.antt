@@ -9,7 +9,7 @@ returns : tie.Need-returns
 unfolding bytes_read copy_count
 returns c = rw (
   c.with-receiving.ensures,
-  c.before.bytes_read_lem.ensures,
+  c.before.bytes_read.ensures,
   c.before.before.more_follows.ensures,
   c.before.before.before.is-between.ensures,
   c.before.before.before.before.after_read.ensures,

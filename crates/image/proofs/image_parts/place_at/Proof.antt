@@ -2,8 +2,8 @@
 -- Assumes nothing.
 use borrow.Author.Rules.{rules}
 use Rattle.image.proofs.KindsFit.{between_place, past_place}
-use Rattle.image.proofs.image_parts.place_at_lem.Statement.{statement}
-use Rattle.image.proofs.image_parts.place_at_lem.Tie as tie
+use Rattle.image.proofs.image_parts.place_at.Statement.{statement}
+use Rattle.image.proofs.image_parts.place_at.Tie as tie
 
 returns : tie.Need-returns
 returns c = let a = c.before.before.before.args in between_place a.image.now a.at c.if1.true

@@ -7,7 +7,7 @@ use Rattle.image.proofs.theorems.written_is_read.Tie as tie
 
 returns : tie.Need-returns
 returns c = let e = c.before.before.before.before.before.args.end in
-    written_is_read e (rw (← c.before.before.first_byte_lem.ensures) (search rules))
+    written_is_read e (rw (← c.before.before.first_byte.ensures) (search rules))
     (rw (← c.before.first-byte2.ensures) (search rules)) (rw (← c.first-byte3.ensures) (search rules))
 
 pub written-is-read-spec : {M : Type 1} → statement M

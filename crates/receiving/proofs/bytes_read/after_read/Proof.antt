@@ -4,8 +4,8 @@ use mathlib.Core.Path.{sym}
 use native.Mathlib.Omega.{arith}
 use lib.Seq.{length-take-le}
 use borrow.Author.Rules.{rules}
-use Rattle.receiving.proofs.bytes_read_lem.after_read.Statement.{statement}
-use Rattle.receiving.proofs.bytes_read_lem.after_read.Tie as tie
+use Rattle.receiving.proofs.bytes_read.after_read.Statement.{statement}
+use Rattle.receiving.proofs.bytes_read.after_read.Tie as tie
 
 slice-aggregate-walk-over : tie.Need-slice-aggregate-walk-over
 slice-aggregate-walk-over c =

@@ -6,8 +6,8 @@ use lib.ListN.{take, drop, length-drop}
 use lib.Seq.{length-take-le}
 use Rattle.cells.proofs.Copies.{copy_front, front_within}
 use borrow.Author.Rules.{rules}
-use Rattle.receiving.proofs.bytes_read_lem.hand_over.Statement.{statement}
-use Rattle.receiving.proofs.bytes_read_lem.hand_over.Tie as tie
+use Rattle.receiving.proofs.bytes_read.hand_over.Statement.{statement}
+use Rattle.receiving.proofs.bytes_read.hand_over.Tie as tie
 
 slice-aggregate-copy : tie.Need-slice-aggregate-copy
 slice-aggregate-copy c = sym (length-take-le c.before.before.before.args.k c.before.before.before.args.inbox.now (omega (arith, c.before.before.before.requires)))

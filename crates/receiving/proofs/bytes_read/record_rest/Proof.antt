@@ -5,8 +5,8 @@ use native.Mathlib.Omega.{arith}
 use lib.Seq.{length-take-le}
 use Rattle.receiving.proofs.TakeAtMost.{take_least}
 use borrow.Author.Rules.{rules}
-use Rattle.receiving.proofs.bytes_read_lem.record_rest.Statement.{statement}
-use Rattle.receiving.proofs.bytes_read_lem.record_rest.Tie as tie
+use Rattle.receiving.proofs.bytes_read.record_rest.Statement.{statement}
+use Rattle.receiving.proofs.bytes_read.record_rest.Tie as tie
 
 slice-aggregate-rest-of-record : tie.Need-slice-aggregate-rest-of-record
 slice-aggregate-rest-of-record c = sym (length-take-le c.before.least.result c.before.before.before.before.args.inbox.now (omega (arith, c.before.least.ensures)))

@@ -6,7 +6,8 @@ use native.Mathlib.Omega.{arith}
 use lib.ListN.{length}
 use borrow.Author.Rules.{rules}
 use borrow.Author.Tests.{lt-ltb, le-ltb}
-use Rattle.bytes.specs.Bytes.{slice, index_of}
+use Rattle.std.specs.Prelude.{slice_range}
+use Rattle.cells.specs.Found.{index_of}
 use Rattle.script.specs.LineEnds.{line_end}
 use Rattle.script.proofs.text.line_end.Statement.{statement}
 use Rattle.script.proofs.text.line_end.Tie as tie
@@ -22,7 +23,7 @@ unfolding line_end
 returns-2 c =
     let a = c.before.before.before.args in
     let h : a.from ≤ length a.text.now = omega arith in
-    let e : c.find.result ≡ a.from + index_of 0x0A (slice a.from (length a.text.now) a.text.now) = c.find.ensures.0 in (
+    let e : c.find.result ≡ a.from + index_of 0x0A (slice_range a.text.now a.from (length a.text.now)) = c.find.ensures.0 in (
       e ∙ sym (simp (le-ltb (length a.text.now) a.from h) refl),
       c.find.ensures.1,
       λ _. omega (arith, e),

@@ -1,0 +1,10 @@
+-- `control::state_tests::role_of` meets its contract. Number 0 is the first speaker, any other the bidder.
+-- Assumes nothing.
+use borrow.Author.Tests.{eq-eqb, ne_eqb}
+use Rattle.control.proofs.state_tests.role_of.Goals as goal
+
+pub returns-then-number-eq0 : goal.returns-then-number-eq0
+returns-then-number-eq0 c = rw (eq-eqb _ _ c.if-number-eq0.true)
+
+pub returns-else-number-eq0 : goal.returns-else-number-eq0
+returns-else-number-eq0 c = rw (ne_eqb _ _ c.if-number-eq0.false)
