@@ -1,36 +1,23 @@
--- The fixed RUs, by the kinds that an arm of a `match` takes together: an arm tells their tags.
+-- The fixed RUs, by the kinds that an arm of a `match` takes together.
 -- Assumes nothing.
-use Rattle.std.proofs.Common.{◌≡◌, ℕ, List, [], ◌∷◌, refl}
-use types.Run.{OneOf, miss}
-use denote.Enum.Declared.{tag_of}
+use Rattle.std.proofs.Common.{◌≡◌, ℕ, List, [], refl, ◌⊎◌, inl, inr}
 use Rattle.cells.specs.Equal.{same_bytes}
 use Rattle.unit.specs.Ru.{fixed_ru, ru_good}
+use Rattle.header.specs.declared.DataHeader.{DataHeader}
 use Rattle.header.specs.declared.Header.{Header}
 use Rattle.header.specs.declared.Header.TheVariants.{Data, Bid, ErrorDescription}
 use Rattle.header.specs.declared.Header.TheVariants.{PositiveBidResponse, NegativeBidResponse, Confirmation, NegativeConfirmation, PacingResponse}
-use Rattle.header.specs.contracts.Header.{the_type}
 
 -- Data, Confirmation and PacingResponse have none
-abbrev empty_tags : List ℕ
-empty_tags = 0 ∷ 5 ∷ 7 ∷ []
-
-pub empty_ru : (f : Header) → OneOf empty_tags (tag_of the_type f) → [] ≡ fixed_ru f
-empty_ru (Data d) k = refl
-empty_ru (Bid p) k = absurd (miss empty_tags 1 tt k)
-empty_ru (ErrorDescription p) k = absurd (miss empty_tags 2 tt k)
-empty_ru PositiveBidResponse k = absurd (miss empty_tags 3 tt k)
-empty_ru NegativeBidResponse k = absurd (miss empty_tags 4 tt k)
-empty_ru Confirmation k = refl
-empty_ru NegativeConfirmation k = absurd (miss empty_tags 6 tt k)
-empty_ru PacingResponse k = refl
+pub empty_ru : (f : Header) → ((d : DataHeader) × (f ≡ Data d)) ⊎ ((f ≡ Confirmation) ⊎ (f ≡ PacingResponse)) → [] ≡ fixed_ru f
+empty_ru f (inl d) = rw d.1
+empty_ru f (inr (inl e)) = rw e
+empty_ru f (inr (inr e)) = rw e
 
 -- all but Data want the fixed one
-abbrev fixed_tags : List ℕ
-fixed_tags = 1 ∷ 2 ∷ 3 ∷ 4 ∷ 5 ∷ 6 ∷ 7 ∷ []
-
-pub wants_fixed : (max : ℕ) (f : Header) (ru : List ℕ) → OneOf fixed_tags (tag_of the_type f) → same_bytes ru (fixed_ru f) ≡ ru_good max f ru
+pub wants_fixed : (max : ℕ) (f : Header) (ru : List ℕ) → ((d : DataHeader) → f ≡ Data d → ⊥) → same_bytes ru (fixed_ru f) ≡ ru_good max f ru
 unfolding ru_good
-wants_fixed max (Data d) ru k = absurd (miss fixed_tags 0 tt k)
+wants_fixed max (Data d) ru k = absurd (k d refl)
 wants_fixed max (Bid p) ru k = refl
 wants_fixed max (ErrorDescription p) ru k = refl
 wants_fixed max PositiveBidResponse ru k = refl

@@ -5,4 +5,4 @@ use Rattle.unit.proofs.FixedRu.{empty_ru}
 use Rattle.unit.proofs.ru.fixed_ru.Goals as goal
 
 pub returns-in-Data : goal.returns-in-Data
-returns-in-Data c = (empty_ru c.args.h c.in-Bid.keys6, omega arith)
+returns-in-Data c = (empty_ru c.args.h c.in-Data.is, omega arith)

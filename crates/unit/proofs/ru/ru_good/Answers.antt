@@ -14,7 +14,7 @@ returns-in_default c =
     let a = c.args in
     let ru = a.ru.now in
     c.same.ensures ∙ ap (same_bytes ru) c.fixed_ru-fixed.ensures.0
-    ∙ wants_fixed a.max a.h ru c.in-Data.keys2
+    ∙ wants_fixed a.max a.h ru c.in_default.not-Data
 
 pub returns : goal.returns
 unfolding ru_good

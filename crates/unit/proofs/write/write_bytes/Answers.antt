@@ -15,4 +15,4 @@ returns c =
     let a = c.args in
     let one = c.write_heading in
     let two = c.write_ru in
-record { length = (made a.number a.h a.a.now a.b.now a.unit.now one.new.unit two.new.ru (omega arith) one.ensures two.ensures).0; cells = (made a.number a.h a.a.now a.b.now a.unit.now one.new.unit two.new.ru (omega arith) one.ensures two.ensures).1 }
+    record { length = (made a.number a.h a.a.now a.b.now a.unit.now one.new.unit two.new.ru (omega arith) one.ensures two.ensures).0; cells = (made a.number a.h a.a.now a.b.now a.unit.now one.new.unit two.new.ru (omega arith) one.ensures two.ensures).1 }
