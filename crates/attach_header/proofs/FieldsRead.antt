@@ -1,44 +1,21 @@
 -- The fields of a good header are such as may be written.
 -- Assumes nothing.
-use mathlib.Core.Path.{◌≡◌, refl, sym, ap, ◌∙◌}
-use mathlib.Core.Bool.{Bool, true, false, cond, ◌&&◌}
+use mathlib.Core.Path.{◌≡◌, refl}
+use mathlib.Core.Bool.{true, ◌&&◌}
 use mathlib.Core.List.{List, [], ◌∷◌}
-use Prim.Native.Nat.{ℕ, zero, suc, ◌+◌, ◌-◌, ◌/◌, ◌%◌, ◌≤◌, ◌<◌}
+use Prim.Native.Nat.{ℕ, zero, suc, ◌/◌, ◌%◌}
 use native.Mathlib.Omega.{arith}
-use lib.Dec.{leb, eqb}
+use lib.Dec.{leb}
 use lib.ListN.{length, take, drop, length-drop}
 use lib.Seq.{length-take-le}
-use borrow.Author.Tests.{le-leb, eq-eqb, ne_eqb, eqb-true, eqb-false}
-use Rattle.bools.proofs.Tests.{both, left, right, join}
-use Rattle.bools.proofs.Cases.{cases, split, never}
-use Rattle.attach_header.specs.Characters.{is_empty, unpadded, data_good, every, program_good, lu_name_good}
-use Rattle.attach_header.specs.Fields.{Fields, resource_good, sync_good, work_good, fields_good}
-use Rattle.attach_header.specs.Read.{
-  byte,
-  opened,
-  type_in,
-  data_in,
-  PROFILE,
-  PASSWORD,
-  USER,
-  sync_of,
-  subfield_good,
-  subfields_good,
-  subfields,
-  is_type,
-  of_type,
-  data_of,
-  identifier_good,
-  header_good,
-  program_in,
-  security_in,
-  work_in,
-  fields_from,
-  fields_in,
-  pip_of,
-}
+use borrow.Author.Tests.{le-leb, eq-eqb, ne_eqb, eqb-true}
+use Rattle.bools.proofs.Tests.{both, right}
+use Rattle.bools.proofs.Cases.{cases, split}
+use Rattle.attach_header.specs.Characters.{is_empty, unpadded, data_good, every, program_good}
+use Rattle.attach_header.specs.Fields.{resource_good, sync_good, work_good, fields_good}
+use Rattle.attach_header.specs.Read.{byte, opened, type_in, data_in, PROFILE, PASSWORD, USER, sync_of, subfield_good, subfields_good, subfields, is_type, of_type, identifier_good, header_good, program_in, security_in, work_in, fields_from, fields_in}
 use Rattle.attach_header.proofs.FixedPart.{fixed}
-use Rattle.attach_header.proofs.HeaderTests.{Good, good, name_good_lem}
+use Rattle.attach_header.proofs.HeaderTests.{good, name_good_lem}
 use Rattle.attach_header.proofs.Security.{each_good}
 use Rattle.attach_header.proofs.Identifier.{Identifier, identifier}
 use Rattle.attach_header.proofs.GoodStrings.{lu_length}

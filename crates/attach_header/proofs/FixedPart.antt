@@ -1,15 +1,15 @@
 -- What the tests of bytes 0 to j tell.
 -- Assumes nothing.
-use mathlib.Core.Path.{◌≡◌, refl, sym, ap, ◌∙◌}
-use mathlib.Core.Bool.{Bool, true, false, ◌&&◌}
+use mathlib.Core.Path.{◌≡◌}
+use mathlib.Core.Bool.{true, false, ◌&&◌}
 use mathlib.Core.List.{List}
-use Prim.Native.Nat.{ℕ, ◌+◌, ◌%◌, ◌≤◌, ◌<◌}
+use Prim.Native.Nat.{ℕ, ◌%◌, ◌≤◌, ◌<◌}
 use native.Mathlib.Omega.{arith}
 use lib.Dec.{leb, eqb}
 use lib.ListN.{length}
-use borrow.Author.Tests.{leb-true, eqb-true}
+use borrow.Author.Tests.{leb-true}
 use Rattle.bools.proofs.Cases.{split}
-use Rattle.bools.proofs.Tests.{both, left, right}
+use Rattle.bools.proofs.Tests.{both, right}
 use Rattle.attach_header.specs.Fields.{resource_good, sync_good}
 use Rattle.attach_header.specs.Read.{byte, LEAST_FIXED, variable_at, sync_of, fixed_good}
 

@@ -1,9 +1,9 @@
 -- Strings that a header may hold have no padding, and an LU network name at most 17 bytes.
 -- Assumes nothing.
 use mathlib.Core.Path.{◌≡◌, refl, sym, ap, subst, ◌∙◌}
-use mathlib.Core.Bool.{Bool, true, false, cond, ◌&&◌, ◌||◌}
+use mathlib.Core.Bool.{Bool, true, false, ◌&&◌}
 use mathlib.Core.List.{List, [], ◌∷◌, ◌++◌}
-use Prim.Native.Nat.{ℕ, zero, suc, ◌+◌, ◌-◌, ◌≤◌, ◌<◌}
+use Prim.Native.Nat.{ℕ, ◌+◌, ◌≤◌}
 use native.Mathlib.Omega.{arith}
 use lib.Dec.{leb, eqb}
 use lib.ListN.{length, get_or, take, drop, length-append, length-take, length-drop, take-append-drop}
@@ -11,7 +11,7 @@ use borrow.Author.Tests.{leb-true, eqb-true, eqb-false, ne_eqb}
 use Rattle.cells.specs.Found.{index_of}
 use Rattle.bools.proofs.Tests.{both, left, right}
 use Rattle.bools.proofs.Cases.{split, never}
-use Rattle.attach_header.specs.Characters.{SPACE, PERIOD, belongs, every, is_empty, unpadded, is_graphic, is_letter, first_good, program_good, data_good, part_good, lu_name_good}
+use Rattle.attach_header.specs.Characters.{SPACE, PERIOD, belongs, every, is_empty, unpadded, is_letter, first_good, program_good, data_good, part_good, lu_name_good}
 
 -- ---- no padding
 

@@ -9,7 +9,7 @@ use Rattle.attach_header.specs.Read.{opened, variable_at, fixed_good, program_in
 use Rattle.attach_header.specs.Places.{part_at, places_of}
 use Rattle.attach_header.specs.declared.parts.Part.{Part}
 use Rattle.attach_header.specs.declared.reading.Places.{Places}
-use Rattle.attach_header.proofs.FoundParts.{Found, found, rest_length}
+use Rattle.attach_header.proofs.FoundParts.{found, rest_length}
 use Rattle.attach_header.proofs.FixedPart.{fixed}
 
 abbrev pub here : List ℕ → Part → List ℕ

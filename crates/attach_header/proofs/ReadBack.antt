@@ -1,35 +1,18 @@
 -- The written form of good fields is read back as those fields.
 -- Assumes nothing.
-use mathlib.Core.Path.{◌≡◌, refl, sym, ap, subst, ◌∙◌}
-use mathlib.Core.Bool.{Bool, true, false, cond, ◌&&◌, ◌||◌}
+use mathlib.Core.Path.{◌≡◌, refl, ap, subst, ◌∙◌}
+use mathlib.Core.Bool.{Bool, true, false, cond, ◌&&◌}
 use mathlib.Core.List.{List, [], ◌∷◌, ◌++◌, append-nil}
-use Prim.Native.Nat.{ℕ, zero, suc, ◌+◌, ◌-◌, ◌*◌, ◌/◌, ◌%◌, ◌≤◌, ◌<◌, zero-le}
+use Prim.Native.Nat.{ℕ, zero, suc, ◌+◌, ◌≤◌}
 use native.Mathlib.Omega.{arith}
 use lib.Dec.{leb, eqb}
-use lib.ListN.{length, take, drop, length-append}
-use lib.Seq.{take-append_seam, drop-append_seam, take_at, drop_at}
-use borrow.Author.Tests.{le-leb, leb-true, eq-eqb, ne_eqb, eqb-true, eqb-false}
-use Rattle.bools.proofs.Tests.{both, left, right, join}
-use Rattle.bools.proofs.Cases.{cases, split}
+use lib.ListN.{length, length-append}
+use lib.Seq.{take-append_seam, drop-append_seam}
+use borrow.Author.Tests.{le-leb, eq-eqb, ne_eqb}
+use Rattle.bools.proofs.Tests.{both, join}
+use Rattle.bools.proofs.Cases.{split}
 use Rattle.attach_header.specs.Characters.{is_empty, unpadded, data_good}
-use Rattle.attach_header.specs.Read.{
-  Counted,
-  opened,
-  type_in,
-  data_in,
-  PROFILE,
-  PASSWORD,
-  USER,
-  subfield_good,
-  subfields_good,
-  subfields,
-  is_type,
-  count_of,
-  of_type,
-  once,
-  security_good,
-  data_of,
-}
+use Rattle.attach_header.specs.Read.{opened, data_in, PROFILE, PASSWORD, USER, subfield_good, subfields_good, subfields, is_type, count_of, of_type, once, security_good, data_of}
 use Rattle.attach_header.specs.Written.{counted, subfield, three_subfields, trailing}
 use Rattle.attach_header.proofs.GoodStrings.{data_unpadded}
 use Rattle.attach_header.proofs.WrittenLengths.{data_short}

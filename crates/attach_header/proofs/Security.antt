@@ -1,13 +1,13 @@
 -- Subfields taken one by one from the front of what is left.
 -- Assumes nothing.
 use mathlib.Core.Path.{◌≡◌, refl, sym, ap, ◌∙◌}
-use mathlib.Core.Bool.{Bool, true, false, cond, ◌&&◌}
+use mathlib.Core.Bool.{true, false, cond, ◌&&◌}
 use mathlib.Core.List.{List, [], ◌∷◌}
 use Prim.Native.Nat.{ℕ, zero, suc, ◌+◌, ◌-◌, ◌≤◌, ◌<◌}
 use native.Mathlib.Omega.{arith}
 use lib.Dec.{leb, eqb}
 use lib.ListN.{length, take, drop, length-drop, drop_of_length-le}
-use borrow.Author.Tests.{ne_eqb, eq-eqb, leb-true}
+use borrow.Author.Tests.{ne_eqb, leb-true}
 use Rattle.bools.proofs.Tests.{both, left, right}
 use Rattle.attach_header.specs.declared.parts.Part.{Part}
 use Rattle.attach_header.proofs.FoundParts.{Found}

@@ -7,29 +7,12 @@ use Prim.Native.Nat.{ℕ, ◌+◌, ◌*◌, ◌≤◌}
 use native.Mathlib.Omega.{arith}
 use lib.Dec.{leb, eqb}
 use lib.ListN.{length, length-append}
-use borrow.Author.Tests.{leb-true, eqb-true, eq-eqb, ne_eqb}
-use Rattle.bools.proofs.Tests.{both, left, right}
+use borrow.Author.Tests.{eqb-true, eq-eqb, ne_eqb}
+use Rattle.bools.proofs.Tests.{both, right}
 use Rattle.bools.proofs.Cases.{split}
 use Rattle.attach_header.specs.Characters.{is_empty}
 use Rattle.attach_header.specs.Fields.{text_of, fields_of, resource_good, sync_good}
-use Rattle.attach_header.specs.Written.{
-  counted,
-  security,
-  work,
-  identifier,
-  trailing,
-  program_fits,
-  data_fits,
-  lu_fits,
-  numbers_whole,
-  writable,
-  header_in,
-  header_of,
-  security_needs,
-  work_needs,
-  trailing_needs,
-  needed,
-}
+use Rattle.attach_header.specs.Written.{counted, security, work, identifier, trailing, program_fits, data_fits, lu_fits, numbers_whole, writable, header_in, header_of, security_needs, work_needs, needed}
 use Rattle.attach_header.specs.declared.Attach.{Attach}
 use Rattle.attach_header.proofs.Needed.{parts_within}
 use Rattle.attach_header.proofs.WrittenLengths.{text_length, data_fits_lem, program_fits_lem, trailing_length, lu_within, security_length, work_length}

@@ -1,6 +1,6 @@
 -- The fields of an attach header as lists of bytes, and how a program keeps them.
 -- Assumes nothing.
-use Rattle.std.specs.Prelude.{ℕ, ◌+◌, Bool, cond, ◌&&◌, ◌||◌, List, [], eqb, leb, length, take, replicate}
+use Rattle.std.specs.Prelude.{ℕ, Bool, cond, ◌&&◌, ◌||◌, List, [], eqb, leb, length, take, replicate}
 use Rattle.cells.specs.Cells.{front}
 use Rattle.attach_header.specs.Characters.{is_empty, program_good, data_good, lu_name_good}
 use Rattle.attach_header.specs.declared.SymbolString.{SymbolString}

@@ -2,10 +2,8 @@
 -- The measure is the number of digits left.
 -- Assumes nothing.
 use mathlib.Core.Path.{sym, ◌∙◌}
-use Prim.Native.Nat.{◌-◌, ◌≤◌}
 use native.Mathlib.Omega.{arith}
 use lib.ListN.{get_or}
-use borrow.Author.Tests.{not-false}
 use Rattle.digits.proofs.DecimalDigits.{decimal_bounds, read_more, read_other, read_past, read_end}
 use Rattle.digits.proofs.decimal_read.read_digits.Goals as goal
 
@@ -16,19 +14,16 @@ returns-then-not-is_decimal c =
     let d = sym c.is_decimal.ensures ∙ c.if-not-is_decimal.true in
     sym (read_other l.value l.i s c.loop-i-test.true d) ∙ l.invariant.2
 
--- behind the test the byte is a digit
-digit_at : (c : tie.Else1 invariant-loop decreases-loop)
-    → (let b = get_or c.before.before.before.before.before.before.args.text.now c.before.before.before.before.loop.i 0 in (0x30 ≤ b) × (b ≤ 0x39))
-digit_at c =
-    decimal_bounds (get_or c.before.before.before.before.before.before.args.text.now c.before.before.before.before.loop.i 0)
-    (sym c.before.is-decimal.ensures ∙ not-false c.before.is-decimal.result c.if1.false)
-
 pub returns-then-value-gt-GREATEST : goal.returns-then-value-gt-GREATEST
 returns-then-value-gt-GREATEST c =
     let l = c.loop-i in
     let s = c.args.text.now in
     let d = sym c.is_decimal.ensures ∙ c.if-not-is_decimal.false in
     sym (read_past l.value l.i s c.loop-i-test.true d c.if-value-gt-GREATEST.true) ∙ l.invariant.2
+
+-- behind the test the byte is a digit
+pub overflow_sub-value : goal.overflow_sub-value
+overflow_sub-value c = omega (arith, decimal_bounds (get_or c.args.text.now c.loop-i.i 0) (sym c.is_decimal.ensures ∙ c.if-not-is_decimal.false))
 
 pub loop-i-preserved : goal.loop-i-preserved
 loop-i-preserved c =

@@ -2,7 +2,6 @@
 -- The measure is the number of digits left.
 -- Assumes nothing.
 use mathlib.Core.Path.{sym, ◌∙◌}
-use Prim.Native.Nat.{◌-◌}
 use native.Mathlib.Omega.{arith}
 use Rattle.digits.proofs.Pairs.{pairs_more, pairs_other, pairs_odd, pairs_end}
 use Rattle.digits.proofs.hexadecimal_read.are_pairs.Goals as goal

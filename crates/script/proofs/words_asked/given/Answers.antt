@@ -1,0 +1,20 @@
+-- `script::words_asked::given` meets its contract. More than 4,096 digits are more than 2,048 bytes; of fewer the cells alone decide.
+-- Assumes nothing.
+use lib.ListN.{length}
+use Rattle.cells.proofs.Fronts.{front_none}
+use Rattle.script.specs.WordsAsked.{given_of}
+use Rattle.script.proofs.MostBytes.{hex_short, hex_long}
+use Rattle.script.proofs.words_asked.given.Goals as goal
+
+pub returns-then-text-gt-MOST_DIGITS : goal.returns-then-text-gt-MOST_DIGITS
+unfolding given_of
+returns-then-text-gt-MOST_DIGITS c =
+    let a = c.args in
+    rw (hex_long a.text.now (length a.bytes.now) c.if-text-gt-MOST_DIGITS.true, front_none)
+
+pub returns : goal.returns
+unfolding given_of
+returns c =
+    let a = c.args in
+    let h = c.hex.ensures in
+    rw (c.counted.ensures, h.0, h.1, hex_short a.text.now (length a.bytes.now) c.if-text-gt-MOST_DIGITS.false)
