@@ -68,7 +68,12 @@ struct Read {
     length: usize,
 }
 
-fn read_some<R: io::Read>(rt: &impl Print, input: &mut R, name: &mut [u8], length: usize) -> io::Result<Read> {
+fn read_some<R: io::Read>(
+    rt: &impl Print,
+    input: &mut R,
+    name: &mut [u8],
+    length: usize,
+) -> io::Result<Read> {
     let mut text = [0u8; 4096];
     let n = input.read(&mut text)?;
     if n == 0 {

@@ -9,6 +9,7 @@ pub trait Handing {
 }
 
 // Texts are printed. After a print that failed none is, and its error is kept.
+#[derive(Drop)]
 pub struct Printed<'a, P: Print> {
     pub to: &'a P,
     pub printed: io::Result<()>,
@@ -23,6 +24,7 @@ impl<P: Print> Handing for Printed<'_, P> {
 }
 
 // Texts are held to the answers expected: how far these are met, and whether the texts are the same so far.
+#[derive(Drop)]
 pub struct Met<'a> {
     pub expected: &'a [u8],
     pub at: usize,

@@ -115,13 +115,7 @@ fn run_opened<H: Handing>(answers: &mut H, before: Ran, script: &[u8]) -> Joined
 }
 
 // How an end stands when the script has ended, with the two lines to it.
-fn hand_last<H: Handing>(
-    answers: &mut H,
-    second: bool,
-    end: End,
-    normal: Line,
-    expedited: Line,
-) {
+fn hand_last<H: Handing>(answers: &mut H, second: bool, end: End, normal: Line, expedited: Line) {
     let mut out = [0u8; 8192];
     let control = end.control;
     let state = control.state;
@@ -157,7 +151,13 @@ fn hand_both<H: Handing>(answers: &mut H, joined: Joined) {
 }
 
 // The lines after the one that opens the ends; then how the ends stand.
-fn run_accepted<H: Handing>(answers: &mut H, joined: Joined, script: &[u8], from: usize, number: usize) {
+fn run_accepted<H: Handing>(
+    answers: &mut H,
+    joined: Joined,
+    script: &[u8],
+    from: usize,
+    number: usize,
+) {
     let begun = Ran {
         joined,
         at: from,
@@ -184,13 +184,7 @@ fn hand_opening<H: Handing>(answers: &mut H, second: bool, done: Done) {
 }
 
 // The line that opens the ends is good: they are opened, and the script goes on if both are accepted.
-fn run_sizes<H: Handing>(
-    answers: &mut H,
-    sizes: Sizes,
-    script: &[u8],
-    from: usize,
-    number: usize,
-) {
+fn run_sizes<H: Handing>(answers: &mut H, sizes: Sizes, script: &[u8], from: usize, number: usize) {
     let one = open_first(sizes);
     let two = open_second(sizes);
     hand_opening(answers, false, one);

@@ -6,9 +6,8 @@ use crossing::input::read_full;
 use crossing::run::print_answers;
 use std::env::{Env, FillError};
 use std::fs::File;
-use std::io;
 use std::rt::Files;
-use std::str;
+use std::{io, str};
 
 // The longest name that is read; no file has a longer one.
 const LONGEST: usize = 4096;
