@@ -12,8 +12,9 @@ use carrying::{Pair, part_carried};
 use digits::Number;
 use digits::decimal_read::number;
 use end::End;
-use libc::STDOUT_FILENO;
 use session::{Session, open_session};
+use std::env::Env;
+use std::io;
 
 // An end's send buffer and unit buffer, and its inbox: each the longest, but for the way back, which carries no data.
 const SEND: usize = 1024;
@@ -102,22 +103,25 @@ fn carried(max: u16, window: u8, parts: usize) -> usize {
     after.read
 }
 
+// The longest argument that is read.
+const LONGEST: usize = 4096;
+
 // The argument of that number, 0 where it is none.
-fn argument(i: usize) -> u16 {
-    let mut text = io::buffer();
-    let n = os::arg(i, &mut text);
-    let value = number(&text[..n]);
-    match value {
+fn argument(rt: &impl Env, i: usize) -> u16 {
+    let mut text = [0u8; LONGEST];
+    let Ok(n) = rt.arg(i, &mut text) else {
+        return 0;
+    };
+    match number(&text[..n]) {
         Number::Is(value) => value,
         Number::Bad => 0,
     }
 }
 
-fn main() {
-    let max = argument(1);
-    let window = argument(2);
-    let parts = argument(3);
+fn main(rt: HostRuntime) -> io::Result<()> {
+    let max = argument(&rt, 1);
+    let window = argument(&rt, 2);
+    let parts = argument(&rt, 3);
     let read = carried(max, (window % 256) as u8, parts as usize);
-    io::print_decimal(STDOUT_FILENO, read as u64);
-    io::write_all(STDOUT_FILENO, b"\n");
+    println!(rt; "{read}")
 }

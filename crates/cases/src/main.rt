@@ -2,8 +2,9 @@
 // no case has is bad.
 #![tactic(auto)]
 
-use libc::{STDIN_FILENO, STDOUT_FILENO};
+use cells::copy;
 use script::text::line_end;
+use std::io;
 
 // The length of a line that is longer than any name: the name of no case.
 const TOO_LONG: usize = usize::MAX;
@@ -17,7 +18,7 @@ fn join(name: &mut [u8], length: usize, part: &[u8]) -> usize {
     if room - length < part.len() {
         return TOO_LONG;
     }
-    bytes::copy(part, &mut name[length..]);
+    copy(part, &mut name[length..]);
     length + part.len()
 }
 
@@ -34,30 +35,30 @@ fn is_ok(name: &[u8], length: usize) -> bool {
 }
 
 // The line has ended: its name is already printed, and its verdict follows.
-fn verdict(name: &[u8], length: usize) {
+fn verdict(rt: &impl Print, name: &[u8], length: usize) -> io::Result<()> {
     if is_ok(name, length) {
-        io::write_all(STDOUT_FILENO, b" ok\n");
+        rt.write_all(b" ok\n")
     } else {
-        io::write_all(STDOUT_FILENO, b" bad\n");
+        rt.write_all(b" bad\n")
     }
 }
 
 // The lines of what was read, and of the last one what there is of it. Bytes are printed as they come, so that a line of any
 // length is answered whole.
-fn lines(text: &[u8], name: &mut [u8], before: usize) -> usize {
+fn lines(rt: &impl Print, text: &[u8], name: &mut [u8], before: usize) -> io::Result<usize> {
     let mut length = before;
     let mut at = 0;
     while at < text.len() {
         let end = line_end(text, at);
-        io::write_all(STDOUT_FILENO, &text[at..end]);
+        rt.write_all(&text[at..end])?;
         length = join(name, length, &text[at..end]);
         if end < text.len() {
-            verdict(name, length);
+            verdict(rt, name, length)?;
             length = 0;
         }
         at = end + 1;
     }
-    length
+    Ok(length)
 }
 
 // Reads once, and answers whether there may be more; `length` is then that of the line begun.
@@ -67,37 +68,40 @@ struct Read {
     length: usize,
 }
 
-fn read_some(name: &mut [u8], length: usize) -> Read {
-    let mut text = io::buffer();
-    let got = libc::read(STDIN_FILENO, &mut text);
-    if got <= 0 {
-        return Read {
+fn read_some<R: io::Read>(
+    rt: &impl Print,
+    input: &mut R,
+    name: &mut [u8],
+    length: usize,
+) -> io::Result<Read> {
+    let mut text = [0u8; 4096];
+    let n = input.read(&mut text)?;
+    if n == 0 {
+        return Ok(Read {
             more: false,
             length,
-        };
+        });
     }
-    let n = io::count(got, &text);
-    Read {
+    Ok(Read {
         more: true,
-        length: lines(&text[..n], name, length),
-    }
+        length: lines(rt, &text[..n], name, length)?,
+    })
 }
 
-// A proved loop has to end, and nothing says that an input does: the turns are counted down from a number that no run uses up.
-fn main() {
+// A proved loop has to end, and nothing says that an input does: the turns are counted up to a number that no run reaches.
+fn main(rt: HostRuntime) -> io::Result<()> {
+    let mut input = rt.reader();
     let mut name = [0u8; 40];
     let mut length = 0;
-    let mut turns = u64::MAX;
-    while turns > 0 {
-        let read = read_some(&mut name, length);
+    for _ in 0..u64::MAX {
+        let read = read_some(&rt, &mut input, &mut name, length)?;
         length = read.length;
-        if read.more {
-            turns -= 1;
-        } else {
-            turns = 0;
+        if !read.more {
+            break;
         }
     }
     if 0 < length {
-        verdict(&name, length);
+        verdict(&rt, &name, length)?;
     }
+    Ok(())
 }

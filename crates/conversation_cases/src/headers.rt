@@ -393,7 +393,7 @@ const HEADER_END_CONFIRM: [u8; 553] = *b"header_end_confirm\n\
     2 take 0\n\
     2 take 0\n\
     1 Waits mark none send 0 inbox 0 credit 0 open 3 waiting 0 expedited 0\n\
-    2 Receive mark confirm_end send 0 inbox 2 credit 3 open 0 waiting 0 expedited 0\n";
+    2 Receive mark confirm-end send 0 inbox 2 credit 3 open 0 waiting 0 expedited 0\n";
 
 // The case of that name; an unknown one is bad.
 pub fn headers(name: &[u8]) -> bool {

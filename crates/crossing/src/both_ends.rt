@@ -1,5 +1,4 @@
 // Two joined ends. A call is made at the near one; for a call at the other they are swapped, and swapped back.
-use crate::handing::Met;
 use bench::Pair;
 use end::End;
 use unit_lines::empty;
@@ -13,14 +12,13 @@ pub struct Side {
     pub end: End,
 }
 
-// The two sides, the lines between them, and what was met. Of each flow one line leads to the near end, and one to the other.
+// The two sides, and the lines between them. Of each flow one line leads to the near end, and one to the other.
 #[derive(Clone, Copy)]
 pub struct Joined {
     pub near: Side,
     pub away: Side,
     pub normal: Pair,
     pub expedited: Pair,
-    pub met: Met,
 }
 
 fn lent(end: End) -> Side {
@@ -39,13 +37,12 @@ fn no_units() -> Pair {
 }
 
 // Both ends as opened, the first near.
-pub fn join(first: End, second: End, met: Met) -> Joined {
+pub fn join(first: End, second: End) -> Joined {
     Joined {
         near: lent(first),
         away: lent(second),
         normal: no_units(),
         expedited: no_units(),
-        met,
     }
 }
 
@@ -61,12 +58,10 @@ pub fn swapped(joined: Joined) -> Joined {
     let away = joined.near;
     let normal = turned(joined.normal);
     let expedited = turned(joined.expedited);
-    let met = joined.met;
     Joined {
         near,
         away,
         normal,
         expedited,
-        met,
     }
 }

@@ -1,50 +1,63 @@
 // Texts handed out: printed, or held to the answers expected.
 use check::same;
-use libc::STDOUT_FILENO;
+use std::io;
 
-// Whether texts are printed; otherwise how far the answers expected are met, and `same` while they are.
-#[derive(Clone, Copy)]
-pub struct Met {
-    pub print: bool,
+// What the answers of a script are handed to.
+pub trait Handing {
+    // A whole text.
+    fn hand_out(&mut self, text: &[u8]);
+}
+
+// Texts are printed. After a print that failed none is, and its error is kept.
+#[derive(Drop)]
+pub struct Printed<'a, P: Print> {
+    pub to: &'a P,
+    pub printed: io::Result<()>,
+}
+
+impl<P: Print> Handing for Printed<'_, P> {
+    fn hand_out(&mut self, text: &[u8]) {
+        if self.printed.is_ok() {
+            self.printed = self.to.write_all(text);
+        }
+    }
+}
+
+// Texts are held to the answers expected: how far these are met, and whether the texts are the same so far.
+#[derive(Drop)]
+pub struct Met<'a> {
+    pub expected: &'a [u8],
     pub at: usize,
     pub same: bool,
 }
 
-// Holds a text to what is expected next.
-fn hold(expected: &[u8], met: Met, text: &[u8]) -> Met {
-    let at = met.at;
-    let none = Met {
-        print: false,
-        at,
-        same: false,
-    };
-    if expected.len() < at {
-        return none;
-    }
-    if expected.len() - at < text.len() {
-        return none;
-    }
-    let end = at + text.len();
-    Met {
-        print: false,
-        at: end,
-        same: met.same & same(&expected[at..end], text),
+impl Met<'_> {
+    // Whether a text is what is expected next.
+    fn hold(&self, text: &[u8]) -> bool {
+        if self.expected.len() < self.at {
+            return false;
+        }
+        if self.expected.len() - self.at < text.len() {
+            return false;
+        }
+        let end = self.at + text.len();
+        same(&self.expected[self.at..end], text)
     }
 }
 
-// A whole text.
-pub fn hand_out(expected: &[u8], met: Met, text: &[u8]) -> Met {
-    if met.print {
-        io::write_all(STDOUT_FILENO, text);
-        return met;
+impl Handing for Met<'_> {
+    fn hand_out(&mut self, text: &[u8]) {
+        if self.same & self.hold(text) {
+            self.at += text.len();
+        } else {
+            self.same = false;
+        }
     }
-    hold(expected, met, text)
 }
 
 // The text at the front of `out`.
-pub fn hand_front(expected: &[u8], met: Met, out: &[u8], length: usize) -> Met {
-    if out.len() < length {
-        return met;
+pub fn hand_front<H: Handing>(answers: &mut H, out: &[u8], length: usize) {
+    if length <= out.len() {
+        answers.hand_out(&out[..length]);
     }
-    hand_out(expected, met, &out[0..length])
 }

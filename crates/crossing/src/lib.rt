@@ -3,6 +3,7 @@
 
 mod both_ends;
 mod handing;
+pub mod input;
 pub mod named;
 mod near;
 mod opened_ends;

@@ -2,7 +2,7 @@
 ghost use Rattle.std.specs.Prelude.{◌≤◌};
 
 use crate::both_ends::{Joined, Side};
-use crate::handing::{Met, hand_front};
+use crate::handing::{Handing, hand_front};
 use crate::step_text::step_text;
 use bench::{Pair, Stepped, request_flow, step};
 use end::End;
@@ -70,13 +70,13 @@ fn make(
     }
 }
 
-fn hand_made(expected: &[u8], met: Met, second: bool, request: Request, made: Made) -> Met {
+fn hand_made<H: Handing>(answers: &mut H, second: bool, request: Request, made: Made) {
     let stepped = made.stepped;
     let unit = made.unit;
     let buffer = made.buffer;
     let mut out = [0u8; 8192];
     let length = step_text(stepped, second, request, &unit, &buffer, &mut out);
-    hand_front(expected, met, &out, length)
+    hand_front(answers, &out, length);
 }
 
 // The near side after the step.
@@ -90,12 +90,11 @@ fn near_side(made: Made) -> Side {
 }
 
 // Both ends after the step, with the lines of its flow as it left them.
-fn left(joined: Joined, flow: Flow, made: Made, met: Met) -> Joined {
+fn left(joined: Joined, flow: Flow, made: Made) -> Joined {
     let stepped = made.stepped;
     let lines = stepped.lines;
     let mut after = joined;
     after.near = near_side(made);
-    after.met = met;
     match flow {
         Flow::Normal => after.normal = lines,
         Flow::Expedited => after.expedited = lines,
@@ -104,8 +103,8 @@ fn left(joined: Joined, flow: Flow, made: Made, met: Met) -> Joined {
 }
 
 // The step at the near end, the first one or the second, with the lines of its flow.
-fn on_lines(
-    expected: &[u8],
+fn on_lines<H: Handing>(
+    answers: &mut H,
     joined: Joined,
     second: bool,
     request: Request,
@@ -120,13 +119,13 @@ fn on_lines(
         Flow::Expedited => joined.expedited,
     };
     let made = make(side, request, given, lines, waiting, far);
-    let told = hand_made(expected, joined.met, second, request, made);
-    left(joined, flow, made, told)
+    hand_made(answers, second, request, made);
+    left(joined, flow, made)
 }
 
 // The step at the near end. The normal lines are in `waiting` and `far`, the expedited ones in `signals` and `beyond`.
-pub fn at_near(
-    expected: &[u8],
+pub fn at_near<H: Handing>(
+    answers: &mut H,
     joined: Joined,
     second: bool,
     request: Request,
@@ -138,9 +137,9 @@ pub fn at_near(
 ) -> Joined {
     let flow = request_flow(request);
     match flow {
-        Flow::Normal => on_lines(expected, joined, second, request, given, flow, waiting, far),
+        Flow::Normal => on_lines(answers, joined, second, request, given, flow, waiting, far),
         Flow::Expedited => on_lines(
-            expected, joined, second, request, given, flow, signals, beyond,
+            answers, joined, second, request, given, flow, signals, beyond,
         ),
     }
 }

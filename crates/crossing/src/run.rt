@@ -1,6 +1,6 @@
 // A whole script: its answers go to standard output, or are held to those expected.
 use crate::both_ends::{Joined, join};
-use crate::handing::{Met, hand_front, hand_out};
+use crate::handing::{Handing, Met, Printed, hand_front};
 use crate::opened_ends::{open_first, open_second};
 use crate::script_line::line_at;
 use end::{Done, End};
@@ -8,6 +8,7 @@ use report::other_lines::{bad_line, end_line, open_line};
 use script::line_forms::first_line;
 use script::text::{line_end, passed_over, text_length, too_long};
 use script::{FirstLine, Sizes};
+use std::io;
 use unit_lines::Line;
 
 // Both ends within a script, and where the next line begins, with its number.
@@ -19,8 +20,8 @@ struct Ran {
 }
 
 // The call that a line asks for, or none if it is passed over.
-fn run_text(
-    expected: &[u8],
+fn run_text<H: Handing>(
+    answers: &mut H,
     joined: Joined,
     line: &[u8],
     number: usize,
@@ -34,13 +35,13 @@ fn run_text(
         return joined;
     }
     line_at(
-        expected, joined, text, number, line1, line2, signals1, signals2,
+        answers, joined, text, number, line1, line2, signals1, signals2,
     )
 }
 
 // One line.
-fn run_line(
-    expected: &[u8],
+fn run_line<H: Handing>(
+    answers: &mut H,
     before: Ran,
     script: &[u8],
     line1: &mut [u8],
@@ -56,7 +57,7 @@ fn run_line(
     }
     let ends = before.joined;
     let joined = run_text(
-        expected,
+        answers,
         ends,
         &script[at..end],
         number,
@@ -67,14 +68,14 @@ fn run_line(
     );
     Ran {
         joined,
-        at: std::num::wrapping_add_usize(end, 1),
-        number: std::num::wrapping_add_usize(number, 1),
+        at: end.wrapping_add(1),
+        number: number.wrapping_add(1),
     }
 }
 
 // The lines left. A line has at least its end, so there are no more of them than bytes.
-fn run_lines(
-    expected: &[u8],
+fn run_lines<H: Handing>(
+    answers: &mut H,
     before: Ran,
     script: &[u8],
     line1: &mut [u8],
@@ -86,7 +87,7 @@ fn run_lines(
     let mut turns = script.len();
     while 0 < turns {
         if ran.at < script.len() {
-            ran = run_line(expected, ran, script, line1, line2, signals1, signals2);
+            ran = run_line(answers, ran, script, line1, line2, signals1, signals2);
             turns = turns - 1;
         } else {
             turns = 0;
@@ -96,13 +97,13 @@ fn run_lines(
 }
 
 // The lines after the first, with nothing on the four lines between the ends.
-fn run_opened(expected: &[u8], before: Ran, script: &[u8]) -> Joined {
+fn run_opened<H: Handing>(answers: &mut H, before: Ran, script: &[u8]) -> Joined {
     let mut line1 = [0u8; 527872];
     let mut line2 = [0u8; 527872];
     let mut signals1 = [0u8; 527872];
     let mut signals2 = [0u8; 527872];
     let ran = run_lines(
-        expected,
+        answers,
         before,
         script,
         &mut line1,
@@ -114,14 +115,7 @@ fn run_opened(expected: &[u8], before: Ran, script: &[u8]) -> Joined {
 }
 
 // How an end stands when the script has ended, with the two lines to it.
-fn hand_last(
-    expected: &[u8],
-    met: Met,
-    second: bool,
-    end: End,
-    normal: Line,
-    expedited: Line,
-) -> Met {
+fn hand_last<H: Handing>(answers: &mut H, second: bool, end: End, normal: Line, expedited: Line) {
     let mut out = [0u8; 8192];
     let control = end.control;
     let state = control.state;
@@ -142,36 +136,41 @@ fn hand_last(
         expedited.units as usize,
         &mut out,
     );
-    hand_front(expected, met, &out, length)
+    hand_front(answers, &out, length);
 }
 
-fn hand_both(expected: &[u8], joined: Joined) -> Met {
+fn hand_both<H: Handing>(answers: &mut H, joined: Joined) {
     let near = joined.near;
     let away = joined.away;
     let one = near.end;
     let two = away.end;
     let normal = joined.normal;
     let expedited = joined.expedited;
-    let met = joined.met;
-    let first = hand_last(expected, met, false, one, normal.from, expedited.from);
-    hand_last(expected, first, true, two, normal.to, expedited.to)
+    hand_last(answers, false, one, normal.from, expedited.from);
+    hand_last(answers, true, two, normal.to, expedited.to);
 }
 
 // The lines after the one that opens the ends; then how the ends stand.
-fn run_accepted(expected: &[u8], joined: Joined, script: &[u8], from: usize, number: usize) -> Met {
+fn run_accepted<H: Handing>(
+    answers: &mut H,
+    joined: Joined,
+    script: &[u8],
+    from: usize,
+    number: usize,
+) {
     let begun = Ran {
         joined,
         at: from,
         number,
     };
-    let left = run_opened(expected, begun, script);
-    hand_both(expected, left)
+    let left = run_opened(answers, begun, script);
+    hand_both(answers, left);
 }
 
-fn hand_open(expected: &[u8], met: Met, second: bool, refusal: u8) -> Met {
+fn hand_open<H: Handing>(answers: &mut H, second: bool, refusal: u8) {
     let mut out = [0u8; 64];
     let n = open_line(second, refusal, &mut out);
-    hand_front(expected, met, &out, n)
+    hand_front(answers, &out, n);
 }
 
 fn accepted(done: Done) -> bool {
@@ -179,30 +178,22 @@ fn accepted(done: Done) -> bool {
     answer.refusal == 0
 }
 
-fn hand_opening(expected: &[u8], met: Met, second: bool, done: Done) -> Met {
+fn hand_opening<H: Handing>(answers: &mut H, second: bool, done: Done) {
     let answer = done.answer;
-    hand_open(expected, met, second, answer.refusal)
+    hand_open(answers, second, answer.refusal);
 }
 
 // The line that opens the ends is good: they are opened, and the script goes on if both are accepted.
-fn run_sizes(
-    expected: &[u8],
-    before: Met,
-    sizes: Sizes,
-    script: &[u8],
-    from: usize,
-    number: usize,
-) -> Met {
+fn run_sizes<H: Handing>(answers: &mut H, sizes: Sizes, script: &[u8], from: usize, number: usize) {
     let one = open_first(sizes);
     let two = open_second(sizes);
-    let first = hand_opening(expected, before, false, one);
-    let opened = hand_opening(expected, first, true, two);
+    hand_opening(answers, false, one);
+    hand_opening(answers, true, two);
     if accepted(one) & accepted(two) {
         let near = one.end;
         let away = two.end;
-        return run_accepted(expected, join(near, away, opened), script, from, number);
+        run_accepted(answers, join(near, away), script, from, number);
     }
-    opened
 }
 
 // Where a line begins, with its number.
@@ -229,8 +220,8 @@ fn first_place(script: &[u8]) -> Place {
     while 0 < turns {
         if passes(script, place.at) {
             place = Place {
-                at: std::num::wrapping_add_usize(line_end(script, place.at), 1),
-                number: std::num::wrapping_add_usize(place.number, 1),
+                at: line_end(script, place.at).wrapping_add(1),
+                number: place.number.wrapping_add(1),
             };
             turns = turns - 1;
         } else {
@@ -240,59 +231,63 @@ fn first_place(script: &[u8]) -> Place {
     place
 }
 
-fn hand_bad_first(expected: &[u8], met: Met, number: usize) -> Met {
+fn hand_bad_first<H: Handing>(answers: &mut H, number: usize) {
     let mut out = [0u8; 64];
     let n = bad_line(number, &mut out);
-    hand_front(expected, met, &out, n)
+    hand_front(answers, &out, n);
 }
 
 // The line that opens the ends, and those after it.
-fn run_from(expected: &[u8], start: Met, script: &[u8], place: Place) -> Met {
+fn run_from<H: Handing>(answers: &mut H, script: &[u8], place: Place) {
     let at = place.at;
     let number = place.number;
     let end = line_end(script, at);
     if end < at {
-        return hand_bad_first(expected, start, 1);
+        return hand_bad_first(answers, 1);
     }
     let line = &script[at..end];
     let first = first_line(&line[0..text_length(line)]);
     match first {
         FirstLine::Ends(sizes) => run_sizes(
-            expected,
-            start,
+            answers,
             sizes,
             script,
-            std::num::wrapping_add_usize(end, 1),
-            std::num::wrapping_add_usize(number, 1),
+            end.wrapping_add(1),
+            number.wrapping_add(1),
         ),
-        FirstLine::Bad => hand_bad_first(expected, start, number),
+        FirstLine::Bad => hand_bad_first(answers, number),
     }
 }
 
 // Of a script that is too long no line is read; one in which every line is passed over has a bad first line.
-fn run(print: bool, expected: &[u8], script: &[u8]) -> Met {
-    let start = Met {
-        print,
-        at: 0,
-        same: true,
-    };
+fn run<H: Handing>(answers: &mut H, script: &[u8]) {
     if too_long(script.len()) {
-        return hand_out(expected, start, b"input too long\n");
+        return answers.hand_out(b"input too long\n");
     }
     let place = first_place(script);
     if script.len() <= place.at {
-        return hand_bad_first(expected, start, 1);
+        return hand_bad_first(answers, 1);
     }
-    run_from(expected, start, script, place)
+    run_from(answers, script, place)
 }
 
 // Prints the answers of a script.
-pub fn print_answers(script: &[u8]) {
-    run(true, b"", script);
+pub fn print_answers(rt: &impl Print, script: &[u8]) -> io::Result<()> {
+    let mut answers = Printed {
+        to: rt,
+        printed: Ok(()),
+    };
+    run(&mut answers, script);
+    answers.printed
 }
 
 // Whether the answers of a script are these, byte for byte.
 pub fn answers_as(script: &[u8], expected: &[u8]) -> bool {
-    let met = run(false, expected, script);
+    let mut met = Met {
+        expected,
+        at: 0,
+        same: true,
+    };
+    run(&mut met, script);
     met.same & (met.at == expected.len())
 }

@@ -1,14 +1,14 @@
 // One line of a script: the call that it asks for, made at its end, and its answer handed out.
 use crate::both_ends::{Joined, swapped};
-use crate::handing::hand_front;
+use crate::handing::{Handing, hand_front};
 use crate::near::{at_near, cells};
 use report::other_lines::bad_line;
 use script::line_forms::call_line;
 use script::{Asked, Parsed};
 
 // The call asked for, at the end that it names.
-fn call_asked(
-    expected: &[u8],
+fn call_asked<H: Handing>(
+    answers: &mut H,
     joined: Joined,
     asked: Asked,
     given: &[u8],
@@ -20,7 +20,7 @@ fn call_asked(
     let request = asked.request;
     if asked.second {
         return swapped(at_near(
-            expected,
+            answers,
             swapped(joined),
             true,
             request,
@@ -32,21 +32,19 @@ fn call_asked(
         ));
     }
     at_near(
-        expected, joined, false, request, given, line1, line2, signals1, signals2,
+        answers, joined, false, request, given, line1, line2, signals1, signals2,
     )
 }
 
-fn hand_bad(expected: &[u8], joined: Joined, number: usize) -> Joined {
+fn hand_bad<H: Handing>(answers: &mut H, number: usize) {
     let mut out = [0u8; 64];
     let length = bad_line(number, &mut out);
-    let mut told = joined;
-    told.met = hand_front(expected, told.met, &out, length);
-    told
+    hand_front(answers, &out, length);
 }
 
 // The call that a line asks for; `number` is the line's, for a bad one.
-pub fn line_at(
-    expected: &[u8],
+pub fn line_at<H: Handing>(
+    answers: &mut H,
     joined: Joined,
     text: &[u8],
     number: usize,
@@ -61,7 +59,7 @@ pub fn line_at(
         Parsed::Call(asked) => {
             let n = cells(asked.count);
             call_asked(
-                expected,
+                answers,
                 joined,
                 asked,
                 &given[0..n],
@@ -71,6 +69,9 @@ pub fn line_at(
                 signals2,
             )
         }
-        Parsed::Bad => hand_bad(expected, joined, number),
+        Parsed::Bad => {
+            hand_bad(answers, number);
+            joined
+        }
     }
 }

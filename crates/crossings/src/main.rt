@@ -2,17 +2,19 @@
 // prints what it answered.
 #![tactic(auto)]
 
+use crossing::input::read_full;
 use crossing::run::print_answers;
-use libc::STDIN_FILENO;
+use std::io;
 
 // All of the input, or a byte more than a script may have.
-fn run_input(input: &mut [u8]) {
-    let n = io::read_full(STDIN_FILENO, input);
-    print_answers(&input[..n]);
+fn run_input(rt: &(impl Input + Print), input: &mut [u8]) -> io::Result<()> {
+    let mut reader = rt.reader();
+    let n = read_full(&mut reader, input)?;
+    print_answers(rt, &input[..n])
 }
 
 // A byte more than the longest script.
-fn main() {
+fn main(rt: HostRuntime) -> io::Result<()> {
     let mut input = [0u8; 1048577];
-    run_input(&mut input);
+    run_input(&rt, &mut input)
 }

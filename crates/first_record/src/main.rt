@@ -1,8 +1,8 @@
 // The laboratory gives one record and ends; the blender takes the unit, reads the record and prints its data.
 #![tactic(auto)]
 
-use libc::STDOUT_FILENO;
 use session::{Session, open};
+use std::io;
 
 // Window 3 and maximum RU 64 both ways; the role is 0 for the first speaker, 1 for the bidder.
 fn session(role: u8) -> Session {
@@ -58,15 +58,16 @@ fn blender(line: &[u8], n: usize, buffer: &mut [u8]) -> usize {
     answer.copied
 }
 
-fn main() {
+fn main(rt: HostRuntime) -> io::Result<()> {
     let mut buffer = [0u8; 64];
     let sent = laboratory();
     let unit = sent.unit;
     let copied = blender(&unit, sent.length, &mut buffer);
     if copied < 2 {
-        return;
+        return Ok(());
     }
     if copied <= 64 {
-        io::write_all(STDOUT_FILENO, &buffer[2..copied]);
+        rt.write_all(&buffer[2..copied])?;
     }
+    Ok(())
 }
