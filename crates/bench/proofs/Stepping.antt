@@ -11,7 +11,7 @@ use Rattle.answers.specs.declared.ReadAnswer.{ReadAnswer}
 use Rattle.end.specs.declared.ReadDone.{ReadDone}
 use Rattle.joined.specs.Lanes.{Lines, put}
 use Rattle.joined.specs.Joined.{Took, take_oldest}
-use Rattle.joined.specs.Ends.{Lane, normal, expedited, sameLane, on_lanes, took_on_lanes, acts, takes}
+use Rattle.joined.specs.Ends.{Lane, normal, expedited, same_lane, on_lanes, took_on_lanes, acts, takes}
 use Rattle.joined.specs.Histories.{Log}
 use Rattle.script.specs.declared.Flow.{Flow}
 use Rattle.script.specs.declared.Flow.TheVariants as flow
@@ -213,11 +213,11 @@ removed_is flow.Normal s u o a signalled y e = rw y (ap (λ (r : Reply). eqb r.a
 removed_is flow.Expedited s u o a signalled y e = rw y (ap (λ (r : Reply). eqb r.answer.answer.refusal 0) e)
 
 -- the units on a lane are those that were put there, and every other lane keeps its own
-put_here : (l : Lane) (xs : List (List ℕ)) (us : Lines Lane (List ℕ)) → put sameLane l xs us l ≡ xs
+put_here : (l : Lane) (xs : List (List ℕ)) (us : Lines Lane (List ℕ)) → put same_lane l xs us l ≡ xs
 put_here normal xs us = refl
 put_here expedited xs us = refl
 
-put_there : (l : Lane) (xs : List (List ℕ)) (us : Lines Lane (List ℕ)) → put sameLane l xs us (other l) ≡ us (other l)
+put_there : (l : Lane) (xs : List (List ℕ)) (us : Lines Lane (List ℕ)) → put same_lane l xs us (other l) ≡ us (other l)
 put_there normal xs us = refl
 put_there expedited xs us = refl
 
@@ -238,10 +238,10 @@ module _ (f : Flow) (given u : List ℕ) (b : Bench) (o : Outcome) (a : ReadAnsw
 
   -- the lines afterwards
   lines_left : (xs : List (List ℕ)) → Holds from waiting xs
-      → ((k : Lane) → Waits us k (placed (flow_lane f) here there k)) → (k : Lane) → Waits (put sameLane (flow_lane f) xs us) k (placed (flow_lane f) after there k)
+      → ((k : Lane) → Waits us k (placed (flow_lane f) here there k)) → (k : Lane) → Waits (put same_lane (flow_lane f) xs us) k (placed (flow_lane f) after there k)
   lines_left xs h p =
       let l : Lane = flow_lane f in
-      by_lane (Waits (put sameLane l xs us)) l after there
+      by_lane (Waits (put same_lane l xs us)) l after there
       (subst (λ (x : List (List ℕ)). Holds from waiting x) (sym (put_here l xs us)) h)
       (subst (λ (x : List (List ℕ)). Holds there.from there.waiting x) (sym (put_there l xs us)) (of_there (Waits us) l here there p))
 
@@ -263,7 +263,7 @@ module _ (f : Flow) (given u : List ℕ) (b : Bench) (o : Outcome) (a : ReadAnsw
         answered = λ y.
             let left = st.answered y in
             subst
-            (λ (x : List (List ℕ)). Leaves b₂ (reply_to (Take f) a signalled buffer) vs (take_oldest sameLane acts takes b.station es us (flow_lane f) x)) (sym eu)
+            (λ (x : List (List ℕ)). Leaves b₂ (reply_to (Take f) a signalled buffer) vs (take_oldest same_lane acts takes b.station es us (flow_lane f) x)) (sym eu)
             (record {
               station_is = left.station_is;
               waiting_are =

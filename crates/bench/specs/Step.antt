@@ -7,7 +7,7 @@ use Rattle.joined.specs.Lanes.{Lines}
 use Rattle.joined.specs.Joined as joined
 use Rattle.joined.specs.Joined.{Local, apply, acted, took}
 use Rattle.calls.specs.Calls as J
-use Rattle.joined.specs.Ends.{Lane, normal, expedited, sameLane, acts, takes}
+use Rattle.joined.specs.Ends.{Lane, normal, expedited, same_lane, acts, takes}
 use Rattle.joined.specs.Histories.{Log}
 use Rattle.script.specs.declared.Request.{Request}
 use Rattle.script.specs.declared.Request.TheVariants.{Call, Take, Offer}
@@ -90,8 +90,8 @@ offer l s es us u =
 
 -- the call of the joined ends, at this end with its lines and what has happened at it
 abbrev pub local_of : Request → List ℕ → Bench → Log → Lines Lane (List ℕ) → Local Lane Station J.Verb Reply (List ℕ)
-local_of (Call v) given b es us = apply sameLane acts takes b.station es us (joined.act (verb_of v given b.buffer))
-local_of (Take f) given b es us = apply sameLane acts takes b.station es us (joined.take (flow_lane f))
+local_of (Call v) given b es us = apply same_lane acts takes b.station es us (joined.act (verb_of v given b.buffer))
+local_of (Take f) given b es us = apply same_lane acts takes b.station es us (joined.take (flow_lane f))
 local_of (Offer f) given b es us = offer (flow_lane f) b.station es us given
 
 abbrev pub reads : Request → Bool

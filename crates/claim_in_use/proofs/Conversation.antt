@@ -10,7 +10,7 @@ use Rattle.logical_record.specs.RecordClaims.{EveryPlaceCanEnd}
 use Rattle.logical_record.specs.declared.Position.TheVariants.{Remaining}
 use Rattle.joined.specs.Joined as J
 use Rattle.joined.specs.Joined.{At, first, second, act, Some, step, AllFed}
-use Rattle.joined.specs.Ends.{Lane, sameLane, acts, takes}
+use Rattle.joined.specs.Ends.{Lane, same_lane, acts, takes}
 use Rattle.calls.specs.Calls.{Verb}
 use Rattle.calls.proofs.ByteLists.{are_bytes}
 use Rattle.joined.specs.Claim.{Pair, Claim, TheRecords, LentBytes, AlwaysGood}
@@ -38,21 +38,21 @@ waits_fed (u ∷ us) e = tt
 -- every take of the list finds a unit
 abbrev all_find : Pair → List (At Lane Verb) → Bool
 all_find p [] = true
-all_find p (first (act v) ∷ l) = all_find (step sameLane acts takes p (first (act v))) l
-all_find p (first (J.take k) ∷ l) = waits (p.one.waiting k) && all_find (step sameLane acts takes p (first (J.take k))) l
-all_find p (second (act v) ∷ l) = all_find (step sameLane acts takes p (second (act v))) l
-all_find p (second (J.take k) ∷ l) = waits (p.two.waiting k) && all_find (step sameLane acts takes p (second (J.take k))) l
+all_find p (first (act v) ∷ l) = all_find (step same_lane acts takes p (first (act v))) l
+all_find p (first (J.take k) ∷ l) = waits (p.one.waiting k) && all_find (step same_lane acts takes p (first (J.take k))) l
+all_find p (second (act v) ∷ l) = all_find (step same_lane acts takes p (second (act v))) l
+all_find p (second (J.take k) ∷ l) = waits (p.two.waiting k) && all_find (step same_lane acts takes p (second (J.take k))) l
 
-all_fed : (p : Pair) (l : List (At Lane Verb)) → all_find p l ≡ true → AllFed sameLane acts takes p l
+all_fed : (p : Pair) (l : List (At Lane Verb)) → all_find p l ≡ true → AllFed same_lane acts takes p l
 all_fed p [] e = tt
-all_fed p (first (act v) ∷ l) e = (tt, all_fed (step sameLane acts takes p (first (act v))) l e)
+all_fed p (first (act v) ∷ l) e = (tt, all_fed (step same_lane acts takes p (first (act v))) l e)
 all_fed p (first (J.take k) ∷ l) e =
-    let q = step sameLane acts takes p (first (J.take k)) in
+    let q = step same_lane acts takes p (first (J.take k)) in
     let h = both (waits (p.one.waiting k)) (all_find q l) e in
     (waits_fed (p.one.waiting k) h.0, all_fed q l h.1)
-all_fed p (second (act v) ∷ l) e = (tt, all_fed (step sameLane acts takes p (second (act v))) l e)
+all_fed p (second (act v) ∷ l) e = (tt, all_fed (step same_lane acts takes p (second (act v))) l e)
 all_fed p (second (J.take k) ∷ l) e =
-    let q = step sameLane acts takes p (second (J.take k)) in
+    let q = step same_lane acts takes p (second (J.take k)) in
     let h = both (waits (p.two.waiting k)) (all_find q l) e in
     (waits_fed (p.two.waiting k) h.0, all_fed q l h.1)
 

@@ -20,7 +20,7 @@ use Rattle.bools.proofs.Cases.{split}
 use Rattle.session.specs.declared.Session.{Session}
 use Rattle.joined.specs.Joined.{Call, At, run}
 use Rattle.joined.specs.Signals.{Signals, TheSignals}
-use Rattle.joined.specs.Ends.{Lane, normal, expedited, sameLane, acts, takes, opened_both, Buffers}
+use Rattle.joined.specs.Ends.{Lane, normal, expedited, same_lane, acts, takes, opened_both, Buffers}
 use Rattle.joined.specs.Histories.{bytes_on_line, breaches}
 use Rattle.joined.specs.Claim.{Claim, BytesConserved, CreditCounted, ReadsRight, RecordsArrive, TablesArrive, TheRecords, AlwaysGood}
 use Rattle.joined.specs.Denials.{TheDenials}
@@ -152,9 +152,9 @@ module _ (claim : Claim) (records : TheRecords) (always : AlwaysGood) (denials :
 
   keeps : (s t : Session) (b c : Buffers) → Opens s b → Opens t c → (l : List (At Lane Verb))
       → AreBytes (b.send ++ (b.inbox ++ (c.send ++ (c.inbox ++ each offered l))))
-      → (let p = run sameLane acts takes (opened_both s t b c) l in KeepsRules p.one × KeepsRules p.two)
+      → (let p = run same_lane acts takes (opened_both s t b c) l in KeepsRules p.one × KeepsRules p.two)
   keeps s t b c o q l h =
-      let p = run sameLane acts takes (opened_both s t b c) l in
+      let p = run same_lane acts takes (opened_both s t b c) l in
       let h1 = parted b.send _ h in
       let h2 = parted b.inbox _ h1.1 in
       let h3 = parted c.send _ h2.1 in
@@ -167,16 +167,16 @@ module _ (claim : Claim) (records : TheRecords) (always : AlwaysGood) (denials :
       )
 
   tells : (s t : Session) (b c : Buffers) → Opens s b → Opens t c → (l : List (At Lane Verb))
-      → (let p = run sameLane acts takes (opened_both s t b c) l in Causes p.one p.two × Causes p.two p.one)
+      → (let p = run same_lane acts takes (opened_both s t b c) l in Causes p.one p.two × Causes p.two p.one)
   tells s t b c o q l =
-      let p = run sameLane acts takes (opened_both s t b c) l in
+      let p = run same_lane acts takes (opened_both s t b c) l in
       let d = denials s t b c l (accepts s b o) (accepts t c q) in
       (causes_of p.one p.two d.out, causes_of p.two p.one d.back)
 
   told_once : (s t : Session) (b c : Buffers) → Opens s b → Opens t c → (l : List (At Lane Verb))
-      → (let p = run sameLane acts takes (opened_both s t b c) l in SignalsTold p.one p.two × SignalsTold p.two p.one)
+      → (let p = run same_lane acts takes (opened_both s t b c) l in SignalsTold p.one p.two × SignalsTold p.two p.one)
   told_once s t b c o q l =
-      let p = run sameLane acts takes (opened_both s t b c) l in
+      let p = run same_lane acts takes (opened_both s t b c) l in
       let d = signals s t b c l (accepts s b o) (accepts t c q) in
       (signals_told p.one p.two d.out, signals_told p.two p.one d.back)
 

@@ -15,7 +15,7 @@ use Rattle.end.specs.Record.{record_good, credit_of}
 use Rattle.session.specs.declared.Session.{Session}
 use Rattle.joined.specs.Joined as J
 use Rattle.joined.specs.Joined.{first, second, act, AllFed, run}
-use Rattle.joined.specs.Ends.{Lane, normal, expedited, sameLane, Buffers, JoinedOpenings, opened_both, acts, takes}
+use Rattle.joined.specs.Ends.{Lane, normal, expedited, same_lane, Buffers, JoinedOpenings, opened_both, acts, takes}
 use Rattle.joined.specs.Histories.{bytes_accepted, bytes_read, bytes_in_inbox, bytes_on_line, bytes_in_send_buffer, requests_made, pacing_responses_taken, breaches}
 use Rattle.joined.specs.Histories.{refused_with, bad_reads, CompleteIsRight, MoreIsRight, NoneCrosses}
 use Rattle.joined.specs.Signals.{signals_made, signals_told}
@@ -191,7 +191,7 @@ reordered =
     ∷ []
 
 abbrev pub talked : Pair
-talked = run sameLane acts takes ends calls
+talked = run same_lane acts takes ends calls
 
 -- ---- what happened, by computation
 
@@ -219,8 +219,8 @@ pub record Happened : Type 0 where
 
 pub record Asked : Type 0 where
   pub openings : JoinedOpenings speaker bidder lent lent
-  pub fed : AllFed sameLane acts takes ends calls
-  pub fed_reordered : AllFed sameLane acts takes ends reordered
+  pub fed : AllFed same_lane acts takes ends calls
+  pub fed_reordered : AllFed same_lane acts takes ends reordered
 
 -- ---- what the claim says, in bytes and numbers
 
@@ -245,7 +245,7 @@ pub record Said : Type 0 where
   pub unanswered_one : 1 ≡ 1 + 0
   pub unanswered_two : 0 ≡ 0 + 0
   -- the same outcome
-  pub same : talked ≡ run sameLane acts takes ends reordered
+  pub same : talked ≡ run same_lane acts takes ends reordered
   -- the records read are the first of those given
   pub to_come_out : List (List ℕ)
   pub records_out : part1 ∷ part2 ∷ [] ≡ (part1 ∷ part2 ∷ []) ++ to_come_out

@@ -9,7 +9,7 @@ use Rattle.control.specs.declared.State.TheVariants.{Reset, Receive, DeferTurn}
 use Rattle.control.specs.declared.Deferred.TheVariants as deferral
 use Rattle.end.specs.Record.{credit_of}
 use Rattle.joined.specs.Joined.{run}
-use Rattle.joined.specs.Ends.{normal, sameLane, acts, takes}
+use Rattle.joined.specs.Ends.{normal, same_lane, acts, takes}
 use Rattle.joined.specs.Claim.{Pair}
 use Rattle.calls.specs.Calls.{Station, Verb, flush, prepare_to_receive, refusal_in, called, taken}
 use Rattle.calls.specs.DeferLaws.{is_one_of, in_defer}
@@ -18,15 +18,15 @@ use Rattle.claim_in_use.specs.Conversation.{ends, begun, early, meanwhile, reply
 
 -- the first speaker's end as the turn was about to be prepared
 abbrev pub before : Station
-before = (run sameLane acts takes ends begun).one.end
+before = (run same_lane acts takes ends begun).one.end
 
 -- the turn is prepared
 abbrev pub prepared : Pair
-prepared = run sameLane acts takes ends early
+prepared = run same_lane acts takes ends early
 
 -- it still is, and there is credit to carry it out
 abbrev pub ready : Pair
-ready = run sameLane acts takes prepared meanwhile
+ready = run same_lane acts takes prepared meanwhile
 
 -- the first speaker's end as it would be if the turn were withdrawn there
 abbrev pub sending : Station

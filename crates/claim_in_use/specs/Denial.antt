@@ -8,7 +8,7 @@ use Rattle.control.specs.StateTests.{is_send, is_receive, is_nothing, holds_send
 use Rattle.control.specs.declared.State.TheVariants.{Send, Receive, ConfirmOwed, ConfirmAwaited}
 use Rattle.control.specs.declared.WhatReceived.TheVariants as mark
 use Rattle.joined.specs.Joined.{At, run}
-use Rattle.joined.specs.Ends.{Lane, normal, sameLane, acts, takes}
+use Rattle.joined.specs.Ends.{Lane, normal, same_lane, acts, takes}
 use Rattle.joined.specs.Denials.{units_made, units_taken, announced}
 use Rattle.joined.specs.Claim.{Pair}
 use Rattle.calls.specs.Calls.{Verb, confirm, flush, refusal_in, called}
@@ -38,21 +38,21 @@ abbrev pub until_owed : List (At Lane Verb)
 until_owed = early ++ (meanwhile ++ asking)
 
 abbrev pub owed : Pair
-owed = run sameLane acts takes ends until_owed
+owed = run same_lane acts takes ends until_owed
 
 -- it has refused it, and the error header is due
 abbrev pub until_denied : List (At Lane Verb)
 until_denied = until_owed ++ denying
 
 abbrev pub denied : Pair
-denied = run sameLane acts takes ends until_denied
+denied = run same_lane acts takes ends until_denied
 
 -- the error header is on the line, and the first speaker has taken what announces it
 abbrev pub until_told : List (At Lane Verb)
 until_told = until_denied ++ telling
 
 abbrev pub told : Pair
-told = run sameLane acts takes ends until_told
+told = run same_lane acts takes ends until_told
 
 -- ---- what happened, by computation
 

@@ -17,7 +17,7 @@ use Rattle.session.specs.declared.Session.{Session}
 use Rattle.joined.specs.Lanes.{Lines}
 use Rattle.joined.specs.Joined as J
 use Rattle.joined.specs.Joined.{Call, At, first, second, Event, acted, took, Side, Both, run}
-use Rattle.joined.specs.Ends.{Lane, normal, expedited, sameLane, Buffers, acts, takes, opened_both}
+use Rattle.joined.specs.Ends.{Lane, normal, expedited, same_lane, Buffers, acts, takes, opened_both}
 use Rattle.calls.specs.Calls.{Reply, Station, Verb}
 
 -- ---- two sessions that are joined, by their numbers
@@ -239,14 +239,14 @@ pub data Interleaves : List (Call Lane Verb) → List (Call Lane Verb) → List 
   at_second : {c : Call Lane Verb} {xs ys : List (Call Lane Verb)} {l : List (At Lane Verb)} → Interleaves xs ys l → Interleaves xs (c ∷ ys) (second c ∷ l)
 
 abbrev pub after : Numbers → Buffers → Buffers → List (At Lane Verb) → Ends
-after n b c l = run sameLane acts takes (opened_both (speaker n) (bidder n) b c) l
+after n b c l = run same_lane acts takes (opened_both (speaker n) (bidder n) b c) l
 
 -- wherever the list takes, a unit waits on that lane
 pub record TakesFind (p : Ends) (l : List (At Lane Verb)) : Type 0 where
   pub one : (k : Lane) (before behind : List (At Lane Verb)) → l ≡ before ++ (first (J.take k) ∷ behind)
-      → (run sameLane acts takes p before).one.waiting k ≡ [] → ⊥
+      → (run same_lane acts takes p before).one.waiting k ≡ [] → ⊥
   pub two : (k : Lane) (before behind : List (At Lane Verb)) → l ≡ before ++ (second (J.take k) ∷ behind)
-      → (run sameLane acts takes p before).two.waiting k ≡ [] → ⊥
+      → (run same_lane acts takes p before).two.waiting k ≡ [] → ⊥
 
 -- records, every lent cell, lines and answers in order
 pub record SameEnd (x y : OneEnd) : Type 0 where
@@ -343,10 +343,10 @@ pub record InOtherWords : Type 0 where
   -- of sessions that are joined or not, if all that is lent to the ends and given at them are bytes
   pub rules : (s t : Session) (b c : Buffers) → Opens s b → Opens t c → (l : List (At Lane Verb))
       → AreBytes (b.send ++ (b.inbox ++ (c.send ++ (c.inbox ++ each offered l))))
-      → (let p = run sameLane acts takes (opened_both s t b c) l in KeepsRules p.one × KeepsRules p.two)
+      → (let p = run same_lane acts takes (opened_both s t b c) l in KeepsRules p.one × KeepsRules p.two)
   -- of these too: who refuses a confirmation says why, and next
   pub causes : (s t : Session) (b c : Buffers) → Opens s b → Opens t c → (l : List (At Lane Verb))
-      → (let p = run sameLane acts takes (opened_both s t b c) l in Causes p.one p.two × Causes p.two p.one)
+      → (let p = run same_lane acts takes (opened_both s t b c) l in Causes p.one p.two × Causes p.two p.one)
   -- and each signal is told once
   pub signals : (s t : Session) (b c : Buffers) → Opens s b → Opens t c → (l : List (At Lane Verb))
-      → (let p = run sameLane acts takes (opened_both s t b c) l in SignalsTold p.one p.two × SignalsTold p.two p.one)
+      → (let p = run same_lane acts takes (opened_both s t b c) l in SignalsTold p.one p.two × SignalsTold p.two p.one)

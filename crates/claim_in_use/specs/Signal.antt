@@ -8,7 +8,7 @@ use Rattle.expedited.specs.Signals.{signal_made, signal_taken, response_taken}
 use Rattle.end.specs.Outcome.{with_expedited}
 use Rattle.end.specs.Record.{credit_of}
 use Rattle.joined.specs.Joined.{At, run}
-use Rattle.joined.specs.Ends.{Lane, expedited, sameLane, acts, takes}
+use Rattle.joined.specs.Ends.{Lane, expedited, same_lane, acts, takes}
 use Rattle.joined.specs.Histories.{breaches, requests_made, pacing_responses_taken}
 use Rattle.joined.specs.Signals.{signals_made, signals_told}
 use Rattle.joined.specs.Claim.{Pair}
@@ -29,21 +29,21 @@ abbrev pub until_asked : List (At Lane Verb)
 until_asked = early ++ crossing
 
 abbrev pub receives : Pair
-receives = run sameLane acts takes ends until_asked
+receives = run same_lane acts takes ends until_asked
 
 -- its signal is on the line
 abbrev pub until_signal : List (At Lane Verb)
 until_signal = until_asked ++ requesting
 
 abbrev pub asked : Pair
-asked = run sameLane acts takes ends until_signal
+asked = run same_lane acts takes ends until_signal
 
 -- the first speaker was told, and the response is on the line
 abbrev pub until_told : List (At Lane Verb)
 until_told = until_signal ++ signalling
 
 abbrev pub told : Pair
-told = run sameLane acts takes ends until_told
+told = run same_lane acts takes ends until_told
 
 -- ---- what happened, by computation
 

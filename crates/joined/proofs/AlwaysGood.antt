@@ -1,7 +1,7 @@
 -- After every list of calls that give bytes, both records are within the section 'The end's record': question 5 is answered yes at each end.
 -- Assumes nothing.
 use Rattle.joined.proofs.JoinedWords.{ℕ, ◌+◌, length, Bool, true, false, List, [], ◌∷◌, ◌≡◌, refl, arith, cases, Session, record_good, Station, Verb}
-use Rattle.joined.proofs.JoinedWords.{count, opened_is, Pair, Lane, normal, acts, takes, sameLane, Buffers, OpeningAccepted, opened_with, opened_both}
+use Rattle.joined.proofs.JoinedWords.{count, opened_is, Pair, Lane, normal, acts, takes, same_lane, Buffers, OpeningAccepted, opened_with, opened_both}
 use Rattle.joined.proofs.JoinedWords.{expedited, ◌∙◌, Log, At, Call, act, first, second, take_oldest, apply, step, run, Lines}
 use Rattle.joined.specs.Joined as J
 use Rattle.joined.specs.Histories.{refused_with}
@@ -29,7 +29,7 @@ one_more b n e z = rw (e, z)
 
 -- us are the line of the normal lane
 one_take : (e : Station) (es : Log) (w : Lines Lane (List ℕ)) (us : List (List ℕ)) → Sound e → AllUnits (w normal) → AllUnits us → refused_with 5 es ≡ 0
-    → (let r = take_oldest sameLane acts takes e es w normal us in
+    → (let r = take_oldest same_lane acts takes e es w normal us in
     Rests r.side.end (r.side.waiting normal) (r.sent normal) r.side.log)
 unfolding refused_with acts takes
 one_take e es w [] s f g z = record { end = s; line = f; made = tt; never = z }
@@ -44,7 +44,7 @@ one_take e es w (u ∷ us) s f g z =
 
 -- us are the line of the expedited lane
 one_expedited : (e : Station) (es : Log) (w : Lines Lane (List ℕ)) (us : List (List ℕ)) → Sound e → AllUnits (w normal) → refused_with 5 es ≡ 0
-    → (let r = take_oldest sameLane acts takes e es w expedited us in
+    → (let r = take_oldest same_lane acts takes e es w expedited us in
     Rests r.side.end (r.side.waiting normal) (r.sent normal) r.side.log)
 unfolding refused_with acts takes
 one_expedited e es w [] s f z = record { end = s; line = f; made = tt; never = z }
@@ -58,7 +58,7 @@ one_expedited e es w (u ∷ us) s f z =
     }
 
 one_call : (e : Station) (es : Log) (w : Lines Lane (List ℕ)) (c : Call Lane Verb) → BytesIn c → Sound e → AllUnits (w normal) → refused_with 5 es ≡ 0
-    → (let r = apply sameLane acts takes e es w c in Rests r.side.end (r.side.waiting normal) (r.sent normal) r.side.log)
+    → (let r = apply same_lane acts takes e es w c in Rests r.side.end (r.side.waiting normal) (r.sent normal) r.side.log)
 unfolding refused_with acts takes
 one_call e es w (act v) b s f z =
     let q = cells_acts e s.cells v b in
@@ -79,7 +79,7 @@ record Good (p : Pair) : Type 0 where
   never_one : refused_with 5 p.one.log ≡ 0
   never_two : refused_with 5 p.two.log ≡ 0
 
-step_good : (p : Pair) (c : At Lane Verb) → BytesAt c → Good p → Good (step sameLane acts takes p c)
+step_good : (p : Pair) (c : At Lane Verb) → BytesAt c → Good p → Good (step same_lane acts takes p c)
 step_good p (first c) b g =
     let r = one_call p.one.end p.one.log p.one.waiting c b g.one g.to_one g.never_one in
     record {
@@ -101,9 +101,9 @@ step_good p (second c) b g =
       never_two = r.never;
     }
 
-run_good : (p : Pair) (l : List (At Lane Verb)) → BytesOfAll l → Good p → Good (run sameLane acts takes p l)
+run_good : (p : Pair) (l : List (At Lane Verb)) → BytesOfAll l → Good p → Good (run same_lane acts takes p l)
 run_good p [] b g = g
-run_good p (c ∷ l) b g = run_good (step sameLane acts takes p c) l b.1 (step_good p c b.0 g)
+run_good p (c ∷ l) b g = run_good (step same_lane acts takes p c) l b.1 (step_good p c b.0 g)
 
 -- ---- from openings
 

@@ -2,7 +2,7 @@
 -- Assumes nothing.
 use Rattle.joined.proofs.JoinedWords.{ℕ, length, List, [], ◌∷◌, ◌++◌, ◌≡◌, refl, sym, ap, ◌∙◌, subst, arith, then_walk, credit, Role, FirstSpeaker}
 use Prim.Native.Nat.{◌+◌, ◌*◌}
-use Rattle.joined.proofs.JoinedWords.{Bidder, Session, fresh_end, Station, Reply, Verb, opened_is, Pair, Lane, normal, acts, takes, sameLane}
+use Rattle.joined.proofs.JoinedWords.{Bidder, Session, fresh_end, Station, Reply, Verb, opened_is, Pair, Lane, normal, acts, takes, same_lane}
 use Rattle.joined.proofs.JoinedWords.{Buffers, OpeningAccepted, opened_with, opened_both, bytes_in_send_buffer, Log, bytes_accepted, bytes_on_line}
 use Rattle.joined.proofs.JoinedWords.{bytes_in_inbox, requests_made, pacing_responses_taken, breaches, bad_reads, CompleteIsRight, MoreIsRight, NoneCrosses}
 use Rattle.joined.proofs.JoinedWords.{At, Lines, append-nil, cond, Expedited, with_expedited, expedited, on_expedited, expedited_cases, Took, took, join, put}
@@ -89,7 +89,7 @@ module _ (r : Role) (v w : ℕ) where
   act_kept :
       (e : Station) (xs : Log) (line back : Lines Lane (List ℕ)) (f : Station) (ys : Log) (c : Verb)
       → Held r v w e xs line back f ys
-      → AfterAct sameLane acts takes (Held r v w) (Held (other r) w v) xs line back f ys c (acts e c)
+      → AfterAct same_lane acts takes (Held r v w) (Held (other r) w v) xs line back f ys c (acts e c)
   act_kept e xs line back f ys c held =
       let us = line normal in
       let vs = back normal in
@@ -117,11 +117,11 @@ module _ (r : Role) (v w : ℕ) where
       (e : Station) (xs : Log) (line back : Lines Lane (List ℕ)) (f : Station) (ys : Log) (u : List ℕ) (vs : List (List ℕ))
       → Inv r v w e xs (line normal) (u ∷ vs) f ys
       → HalvesOf e f (line expedited) (back expedited)
-      → AfterTake sameLane acts takes (Held r v w) (Held (other r) w v) xs line back f ys normal u vs (takes normal e u)
+      → AfterTake same_lane acts takes (Held r v w) (Held (other r) w v) xs line back f ys normal u vs (takes normal e u)
   take_kept e xs line back f ys u vs i h =
       let us = line normal in
       let t = takes normal e u in
-      held_both _ _ t.end _ (join line t.sent) (put sameLane normal (cond t.removed vs (u ∷ vs)) back) f ys
+      held_both _ _ t.end _ (join line t.sent) (put same_lane normal (cond t.removed vs (u ∷ vs)) back) f ys
       (halves_takes e f (line expedited) (back expedited) h u)
       (record {
         order = order_takes r e f.end u us vs i.order;
@@ -179,10 +179,10 @@ module _ (r : Role) (v w : ℕ) where
         (λ a k. apart e xs (line normal) (back normal) f ys _ _ u _ _ refl i)
         (λ a k. apart e xs (line normal) (back normal) f ys _ e.unit u (record { answer = accepted 0; signalled = false }) [] refl i)
 
-    expedited_kept : AfterTake sameLane acts takes (Held r v w) (Held (other r) w v) xs line back f ys expedited u vs (takes expedited e u)
+    expedited_kept : AfterTake same_lane acts takes (Held r v w) (Held (other r) w v) xs line back f ys expedited u vs (takes expedited e u)
     expedited_kept =
         let t = takes expedited e u in
-        held_both _ _ t.end _ (join line t.sent) (put sameLane expedited (cond t.removed vs (u ∷ vs)) back) f ys
+        held_both _ _ t.end _ (join line t.sent) (put same_lane expedited (cond t.removed vs (u ∷ vs)) back) f ys
         (halves_takes_expedited e f (line expedited) u vs h) taken_apart
 
   -- a take, by its lane
@@ -190,13 +190,13 @@ module _ (r : Role) (v w : ℕ) where
       (e : Station) (xs : Log) (line back : Lines Lane (List ℕ)) (f : Station) (ys : Log) (l : Lane) (u : List ℕ) (us : List (List ℕ))
       → back l ≡ u ∷ us
       → Held r v w e xs line back f ys
-      → AfterTake sameLane acts takes (Held r v w) (Held (other r) w v) xs line back f ys l u us (takes l e u)
+      → AfterTake same_lane acts takes (Held r v w) (Held (other r) w v) xs line back f ys l u us (takes l e u)
   lane_kept e xs line back f ys normal u us p i =
       take_kept e xs line back f ys u us (subst (λ (vs : List (List ℕ)). Inv r v w e xs (line normal) vs f ys) p i.0) i.1
   lane_kept e xs line back f ys expedited u us p i =
       expedited_kept e xs line back f ys u us i.0 (subst (λ (vs : List (List ℕ)). HalvesOf e f (line expedited) vs) p i.1)
 
-  keeps : Keeps sameLane acts takes (Held r v w) (Held (other r) w v)
+  keeps : Keeps same_lane acts takes (Held r v w) (Held (other r) w v)
   keeps =
       record {
         act_keeps = λ e xs line back f ys c d h. act_kept e xs line back f ys c d;
@@ -265,7 +265,7 @@ fresh_kept s t b c e f g h =
 -- ---- every list
 
 opened_kept : (s t : Session) (b c : Buffers) → JoinedOpenings s t b c
-    → Ways sameLane acts takes (Held FirstSpeaker s.outwindow t.outwindow) (Held Bidder t.outwindow s.outwindow) (opened_both s t b c)
+    → Ways same_lane acts takes (Held FirstSpeaker s.outwindow t.outwindow) (Held Bidder t.outwindow s.outwindow) (opened_both s t b c)
 opened_kept s t b c j =
     let x = opened_as FirstSpeaker s b (ap role_of j.speaker) j.one in
     let y = opened_as Bidder t c (ap role_of j.bidder) j.two in
@@ -280,7 +280,7 @@ every_list : (s t : Session) (b c : Buffers) (l : List (At Lane Verb)) → Joine
     → (let p = after s t b c l in
     Held FirstSpeaker s.outwindow t.outwindow p.one.end p.one.log p.two.waiting p.one.waiting p.two.end p.two.log)
 every_list s t b c l j =
-    (run_ways sameLane acts takes (Held FirstSpeaker s.outwindow t.outwindow) (Held Bidder t.outwindow s.outwindow)
+    (run_ways same_lane acts takes (Held FirstSpeaker s.outwindow t.outwindow) (Held Bidder t.outwindow s.outwindow)
     (keeps FirstSpeaker s.outwindow t.outwindow) (keeps Bidder t.outwindow s.outwindow) (opened_both s t b c) l
     (opened_kept s t b c j)).0
 
@@ -307,7 +307,7 @@ joint_of s t p held =
 pub proved : Claim
 proved s t b c l j = (
   joint_of s t (after s t b c l) (every_list s t b c l j),
-  λ m f g h k. confluent sameLane acts takes (opened_both s t b c) l m f g h k,
+  λ m f g h k. confluent same_lane acts takes (opened_both s t b c) l m f g h k,
 )
 
 -- ---- the records

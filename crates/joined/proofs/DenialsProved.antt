@@ -1,7 +1,7 @@
 -- The error header stands where it is announced: at both ends and on the lines, after every list of calls.
 -- Assumes nothing.
 use Rattle.joined.proofs.JoinedWords.{ℕ, length, Bool, true, false, cond, List, [], ◌∷◌, ◌++◌, ◌≡◌, refl, sym, ap, ◌∙◌, subst, never, Session}
-use Rattle.joined.proofs.JoinedWords.{Station, Reply, Verb, opened_is, Lane, normal, acts, takes, sameLane, Buffers, OpeningAccepted, opened_with}
+use Rattle.joined.proofs.JoinedWords.{Station, Reply, Verb, opened_is, Lane, normal, acts, takes, same_lane, Buffers, OpeningAccepted, opened_with}
 use Rattle.joined.proofs.JoinedWords.{opened_both, Log, Lines, acted, took, Took, expedited, expedited_cases}
 use mathlib.Core.List.{append_assoc}
 use Rattle.joined.specs.Denials.{units_made, units_taken, announced_behind, announced, AsAnnounced, Denials, TheDenials}
@@ -74,7 +74,7 @@ act_kept :
     (e : Station) (xs : Log) (line back : Lines Lane (List ℕ)) (f : Station) (ys : Log) (c : Verb)
     → Held e xs line back f ys
     → Held f ys back line e xs
-    → AfterAct sameLane acts takes Held Held xs line back f ys c (acts e c)
+    → AfterAct same_lane acts takes Held Held xs line back f ys c (acts e c)
 unfolding units_made units_taken
 act_kept e xs line back f ys c i j = (
   record { alone = alone_acts e xs c i.alone; conserved = made_joins (units_made xs) (units_taken ys) (line normal) ((acts e c).sent normal) i.conserved },
@@ -86,7 +86,7 @@ take_kept :
     → back l ≡ u ∷ us
     → Held e xs line back f ys
     → Held f ys back line e xs
-    → AfterTake sameLane acts takes Held Held xs line back f ys l u us (takes l e u)
+    → AfterTake same_lane acts takes Held Held xs line back f ys l u us (takes l e u)
 unfolding units_made units_taken takes
 take_kept e xs line back f ys normal u us p i j =
     let t = takes normal e u in (
@@ -105,7 +105,7 @@ take_kept e xs line back f ys expedited u us p i j =
       record { alone = j.alone; conserved = j.conserved },
     )
 
-keeps : Keeps sameLane acts takes Held Held
+keeps : Keeps same_lane acts takes Held Held
 keeps = record { act_keeps = act_kept; take_keeps = take_kept }
 
 -- ---- from openings
@@ -134,7 +134,7 @@ pub the_denials : TheDenials
 unfolding units_made units_taken
 the_denials s t b c l x y =
     let w =
-    run_ways sameLane acts takes Held Held keeps keeps (opened_both s t b c) l (
+    run_ways same_lane acts takes Held Held keeps keeps (opened_both s t b c) l (
       record { alone = fresh_alone s b x; conserved = refl },
       record { alone = fresh_alone t c y; conserved = refl },
     ) in

@@ -29,7 +29,7 @@ use Rattle.transitions.proofs.KeptWithin.{deferred_defers}
 use Rattle.control.proofs.Within.{due_outside_send, due_at_bidder, error_in_send_lem, unmarked_outside_receive}
 use Rattle.joined.proofs.TwoLines.{other, led_as, led_past, led_took, led_moved, led_still}
 use Rattle.joined.proofs.Floor.{Floor, reset, send_bb, send, receive, after_mark_floor, floor_at, floor_of, is_reset_floor, data_moves, after_awaited_floor}
-use Rattle.joined.proofs.Floor.{confirmed_floor, Floors, sent_floor, quiet_sending, sent_moves, sent_partners, after_owed_floor, confirmed_moves}
+use Rattle.joined.proofs.Floor.{floors, confirmed_floor, Floors, sent_floor, quiet_sending, sent_moves, sent_partners, after_owed_floor, confirmed_moves}
 use Rattle.joined.proofs.Floor.{confirmed_floor_lem, last_floor, mark_floor, denied_moves, error_moves}
 use Rattle.joined.proofs.Bids.{Pending, none, some, bid_at, bid_of, bid_moves, bid_on, Bids, bids_moved, bid_speaker, bid_off}
 use Rattle.calls.proofs.CallCases.{kind_cases, took_kind}
@@ -171,7 +171,7 @@ module _ (r : Role) (s : Station) (f : End) (line back : List (List ℕ)) (i : O
       let e' = sent_end e (error_made c) in
       order_with refl
       (led_as (ap (λ (x : Bool). cond x send_bb send) (sym p.1) ∙ sym (floor_in e' Send q))
-      (led_moved n h error_ru send refl (error_moves r (paced e.sending.window) n)
+      (led_moved {A = floors} {r = r} {y = floor_of f} {line = line} {back = back} n h error_ru send refl (error_moves r (paced e.sending.window) n)
       (led_as (floor_in e Send q ∙ ap (λ (x : Bool). cond x send_bb send) p.1) i.floors)))
       (led_past n h error_ru (λ v. refl) i.bids) i
 
@@ -191,7 +191,7 @@ module _ (r : Role) (s : Station) (f : End) (line back : List (List ℕ)) (i : O
       (sym
       (ap (λ (b : Bool). floor_at (after_owed c.follows) b c.follows c.mark e.owed e.sending.number) (due_outside_send c w (rw p))
       ∙ confirmed_floor_lem c.follows c.mark e.owed e.sending.number (unmarked_outside_receive c w (rw p))))
-      (led_moved e.owed Confirmation [] (after_owed_floor c.follows) refl (confirmed_moves r c.follows e.owed)
+      (led_moved {A = floors} {r = r} {y = floor_of f} {line = line} {back = back} e.owed Confirmation [] (after_owed_floor c.follows) refl (confirmed_moves r c.follows e.owed)
       (led_as (floor_in e ConfirmOwed p) i.floors)))
       (led_past e.owed Confirmation [] (λ v. refl) i.bids) i)
   order_acts Verb.request_to_send = request_cases (Laned After) s (λ q n. rw append-nil i) (λ a. rw append-nil (order_apart i))
@@ -203,7 +203,7 @@ module _ (r : Role) (s : Station) (f : End) (line back : List (List ℕ)) (i : O
       let p = (state_is c.state).2 a in
       order_with refl
       (led_as (ap (λ (b : Bool). cond b send_bb send) (sym (due_outside_send c (facts e g).control (rw p))))
-      (led_moved e.owed NegativeConfirmation negative_confirmation_ru send refl (denied_moves r c.follows e.owed)
+      (led_moved {A = floors} {r = r} {y = floor_of f} {line = line} {back = back} e.owed NegativeConfirmation negative_confirmation_ru send refl (denied_moves r c.follows e.owed)
       (led_as (floor_in e ConfirmOwed p) i.floors)))
       (led_past e.owed NegativeConfirmation negative_confirmation_ru (λ v. refl) i.bids) i)
   order_acts Verb.send_pacing_response =

@@ -58,7 +58,7 @@ pub use Rattle.calls.proofs.{CallCases.ReadAsked, CallCases.SendAsked, CallCases
 pub use Rattle.calls.proofs.{CallCases.TakeAsked, ControlMoved.allocate_moves, ControlMoved.mark_moves, RecordStaysGood.opened_is, UnitsByHeader.Sort}
 pub use Rattle.calls.proofs.{UnitsByHeader.sort_of, UnitsByHeader.is_asking, UnitsByHeader.taken_header, UnitsByHeader.is_pacing, UnitsByHeader.bit_of}
 pub use Rattle.calls.proofs.{UnitsByHeader.answer_sort, UnitsByHeader.data_of}
-pub use Rattle.joined.specs.{Claim.Pair, Ends.Lane, Ends.normal, Ends.sameLane, Ends.Buffers, Ends.OpeningAccepted, Ends.opened_with}
+pub use Rattle.joined.specs.{Claim.Pair, Ends.Lane, Ends.normal, Ends.same_lane, Ends.Buffers, Ends.OpeningAccepted, Ends.opened_with}
 pub use Rattle.joined.specs.{Ends.opened_both, Ends.on_normal, Ends.on_expedited, Ends.expedited, Histories.bytes_in_send_buffer, Histories.Log, Histories.bytes_in_inbox}
 pub use Rattle.joined.specs.{Histories.is_breach, Joined.Acted, Joined.Took, Joined.At, Joined.Call, Joined.act, Joined.first, Joined.second}
 pub use Rattle.joined.specs.{Joined.Both, Joined.Local, Joined.Event, Joined.took, Joined.take_oldest, Joined.apply, Joined.run, Joined.acted}

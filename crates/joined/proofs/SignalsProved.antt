@@ -1,7 +1,7 @@
 -- Signals made at one end are those told at the other and those on the line; and a signal is unanswered while it or its response is on a line.
 -- Assumes nothing.
 use Rattle.joined.proofs.JoinedWords.{ℕ, ◌+◌, Bool, false, cond, List, [], ◌∷◌, ◌++◌, ◌≡◌, refl, sym, ap, ◌∙◌, arith, length}
-use Rattle.joined.proofs.JoinedWords.{Station, Reply, Verb, Lane, normal, expedited, acts, takes, sameLane, opened_both}
+use Rattle.joined.proofs.JoinedWords.{Station, Reply, Verb, Lane, normal, expedited, acts, takes, same_lane, opened_both}
 use Rattle.joined.proofs.JoinedWords.{Log, Lines, Took, count, among, expedited_cases, subst}
 use Rattle.header.specs.ExpeditedHeader.{is_signal}
 use Rattle.expedited.specs.Takes.{header_taken}
@@ -45,7 +45,7 @@ act_kept :
     (e : Station) (xs : Log) (line back : Lines Lane (List ℕ)) (f : Station) (ys : Log) (c : Verb)
     → Held e xs line back f ys
     → Held f ys back line e xs
-    → AfterAct sameLane acts takes Held Held xs line back f ys c (acts e c)
+    → AfterAct same_lane acts takes Held Held xs line back f ys c (acts e c)
 unfolding signals_made signals_told acts
 act_kept e xs line back f ys c i j =
     let m = called e c in
@@ -83,7 +83,7 @@ take_kept :
     → back l ≡ u ∷ us
     → Held e xs line back f ys
     → Held f ys back line e xs
-    → AfterTake sameLane acts takes Held Held xs line back f ys l u us (takes l e u)
+    → AfterTake same_lane acts takes Held Held xs line back f ys l u us (takes l e u)
 unfolding signals_made signals_told
 take_kept e xs line back f ys normal u us p i j =
     let m = takes normal e u in
@@ -102,7 +102,7 @@ take_kept e xs line back f ys expedited u us p i j =
       ),
     )
 
-keeps : Keeps sameLane acts takes Held Held
+keeps : Keeps same_lane acts takes Held Held
 keeps = record { act_keeps = act_kept; take_keeps = take_kept }
 
 -- ---- from openings
@@ -121,7 +121,7 @@ pub the_signals : TheSignals
 unfolding signals_made signals_told among
 the_signals s t b c l x y =
     let w =
-    run_ways sameLane acts takes Held Held keeps keeps (opened_both s t b c) l (
+    run_ways same_lane acts takes Held Held keeps keeps (opened_both s t b c) l (
       (refl, halves_opened s t b c x y),
       (refl, halves_opened t s c b y x),
     ) in

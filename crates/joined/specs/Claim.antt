@@ -11,7 +11,7 @@ use Rattle.answers.specs.Answers.{BAD_RECORD}
 use Rattle.end.specs.Record.{record_good, credit_of}
 use Rattle.session.specs.declared.Session.{Session}
 use Rattle.joined.specs.Joined.{Call, act, take, At, first, second, Side, Both, firsts, seconds, run, AllFed}
-use Rattle.joined.specs.Ends.{Lane, normal, sameLane, Buffers, OpeningAccepted, JoinedOpenings, opened_both, acts, takes}
+use Rattle.joined.specs.Ends.{Lane, normal, same_lane, Buffers, OpeningAccepted, JoinedOpenings, opened_both, acts, takes}
 use Rattle.joined.specs.Histories.{bytes_accepted, bytes_read, bytes_on_line, bytes_in_inbox, bytes_in_send_buffer, requests_made, pacing_responses_taken, breaches}
 use Rattle.joined.specs.Histories.{refused_with, bad_reads, CompleteIsRight, MoreIsRight, NoneCrosses}
 use Rattle.calls.specs.Calls.{Reply, Station, Verb}
@@ -25,7 +25,7 @@ JoinedEnd = Side Lane Station Verb Reply (List ℕ)
 
 -- the two ends as opened, after the list of calls
 abbrev pub after : Session → Session → Buffers → Buffers → List (At Lane Verb) → Pair
-after s t b c l = run sameLane acts takes (opened_both s t b c) l
+after s t b c l = run same_lane acts takes (opened_both s t b c) l
 
 -- One way, from x to y: the bytes accepted for sending are exactly the bytes read at the other end, then those held in its inbox, then the data RUs
 -- on the normal lane, then those held in the sender's buffer.
@@ -57,9 +57,9 @@ SameOutcome p l =
     (m : List (At Lane Verb))
     → firsts l ≡ firsts m
     → seconds l ≡ seconds m
-    → AllFed sameLane acts takes p l
-    → AllFed sameLane acts takes p m
-    → run sameLane acts takes p l ≡ run sameLane acts takes p m
+    → AllFed same_lane acts takes p l
+    → AllFed same_lane acts takes p m
+    → run same_lane acts takes p l ≡ run same_lane acts takes p m
 
 -- THE CLAIM: for every two accepted openings that are joined, and every list of calls
 abbrev pub Claim : Type 0

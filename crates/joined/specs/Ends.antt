@@ -13,7 +13,7 @@ use Rattle.joined.specs.Joined.{Acted, Took, Side, Both}
 pub data Lane : Type 0 where
   normal : Lane
   expedited : Lane
-  deriving Discrete as sameLane
+  deriving Discrete as same_lane
 
 -- units of the normal lane, and units of the expedited one
 abbrev pub by_lane : List (List ℕ) → List (List ℕ) → Lines Lane (List ℕ)

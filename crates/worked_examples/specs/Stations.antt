@@ -4,7 +4,7 @@ use Rattle.std.specs.Prelude.{ℕ, zero, suc, ◌+◌, ◌*◌, List, [], ◌∷
 use Rattle.session.specs.declared.Session.{Session}
 use Rattle.joined.specs.Joined.{Took, Both, At, run}
 use Rattle.calls.specs.Calls as J
-use Rattle.joined.specs.Ends.{Lane, normal, sameLane, Buffers, acts, takes, opened_with, opened_both}
+use Rattle.joined.specs.Ends.{Lane, normal, same_lane, Buffers, acts, takes, opened_with, opened_both}
 use Rattle.calls.specs.Calls.{Reply, Station, Verb}
 
 abbrev pub zeros : ℕ → List ℕ
@@ -67,7 +67,7 @@ abbrev pub joined : ℕ → ℕ → Both Lane Station Verb Reply (List ℕ)
 joined window max = opened_both (session 0 window max) (session 1 window max) (buffers window max) (buffers window max)
 
 abbrev pub runs : Both Lane Station Verb Reply (List ℕ) → List (At Lane Verb) → Both Lane Station Verb Reply (List ℕ)
-runs s l = run sameLane acts takes s l
+runs s l = run same_lane acts takes s l
 
 -- ---- W 3 and M 64
 

@@ -1,0 +1,8 @@
+-- `lu62::receive_calls::lu62_receive` meets its contract: the call on the record that the image holds, or the image's refusal.
+-- Assumes nothing.
+use Rattle.lu62.proofs.CallsOnImage.{arms}
+use Rattle.lu62.proofs.receive_calls.lu62_receive.Goals as goal
+
+-- that what is held is a number of 16 bits is told where the image is read
+pub hand_out_read-requires : goal.hand_out_read-requires
+hand_out_read-requires c = search (arms, c.known_told-1.given.0.1.1.1.1.0)
