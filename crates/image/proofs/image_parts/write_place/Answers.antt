@@ -8,7 +8,7 @@ use Rattle.image.proofs.Writes.{one_stored}
 use Rattle.image.proofs.image_parts.write_place.Goals as goal
 
 pub shape_of-image : goal.shape_of-image
-shape_of-image c = c.write_number.auto.0 ∙ simp length-set
+shape_of-image c = c.write_number.auto.image ∙ simp length-set
 
 pub returns : goal.returns
 returns c = let a = c.args in

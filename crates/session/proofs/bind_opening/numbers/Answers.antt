@@ -4,4 +4,4 @@ use Rattle.session.proofs.bind_opening.numbers.Goals as goal
 
 pub returns : goal.returns
 returns c =
-    rw (c.size_of-2.ensures, c.type_size.ensures, c.window_of-2.ensures, c.window_of.ensures)
+    rw (c.size_of-2.ensures, c.size_of.ensures, c.window_of-2.ensures, c.window_of.ensures)
