@@ -3,12 +3,8 @@
 use Prim.Native.Nat.{zero-le}
 use mathlib.Core.Path.{refl}
 use Rattle.unit_lines.specs.UnitLine.{frames, NoneLonger}
-use Rattle.unit_lines.proofs.empty.Statement.{statement}
-use Rattle.unit_lines.proofs.empty.Tie as tie
+use Rattle.unit_lines.proofs.empty.Goals as goal
 
-returns : tie.Need-returns
+pub returns : goal.returns
 unfolding frames NoneLonger
 returns c = λ cells room. record { units_are = refl; used_are = refl; cells_are = refl; most = zero-le; none_longer = tt; room = room }
-
-pub empty-spec : {M : Type 1} → statement M
-empty-spec = tie.close (tie.spec returns)
