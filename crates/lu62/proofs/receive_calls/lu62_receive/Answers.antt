@@ -5,4 +5,4 @@ use Rattle.lu62.proofs.receive_calls.lu62_receive.Goals as goal
 
 -- that what is held is a number of 16 bits is told where the image is read
 pub hand_out_read-requires : goal.hand_out_read-requires
-hand_out_read-requires c = search (arms, c.known_told-1.given.0.1.1.1.1.0)
+hand_out_read-requires c = search (arms, c.in-Record.known_told-1-own.given.0.1.1.1.1.0)
