@@ -19,7 +19,7 @@ pub(crate) const RECORD: usize = 1024;
 
 // The next part is the one behind; behind the last comes the first of the next record.
 fn part_behind(at: usize, max: usize) -> usize {
-    let next = std::num::wrapping_add_usize(at, max);
+    let next = at.wrapping_add(max);
     if next < RECORD { next } else { 0 }
 }
 
@@ -62,9 +62,9 @@ fn read(before: Pair, reader: End, inbox: &mut [u8], buffer: &mut [u8]) -> Pair 
     Pair {
         giver,
         reader: next,
-        place: std::num::wrapping_add_u8(before.place, 1),
+        place: before.place.wrapping_add(1),
         at: before.at,
-        read: std::num::wrapping_add_usize(before.read, answer.copied),
+        read: before.read.wrapping_add(answer.copied),
     }
 }
 

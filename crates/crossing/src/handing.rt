@@ -1,5 +1,4 @@
 // Texts handed out: printed, or held to the answers expected.
-use check::same;
 use std::io;
 
 // What the answers of a script are handed to.
@@ -23,34 +22,18 @@ impl<P: Print> Handing for Printed<'_, P> {
     }
 }
 
-// Texts are held to the answers expected: how far these are met, and whether the texts are the same so far.
+// Texts are held to the answers expected: those still to come, and whether the texts are the same so far.
 #[derive(Drop)]
 pub struct Met<'a> {
-    pub expected: &'a [u8],
-    pub at: usize,
+    pub to_come: &'a [u8],
     pub same: bool,
-}
-
-impl Met<'_> {
-    // Whether a text is what is expected next.
-    fn hold(&self, text: &[u8]) -> bool {
-        if self.expected.len() < self.at {
-            return false;
-        }
-        if self.expected.len() - self.at < text.len() {
-            return false;
-        }
-        let end = self.at + text.len();
-        same(&self.expected[self.at..end], text)
-    }
 }
 
 impl Handing for Met<'_> {
     fn hand_out(&mut self, text: &[u8]) {
-        if self.same & self.hold(text) {
-            self.at += text.len();
-        } else {
-            self.same = false;
+        match self.to_come.strip_prefix(text) {
+            Some(rest) => self.to_come = rest,
+            None => self.same = false,
         }
     }
 }

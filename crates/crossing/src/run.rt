@@ -284,10 +284,9 @@ pub fn print_answers(rt: &impl Print, script: &[u8]) -> io::Result<()> {
 // Whether the answers of a script are these, byte for byte.
 pub fn answers_as(script: &[u8], expected: &[u8]) -> bool {
     let mut met = Met {
-        expected,
-        at: 0,
+        to_come: expected,
         same: true,
     };
     run(&mut met, script);
-    met.same & (met.at == expected.len())
+    met.same & met.to_come.is_empty()
 }
