@@ -1,0 +1,6 @@
+-- `bench::made_call::plain` meets its contract. It is the rule, of `plain_answer`.
+-- Assumes nothing.
+use Rattle.bench.proofs.made_call.plain.Goals as goal
+
+pub returns : goal.returns
+returns c = rw c.plain_answer-answer.ensures
