@@ -15,19 +15,18 @@ static const struct {
     enum fault fault;
 } faults[] = {
     {"--garbage", FAULT_GARBAGE}, {"--short", FAULT_SHORT},     {"--gone", FAULT_GONE},       {"--silent", FAULT_SILENT},
-    {"--early", FAULT_EARLY},     {"--forever", FAULT_FOREVER}, {"--dropped", FAULT_DROPPED}, {"--unknown", FAULT_UNKNOWN},
-    {"--attach", FAULT_ATTACH},
+    {"--early", FAULT_EARLY},     {"--forever", FAULT_FOREVER}, {"--dropped", FAULT_DROPPED},
 };
 
 static int usage(void)
 {
     fprintf(stderr,
             "usage: batch [--counts] [--limit MS] [--pause MS]\n"
-            "             [--garbage | --short | --gone | --silent | --early | --forever | --dropped | --unknown | --attach]\n"
+            "             [--garbage | --short | --gone | --silent | --early | --forever | --dropped]\n"
             "  --counts     print what was counted to standard error\n"
             "  --limit MS   give a conversation up that has stood still for so many milliseconds (default %d)\n"
             "  --pause MS   wait so long after a refused bid before the next (default %d)\n"
-            "  the others   the fault that the laboratory shows in its second table, the last two in its attach header\n",
+            "  the others   the fault that the laboratory shows in its second table\n",
             DEFAULT_LIMIT_MS, DEFAULT_PAUSE_MS);
     return 2;
 }

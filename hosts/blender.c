@@ -547,7 +547,7 @@ int blender(int socket, const struct options *options)
     struct blender blender = {0};
     if (!session_open_blender(&blender.session, socket, options))
         return EXIT_FAILURE;
-    /* The blender bids before it looks at the line, and so before it knows which program the laboratory wants. */
+    /* The blender bids before it looks at the line. */
     (void)ask(&blender);
     bool good = session_run(&blender.session, step, &blender, &blender.done);
     if (good && !blender.done) {
@@ -555,9 +555,7 @@ int blender(int socket, const struct options *options)
         good = false;
     }
     good = good && print_revised(&blender);
-    if (options->counts) {
+    if (options->counts)
         session_print_counts(&blender.session);
-        fprintf(stderr, "blender: attach headers taken %lu\n", blender.session.attach_headers_taken);
-    }
     return good ? EXIT_SUCCESS : EXIT_FAILURE;
 }

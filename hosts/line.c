@@ -43,14 +43,12 @@ bool line_receive(struct line *line)
 /* The length of the unit that a length in front announces. */
 static size_t announced(const uint8_t *frame)
 {
-    return (frame[0] % (size_t)LINE_BESIDE_BIT) * 256 + frame[1];
+    return (frame[0] % (size_t)LINE_EXPEDITED_BIT) * 256 + frame[1];
 }
 
 static enum flow flow_of(const uint8_t *frame)
 {
-    if (frame[0] & LINE_BESIDE_BIT)
-        return BESIDE;
-    return frame[0] & LINE_EXPEDITED_BIT ? EXPEDITED : NORMAL;
+    return frame[0] >= LINE_EXPEDITED_BIT ? EXPEDITED : NORMAL;
 }
 
 /* Where the oldest whole frame of this flow begins in what has come. False if there is none. */
@@ -86,12 +84,11 @@ void line_drop(struct line *line, enum flow flow)
 
 bool line_put(struct line *line, enum flow flow, const uint8_t *unit, size_t length)
 {
-    static const size_t bits[FLOWS] = {[NORMAL] = 0, [EXPEDITED] = LINE_EXPEDITED_BIT, [BESIDE] = LINE_BESIDE_BIT};
     struct line_out *out = &line->out[flow];
     if (length > LINE_LONGEST || sizeof out->bytes - out->held < LINE_LENGTH_BYTES + length)
         return false;
     uint8_t *frame = out->bytes + out->held;
-    frame[0] = (uint8_t)(length / 256 + bits[flow]);
+    frame[0] = (uint8_t)(length / 256 + (flow == EXPEDITED ? LINE_EXPEDITED_BIT : 0));
     frame[1] = (uint8_t)(length % 256);
     memcpy(frame + LINE_LENGTH_BYTES, unit, length);
     out->held += LINE_LENGTH_BYTES + length;
@@ -100,22 +97,15 @@ bool line_put(struct line *line, enum flow flow, const uint8_t *unit, size_t len
 
 bool line_unsent(const struct line *line)
 {
-    for (size_t i = 0; i < FLOWS; i++)
-        if (line->out[i].held > 0)
-            return true;
-    return false;
+    return line->out[NORMAL].held > 0 || line->out[EXPEDITED].held > 0;
 }
 
-/* The flow whose turn it is to be sent: that of a frame whose front has gone, then the one beside the conversation, then the expedited
- * one. */
+/* The flow whose turn it is to be sent: that of a unit whose front has gone, then the expedited one. */
 static struct line_out *next_out(struct line *line)
 {
-    for (size_t i = 0; i < FLOWS; i++)
-        if (line->out[i].rest > 0)
-            return &line->out[i];
-    if (line->out[BESIDE].held > 0)
-        return &line->out[BESIDE];
-    return &line->out[line->out[EXPEDITED].held > 0 ? EXPEDITED : NORMAL];
+    if (line->out[NORMAL].rest > 0 || line->out[EXPEDITED].held == 0)
+        return &line->out[NORMAL];
+    return &line->out[EXPEDITED];
 }
 
 /* Nothing more goes to a partner that has gone. */

@@ -1,10 +1,7 @@
 /* Units of both flows over one stream socket. Each unit has its length in front, two bytes, high byte first; the top bit of the length
  * says that the unit is expedited, as a bit of SNA's transmission header does, for the unit's own bytes do not say it. The flows are two
  * lines: within each the units keep their order, and an expedited unit waits neither behind normal ones that are still to be sent nor
- * behind those that have come and cannot be taken yet. Only line_wait waits.
- *
- * What passes beside the conversation, the attach header, is no unit: it goes in a frame of its own, which the bit below the top one marks,
- * and is a third flow, before whatever else waits to be sent. */
+ * behind those that have come and cannot be taken yet. Only line_wait waits. */
 #ifndef LINE_H
 #define LINE_H
 
@@ -12,13 +9,12 @@
 #include <stddef.h>
 #include <stdint.h>
 
-enum flow { NORMAL, EXPEDITED, BESIDE, FLOWS };
+enum flow { NORMAL, EXPEDITED, FLOWS };
 
 enum {
     LINE_LENGTH_BYTES = 2,
     LINE_EXPEDITED_BIT = 0x80, /* in the first byte of the length */
-    LINE_BESIDE_BIT = 0x40,    /* in the same; then the other bit says nothing */
-    LINE_LONGEST = 0x3FFF,
+    LINE_LONGEST = 0x7FFF,
     /* Room for the longest unit that a length in front can announce, so that any frame can be received whole. */
     LINE_IN = LINE_LENGTH_BYTES + LINE_LONGEST,
     /* Room for what pacing lets an end have under way, several times over. */

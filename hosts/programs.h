@@ -1,6 +1,5 @@
 /* The two programs, and the records that they exchange. Every record is LL, one byte that says its kind, text of printable ASCII
- * characters, and the CRC-32 of kind and text as eight hexadecimal digits; what does not fit is refused, never cut. Before the first
- * conversation the laboratory names the program that it wants at the blender, in an attach header (attach.h).
+ * characters, and the CRC-32 of kind and text as eight hexadecimal digits; what does not fit is refused, never cut.
  *
  *   Q  blender: asks for the table of a campaign; the text is its name and, if the table is not to begin with its first batch, the
  *      number of the batch with which it is to begin
@@ -53,8 +52,7 @@ enum {
 /* What the numbers in the records may be at most. */
 enum { MOST_ROWS = 9999, MOST_PARTS = 99 };
 
-/* How the laboratory misbehaves, in the middle of its second table; `--forever` and `--dropped` at its end, `--unknown` and `--attach`
- * before its first conversation. */
+/* How the laboratory misbehaves, in the middle of its second table; `--forever` and `--dropped` at its end. */
 enum fault {
     FAULT_NONE,
     FAULT_GARBAGE, /* it sends bytes that are no unit */
@@ -63,9 +61,7 @@ enum fault {
     FAULT_SILENT,  /* it stays, and says nothing more */
     FAULT_EARLY,   /* a part says that no other follows, and others do */
     FAULT_FOREVER, /* the last part says that another follows, and none does */
-    FAULT_DROPPED, /* the blender's confirmation of the table is lost on the line */
-    FAULT_UNKNOWN, /* its attach header names a program that the blender has not */
-    FAULT_ATTACH   /* its attach header breaks the format of one */
+    FAULT_DROPPED  /* the blender's confirmation of the table is lost on the line */
 };
 
 enum { DEFAULT_LIMIT_MS = 10000, DEFAULT_PAUSE_MS = 20, LONGEST_MS = 86400000 };

@@ -1,6 +1,5 @@
 #include "session.h"
 
-#include "attach.h"
 #include "clock.h"
 
 #include <errno.h>
@@ -91,16 +90,14 @@ static bool open_session(struct session *session, int socket, const struct optio
 bool session_open_laboratory(struct session *session, int socket, const struct options *options)
 {
     static const struct program laboratory = {"laboratory", "blender", LU62_INBOX(BLENDER_WINDOW, BLENDER_MAXIMUM), open_by_bytes};
-    return open_session(session, socket, options, &laboratory) && attach_put(session, options->fault);
+    return open_session(session, socket, options, &laboratory);
 }
 
 bool session_open_blender(struct session *session, int socket, const struct options *options)
 {
     static const struct program blender = {"blender", "laboratory", LU62_INBOX(LABORATORY_WINDOW, LABORATORY_MAXIMUM),
                                            open_by_numbers};
-    bool good = open_session(session, socket, options, &blender);
-    session->attach_due = true;
-    return good;
+    return open_session(session, socket, options, &blender);
 }
 
 /* Notes that the conversation got on: bytes were given or read, or the turn or the end was given or read. Bids, their refusals,
@@ -387,41 +384,13 @@ static bool take_expedited(struct session *session)
     return true;
 }
 
-/* Takes the attach header, which the laboratory sends once, before its units. False if it has not come, or is not due. */
-static bool take_attach_header(struct session *session)
-{
-    size_t length;
-    const uint8_t *header = line_front(&session->line, BESIDE, &length);
-    if (header == NULL && !session->attach_due)
-        return false;
-    if (header == NULL) {
-        if (line_front(&session->line, NORMAL, &length) != NULL || line_front(&session->line, EXPEDITED, &length) != NULL)
-            session_fail(session, "it sends a unit before its attach header");
-        return false;
-    }
-    if (!session->attach_due) {
-        session_fail(session, "it sends an attach header where none is due");
-        return false;
-    }
-    session->attach_due = false;
-    session->attach_headers_taken++;
-    attach_read(session, header, length);
-    line_drop(&session->line, BESIDE);
-    return true;
-}
-
-/* Nothing is taken from a partner whose attach header is due still, or has just been found wrong. */
 static bool take_next(struct session *session)
 {
-    if (take_attach_header(session))
-        return true;
-    if (session->failed || session->attach_due)
-        return false;
     return take_expedited(session) || (!session->breach && take_unit(session));
 }
 
-/* Takes every unit that has come and may be taken, the expedited ones first and the attach header before all, and makes a pacing response
- * if one is due. True if anything was done. */
+/* Takes every unit that has come and may be taken, the expedited ones first, and makes a pacing response if one is due. True if anything
+ * was done. */
 static bool exchange(struct session *session)
 {
     if (session->breach)
@@ -459,8 +428,6 @@ static void out_of_time(struct session *session)
     size_t length;
     if (session->line.in_held > 0 && line_front(&session->line, NORMAL, &length) == NULL)
         session_fail(session, "time limit: only part of a unit has come, and nothing got on for %" PRId64 " ms", session->limit_ms);
-    else if (session->attach_due)
-        session_fail(session, "time limit: its attach header has not come, and nothing got on for %" PRId64 " ms", session->limit_ms);
     else if (session->bids_in_vain > 0)
         session_fail(session, "time limit: it has refused %lu bids, and nothing got on for %" PRId64 " ms", session->bids_in_vain,
                      session->limit_ms);

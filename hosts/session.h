@@ -42,7 +42,6 @@ struct session {
     const char *name;    /* this program, for messages */
     const char *partner; /* the other one */
     bool failed;         /* the conversation was ended for a fault, and a message said so */
-    bool attach_due;     /* no unit of the partner's is taken before its attach header has come */
     bool breach;         /* a unit was refused; the records before it are still to be read */
     enum flow breach_flow;
     struct lu62_answer breach_answer;
@@ -58,15 +57,14 @@ struct session {
     bool unconfirmed;          /* the partner has refused to confirm; the program that asked puts it off again */
     unsigned long told;        /* how often the partner has requested the turn; the program that gives it takes them off again */
     /* Counts for --counts. */
-    unsigned long units_made, units_taken, bids_refused, waits_for_credit, pacing_responses, signals_taken, attach_headers_taken;
+    unsigned long units_made, units_taken, bids_refused, waits_for_credit, pacing_responses, signals_taken;
     struct lu62_end end;
     uint8_t send[LARGEST_MAXIMUM];
     uint8_t unit[LU62_UNIT(LARGEST_MAXIMUM)];
     uint8_t inbox[LARGEST_INBOX];
 };
 
-/* Opens the session of one program on its side of the socket pair; the laboratory's attach header then waits to be sent, and is due at the
- * blender. False, with a message, if that fails. */
+/* Opens the session of one program on its side of the socket pair. False, with a message, if that fails. */
 bool session_open_laboratory(struct session *session, int socket, const struct options *options);
 bool session_open_blender(struct session *session, int socket, const struct options *options);
 

@@ -53,8 +53,8 @@ extern "C" {
  * its length is another too, else with BAD_RECORD. Version 0.4.0 has two states more and the format of 0.3.0: it takes up the images
  * of 0.3.0, which refuses an image in one of the new states with BAD_RECORD. Version 0.5.0 has format 4, whose images are a
  * byte longer, and version 0.6.0 format 5, whose images are five bytes longer again: each refuses an image of an older library with
- * BAD_BUFFER, by its length, and so the other way round. Versions 0.7.0 and 0.8.0 have the format of 0.6.0. */
-#define LU62_VERSION "0.8.0"
+ * BAD_BUFFER, by its length, and so the other way round. Version 0.7.0 has the format of 0.6.0. */
+#define LU62_VERSION "0.7.0"
 #define LU62_FORMAT 5
 
 /* Sizes, in bytes. W is a window, 1 to 63; M is a maximum RU, 8 to 1,024. */
@@ -84,7 +84,7 @@ extern "C" {
 #define LU62_BAD_ROLE 1           /* the role is neither of the two */
 #define LU62_BAD_WINDOW 2         /* a window is out of range */
 #define LU62_BAD_MAXIMUM 3        /* a maximum RU is out of range */
-#define LU62_BAD_BUFFER 4         /* image, send, unit, inbox, or a buffer for an attach header has a wrong length */
+#define LU62_BAD_BUFFER 4         /* image, send, unit or inbox has a wrong length */
 #define LU62_BAD_RECORD 5         /* the image holds no record that calls can leave */
 #define LU62_BAD_LENGTH 6         /* no bytes or more than M given; an empty buffer to read into */
 #define LU62_WRONG_STATE 7        /* the state, a bid under way or an error due does not allow the call */
@@ -117,10 +117,6 @@ extern "C" {
 /* Refusal of lu62_size_byte; no breach. */
 #define LU62_NO_SIZE_BYTE 31      /* the maximum RU is in range, and no size byte means it */
 
-/* Refusals of lu62_attach_read and lu62_attach_write; no breach. */
-#define LU62_BAD_ATTACH 36        /* the attach header, read or to be written, breaks its format or has a subfield twice */
-#define LU62_LONG_ATTACH 37       /* it is longer than LU62_ATTACH_BUFFER bytes */
-
 /* The rules of a header, the three bytes behind the number. Bytes are in hexadecimal; data has a byte 0 of 00 to 03. Of a normal unit:
  *   H1  byte 0 is 00, 01 (last in chain), 02 (first), 03 (first and last), 0B, 4B, 83, 87, CB or CF
  *   H2  not data: the header is 0B 90 00, 0B 91 00, 4B 80 80, 4B 81 80, 83 01 00, 83 20 00, 87 30 00, CB 80 00 or CF 90 00
@@ -150,53 +146,6 @@ extern "C" {
 #define LU62_CONFIRM_AWAITED 4    /* this end waits for the partner's confirmation, or its refusal */
 #define LU62_DEFER_TURN 5         /* Defer: a turn is prepared, to be carried out or withdrawn */
 #define LU62_DEFER_END 6          /* Defer: an end is prepared, to be carried out or withdrawn */
-
-/* The attach header, FMH-5, names the program that is wanted at the partner. It passes beside the conversation, in none of its units, and
- * how it is carried is the host's affair. Its fields lie in an image of LU62_ATTACH_FIELDS bytes, without padding; lu62_attach.h has
- * functions that set and get them by name:
- *
- *   from  bytes  field
- *      0      1  1 if program initialization parameters follow the header, else 0
- *      1      1  resource type, LU62_BASIC or LU62_MAPPED
- *      2      1  sync level, LU62_SYNC_NONE, LU62_SYNC_CONFIRM or LU62_SYNC_POINT
- *      3     65  program name, 1 to 64 bytes of 41 to FE; the first may also be 00 to 3F, which names a service program
- *     68     65  profile, at most 10 bytes of 41 to FE
- *    133     65  password, the same
- *    198     65  user ID, the same
- *    263     65  of the logical unit of work: fully qualified LU network name, an LU name alone or a network ID, a period (4B) and an LU
- *                name; network ID and LU name are 1 to 8 bytes each, of the letters A to Z, the digits and $ # @ in EBCDIC, no digit first
- *    328      6  of the logical unit of work: instance number
- *    334      2  of the logical unit of work: sequence number, high byte first
- *
- * A string is a length byte and 64 cells, of which the front ones, as many as the length says, are the string. A length of 0 means that
- * the field is absent. The program name may not be absent; an absent LU name means that there is no logical unit of work. What is
- * absent, and cells behind a string, are not looked at by lu62_attach_write and made 0 by lu62_attach_read: so equal fields that
- * have been read are equal bytes. Blanks (40) at the end of a string in a header are padding and no part of the string; in fields to
- * be written they are refused. */
-#define LU62_ATTACH_FIELDS 336
-#define LU62_ATTACH_BUFFER 255 /* the longest attach header, and the least buffer to write one to */
-
-/* Where each field begins in the image, and how many cells a string has. */
-#define LU62_ATTACH_PIP 0
-#define LU62_ATTACH_RESOURCE 1
-#define LU62_ATTACH_SYNC 2
-#define LU62_ATTACH_PROGRAM 3
-#define LU62_ATTACH_PROFILE 68
-#define LU62_ATTACH_PASSWORD 133
-#define LU62_ATTACH_USER 198
-#define LU62_ATTACH_LU 263
-#define LU62_ATTACH_INSTANCE 328
-#define LU62_ATTACH_SEQUENCE 334
-#define LU62_ATTACH_CELLS 64
-
-/* Resource types: the kind of conversation that is wanted. */
-#define LU62_BASIC 0xD0
-#define LU62_MAPPED 0xD1
-
-/* Sync levels. */
-#define LU62_SYNC_NONE 0
-#define LU62_SYNC_CONFIRM 1
-#define LU62_SYNC_POINT 2 /* confirm, sync point and backout */
 
 /* What a call answers. A refusal has zeros in the last six fields. */
 struct lu62_answer {
@@ -232,22 +181,6 @@ uint32_t lu62_open_bind(uint8_t role, uint8_t out_window, uint8_t in_window, uin
 /* The size byte of a maximum RU, to `*byte`. Of the maxima from 8 to 1,024 only 57 have one. Refused, `*byte` is 0, which means no size.
  * It is no call on an end: it has no image and no `answer`. Refusals: BAD_MAXIMUM, NO_SIZE_BYTE. */
 uint32_t lu62_size_byte(uint32_t max, uint8_t *byte);
-
-/* Reads an attach header: the bytes lent are the header, all of it and nothing else. `header` may hold any bytes. All of `fields` is
- * written: the fields if the header is accepted, zeros if it is refused with one of the last two. Reserved bits are ignored, and a field
- * of length 0 counts as absent.
- * It is no call on an end: it has no image and no `answer`.
- * Refusals: BAD_BUFFER (`fields_length` is not LU62_ATTACH_FIELDS; then no byte is written), LONG_ATTACH, BAD_ATTACH. */
-uint32_t lu62_attach_read(const uint8_t *header, size_t header_length, uint8_t *fields, size_t fields_length);
-
-/* Writes the attach header of these fields to the front of `header`, and its length to `*length`. Cells behind it are left as they were.
- * The header is the one written form of its fields: the shortest, with subfields by rising type, reserved bits 0 and without the lengths
- * of absent fields at its end. Read, it gives the same fields. Refused, no byte of `header` is changed and `*length` is 0.
- * LONG_ATTACH is answered by the lengths in the fields as they stand, also by lengths that no such string may have.
- * It is no call on an end: it has no image and no `answer`.
- * Refusals: BAD_BUFFER (`fields_length` is not LU62_ATTACH_FIELDS, or `header_length` under LU62_ATTACH_BUFFER), LONG_ATTACH,
- * BAD_ATTACH. */
-uint32_t lu62_attach_write(const uint8_t *fields, size_t fields_length, uint8_t *header, size_t header_length, size_t *length);
 
 /* Begins a conversation. A first speaker is in LU62_SEND at once and no unit is made. A bidder makes a bid and must wait: the
  * partner's answer puts it in LU62_SEND, or leaves it where it is, and then it may ask again.
@@ -422,8 +355,6 @@ static inline const char *lu62_refusal_text(uint32_t refusal)
     case LU62_BAD_RECORDS: return "a bad record length, or a mark behind a record not whole or with another part to follow";
     case LU62_SIGNAL_UNANSWERED: return "a signal has not been answered";
     case LU62_NO_SIZE_BYTE: return "no size byte means this maximum RU";
-    case LU62_BAD_ATTACH: return "the attach header breaks its format, or has a subfield twice";
-    case LU62_LONG_ATTACH: return "the attach header is longer than 255 bytes";
     default: return "no refusal has this number";
     }
 }

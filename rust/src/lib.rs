@@ -1,9 +1,8 @@
 //! One end of a basic conversation of LU type 6.2: a safe face of the library liblu62.a.
 //!
-//! An [`End`] is opened with its role, windows and maximum RUs, or with the bytes that say these in BIND. Each call is lent the buffers
-//! that it uses, and either is accepted, or gives a [`Refusal`] and changes nothing. [`Answer::unit`] is the length of the unit that now
-//! stands at the front of the unit buffer; the caller carries it to the partner's [`End::receive_unit`], in the order in which units are
-//! made.
+//! An [`End`] is opened with its role, windows and maximum RUs, or with the bytes that say these in BIND. Each call is lent the buffers that it uses, and either is
+//! accepted, or gives a [`Refusal`] and changes nothing. [`Answer::unit`] is the length of the unit that now stands at the front
+//! of the unit buffer; the caller carries it to the partner's [`End::receive_unit`], in the order in which units are made.
 //!
 //! Units made by [`End::request_to_send`] and [`End::receive_expedited`] are expedited: they run on a line of their own, to the
 //! partner's [`End::receive_expedited`], again in the order in which they are made. They may overtake the others, and none of them costs
@@ -11,8 +10,6 @@
 //!
 //! The same buffers must be lent to the calls of one end, and nobody else may write to them between the calls: the bytes given
 //! and not yet sent lie in the send buffer, the bytes taken and not yet read in the inbox.
-//!
-//! An [`Attach`] is what an attach header says, which names the program that is wanted at the partner and passes beside the conversation.
 //!
 //! One record from one end to the other:
 //!
@@ -47,12 +44,10 @@
 //! ```
 #![deny(missing_docs, unsafe_code)]
 
-mod attach;
 #[allow(missing_docs, unsafe_code)]
 pub mod raw;
 mod refusal;
 
-pub use attach::{Attach, Resource, SyncLevel, UnitOfWork, ATTACH_BUFFER, ATTACH_FIELDS};
 pub use refusal::{Reason, Refusal};
 
 /// The length of an end's record as bytes.

@@ -62,16 +62,6 @@ extern "C" {
 
     pub fn lu62_size_byte(max: u32, byte: *mut u8) -> u32;
 
-    pub fn lu62_attach_read(header: *const u8, header_length: usize, fields: *mut u8, fields_length: usize) -> u32;
-
-    pub fn lu62_attach_write(
-        fields: *const u8,
-        fields_length: usize,
-        header: *mut u8,
-        header_length: usize,
-        length: *mut usize,
-    ) -> u32;
-
     pub fn lu62_allocate(image: *mut u8, image_length: usize, unit: *mut u8, unit_length: usize, answer: *mut Answer) -> u32;
 
     pub fn lu62_send_data(
@@ -259,20 +249,6 @@ pub fn size_byte(max: u32) -> (u32, u8) {
     // SAFETY: the byte is a local, and the library writes nothing else.
     let refusal = unsafe { lu62_size_byte(max, &mut byte) };
     (refusal, byte)
-}
-
-/// The refusal number of an attach header, 0 if its fields have been written.
-pub fn attach_read(header: &[u8], fields: &mut [u8]) -> u32 {
-    // SAFETY: the fields are borrowed mutably and the header beside them, so they do not overlap; the library only reads the header.
-    unsafe { lu62_attach_read(header.as_ptr(), header.len(), fields.as_mut_ptr(), fields.len()) }
-}
-
-/// The refusal number of an attach header's fields, 0 if it stands at the front of `header`; and its length.
-pub fn attach_write(fields: &[u8], header: &mut [u8]) -> (u32, usize) {
-    let mut length = 0;
-    // SAFETY: the header is borrowed mutably and the fields beside it, so they do not overlap; the length is a local.
-    let refusal = unsafe { lu62_attach_write(fields.as_ptr(), fields.len(), header.as_mut_ptr(), header.len(), &mut length) };
-    (refusal, length)
 }
 
 fn by_image(call: ByImage, image: &mut [u8]) -> Answer {

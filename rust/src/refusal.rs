@@ -40,7 +40,7 @@ reasons! {
     BadWindow = 2, "a window is out of range";
     /// A maximum RU is out of range.
     BadMaximum = 3, "a maximum RU is out of range";
-    /// Image, send, unit, inbox, or a buffer for an attach header has a wrong length.
+    /// Image, send, unit or inbox has a wrong length.
     BadBuffer = 4, "a buffer has a wrong length";
     /// The image has another format, or holds no record that calls can leave.
     BadRecord = 5, "the end's record is not one that calls can leave";
@@ -84,10 +84,6 @@ reasons! {
     SignalUnanswered = 30, "a signal has not been answered";
     /// The maximum RU is in range, and no size byte means it.
     NoSizeByte = 31, "no size byte means this maximum RU";
-    /// The attach header, read or to be written, breaks its format or has a subfield twice.
-    BadAttach = 36, "the attach header breaks its format, or has a subfield twice";
-    /// The attach header is longer than 255 bytes.
-    LongAttach = 37, "the attach header is longer than 255 bytes";
 }
 
 impl Reason {

@@ -1,7 +1,6 @@
-//! The crate and include/lu62.h say the same: refusals by number and in words, states, marks, roles and the codes of an attach header by
-//! number, sizes, format and version.
-use lu62::{inbox_length, unit_length, End, Mark, Reason, Resource, Role, Session, State, SyncLevel};
-use lu62::{ATTACH_BUFFER, ATTACH_FIELDS, FORMAT, IMAGE, INBOX_MOST, MORE_FOLLOWS};
+//! The crate and include/lu62.h say the same: refusals by number and in words, states, marks and roles by number, sizes, format and
+//! version.
+use lu62::{inbox_length, unit_length, End, Mark, Reason, Role, Session, State, FORMAT, IMAGE, INBOX_MOST, MORE_FOLLOWS};
 use std::collections::BTreeMap;
 
 const HEADER: &str = include_str!("../../include/lu62.h");
@@ -46,8 +45,6 @@ fn sizes_format_and_version_are_the_same() {
     assert_eq!(number("LU62_IMAGE"), IMAGE);
     assert_eq!(number("LU62_FORMAT"), usize::from(FORMAT));
     assert_eq!(number("LU62_INBOX_MOST"), INBOX_MOST);
-    assert_eq!(number("LU62_ATTACH_FIELDS"), ATTACH_FIELDS);
-    assert_eq!(number("LU62_ATTACH_BUFFER"), ATTACH_BUFFER);
     assert_eq!(definitions["LU62_MORE_FOLLOWS"], format!("{MORE_FOLLOWS:#X}"));
     assert_eq!(number("LU62_RECORD_MOST"), usize::from(!MORE_FOLLOWS));
     assert!(HEADER.contains("#define LU62_UNIT(m) ((m) + 5)\n") && unit_length(8) == 8 + 5);
@@ -81,18 +78,6 @@ fn marks_have_the_same_numbers() {
     let marks = named("lu62_mark_name");
     assert_eq!(marks[0], (0, "none".to_string()));
     assert_eq!(marks[1..], ours(Mark::from_number));
-}
-
-#[test]
-fn codes_of_an_attach_header_have_the_same_numbers() {
-    let definitions = definitions();
-    for (name, resource) in [("LU62_BASIC", Resource::Basic), ("LU62_MAPPED", Resource::Mapped)] {
-        assert_eq!(definitions[name], format!("{:#X}", resource as u8));
-    }
-    let levels = [SyncLevel::None, SyncLevel::Confirm, SyncLevel::SyncPoint];
-    for (name, sync) in ["LU62_SYNC_NONE", "LU62_SYNC_CONFIRM", "LU62_SYNC_POINT"].into_iter().zip(levels) {
-        assert_eq!(definitions[name], (sync as u8).to_string());
-    }
 }
 
 #[test]

@@ -4,8 +4,7 @@
  * room for a unit held back, for both programs' limits one after the other, and for a machine that does other work. (Units carry no
  * checksum; that a changed byte of data is found too, the ninth kind of fault, is the records' own. So it is with the tenth, the top
  * bit of an LL turned over, by which a table would end early or go on.) Four kinds are those of an expedited unit, which is the signal
- * that interrupts a table, or its answer. One that is late comes when the table may be over, and the figures must be the same. The last
- * three are those of the attach header, which goes to the blender before all units: without a good one it prints nothing.
+ * that interrupts a table, or its answer. One that is late comes when the table may be over, and the figures must be the same.
  *
  *   fuzz EXPECTED SEED RUNS     EXPECTED is the file with the whole table, and what the laboratory says; RUNS for each kind of fault
  *
@@ -51,9 +50,6 @@ enum kind {
     EXPEDITED_DROPPED,
     EXPEDITED_DOUBLED,
     EXPEDITED_LATE,
-    ATTACH_BYTE,
-    ATTACH_DROPPED,
-    ATTACH_DOUBLED,
     KINDS,
     NO_FAULT = KINDS
 };
@@ -62,8 +58,7 @@ static const char *const kind_names[] = {"a number byte changed",      "a header
                                          "a unit dropped",             "a unit doubled",            "a unit cut",
                                          "two units exchanged",        "a unit held back",          "a data byte changed",
                                          "a top bit turned over",      "an expedited byte changed", "an expedited unit dropped",
-                                         "an expedited unit doubled", "an expedited unit late",    "an attach byte changed",
-                                         "an attach header dropped",   "an attach header doubled",  "no fault"};
+                                         "an expedited unit doubled", "an expedited unit late",    "no fault"};
 
 struct line_fault {
     enum kind kind;
@@ -204,31 +199,11 @@ static void pass_expedited(struct way *way, const struct line_fault *fault, size
     }
 }
 
-/* Passes on the attach header, with the fault if it is one of its own. Only the laboratory sends one. */
-static void pass_attach_header(struct way *way, const struct line_fault *fault)
-{
-    uint8_t copy[LINE_IN];
-    size_t length;
-    const uint8_t *header = line_front(way->from, BESIDE, &length);
-    if (header == NULL)
-        return;
-    memcpy(copy, header, length);
-    line_drop(way->from, BESIDE);
-    if (fault->kind == ATTACH_DROPPED)
-        return;
-    if (fault->kind == ATTACH_BYTE)
-        change(&copy[(fault->choice >> 32) % length], fault->choice);
-    if (fault->kind == ATTACH_DOUBLED)
-        put(way, BESIDE, copy, length);
-    put(way, BESIDE, copy, length);
-}
-
 /* Passes on what has come. */
 static void pass(struct way *way, const struct line_fault *fault, size_t direction)
 {
     size_t length;
     const uint8_t *unit;
-    pass_attach_header(way, fault);
     pass_expedited(way, fault, direction);
     while (clock_ms() >= way->held_until && (unit = line_front(way->from, NORMAL, &length)) != NULL) {
         size_t record = fault->kind == TOP_BIT ? first_record(way, unit, length) : length;

@@ -46,7 +46,6 @@ bool take_what_comes(struct session *session, int64_t most_ms, size_t *taken)
     if (!here && !line_wait(&session->line, most_ms))
         return false;
     (void)line_receive(&session->line);
-    line_drop(&session->line, BESIDE);
     while (!deaf && (unit = line_front(&session->line, EXPEDITED, &length)) != NULL) {
         (void)lu62_end_receive_expedited(&session->end, unit, length);
         session->told += session->end.answer.signalled;

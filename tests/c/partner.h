@@ -46,8 +46,8 @@ void pace(struct session *session);
 /* Whether expedited units are left on the line. Else each is taken as soon as it has come, and answered if it is a signal. */
 extern bool deaf;
 
-/* Waits at most so long, if no unit is there that a mark held back, receives what comes and takes what may be taken. An attach header is
- * dropped: the test knows which program it is. `taken` counts the normal units but pacing responses. False if the line is at its end. */
+/* Waits at most so long, if no unit is there that a mark held back, receives what comes and takes what may be taken. `taken` counts the
+ * normal units but pacing responses. False if the line is at its end. */
 bool take_what_comes(struct session *session, int64_t most_ms, size_t *taken);
 
 /* Sends what waits and receives what comes, once. False if the line is at its end. */
