@@ -35,8 +35,8 @@ returns c =
     let here = ways_of a.lines waiting a.far.now in
     let far_are = leads_here l here there us vs held in
     let n = counted a.lines.to a.far.now (vs l) false far_are (sym c.is_full.ensures ∙ c.if-is_full.false) in
-    let fit = call_fits a.verb a.given.now s a.buffer.now here there d.result d.new.verb.1.1.0 d.new.verb.1.1.1.0
-    d.new.verb.1.1.1.1.0 d.new.verb.1.1.1.1.1.0 d.ensures.acted in
-    call_step a.verb a.given.now s a.buffer.now here there d.result d.new.verb.1.1.0 d.new.verb.1.1.1.0
-    d.new.verb.1.1.1.1.0 d.new.verb.1.1.1.1.1.0 d.ensures.acted joins.result joins.new.cells es us vs d.ensures.unread held
+    let fit = call_fits a.verb a.given.now s a.buffer.now here there d.result d.new.send d.new.unit
+    d.new.inbox d.new.buffer d.ensures.acted in
+    call_step a.verb a.given.now s a.buffer.now here there d.result d.new.send d.new.unit
+    d.new.inbox d.new.buffer d.ensures.acted joins.result joins.new.cells es us vs d.ensures.unread held
     (joins.ensures (vs l) far_are (leb-false 512 (length (vs l)) n) fit.short fit.there) n

@@ -34,7 +34,7 @@ returns c =
     let here = ways_of a.lines waiting a.far.now in
     let far_are = leads_here l here there us vs held in
     let n = counted a.lines.to a.far.now (vs l) false far_are (sym c.is_full.ensures ∙ c.if-is_full.false) in
-    let fit = offer_fits a.flow a.taken.now s buffer here there d.result d.new.flow.1.1.1.0 d.new.flow.1.1.0 (d.ensures send) in
-    offer_step a.flow a.taken.now s buffer here there d.result d.new.flow.1.1.1.0 d.new.flow.1.1.0 (d.ensures send)
+    let fit = offer_fits a.flow a.taken.now s buffer here there d.result d.new.unit d.new.inbox (d.ensures send) in
+    offer_step a.flow a.taken.now s buffer here there d.result d.new.unit d.new.inbox (d.ensures send)
     joins.result joins.new.cells es us vs held
     (joins.ensures (vs l) far_are (leb-false 512 (length (vs l)) n) fit.short fit.there) n

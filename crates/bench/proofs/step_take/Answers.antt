@@ -13,12 +13,26 @@ use Rattle.unit_lines.proofs.PutAndRemoved.{apart, end_within, none_waits, one_w
 use Rattle.bench.proofs.Stepping.{waits_here, waits_on, nothing_step, take_step}
 use Rattle.bench.proofs.step_take.Goals as goal
 
-within : (c : tie.Else1)
-    → (let a = c.before.before.before.before.before.before.before.before.args in (oldest_end a.lines.from a.waiting.now ≤ length a.waiting.now) × (2 ≤ oldest_end a.lines.from a.waiting.now))
-within c =
-    let a = c.before.before.before.before.before.before.before.before.args in
-    let w = end_within a.lines.from a.waiting.now (λ z. c.if1.false (c.before.oldest-end.ensures.0 ∙ z)) in
-    (omega (arith, w.1, w.2), w.3)
+pub slice_bounds-step_offer-count : goal.slice_bounds-step_offer-count
+slice_bounds-step_offer-count c =
+    let a = c.args in
+    let past = c.oldest_end-past.ensures.is in
+    let w = end_within a.lines.from a.waiting.now (λ z. c.if-past-eq0.false (past ∙ z)) in
+    rw past w.3
+
+pub slice_bounds-step_offer-start : goal.slice_bounds-step_offer-start
+slice_bounds-step_offer-start c =
+    let a = c.args in
+    let past = c.oldest_end-past.ensures.is in
+    let w = end_within a.lines.from a.waiting.now (λ z. c.if-past-eq0.false (past ∙ z)) in
+    rw past w.3
+
+pub slice_bounds-step_offer-end : goal.slice_bounds-step_offer-end
+slice_bounds-step_offer-end c =
+    let a = c.args in
+    let past = c.oldest_end-past.ensures.is in
+    let w = end_within a.lines.from a.waiting.now (λ z. c.if-past-eq0.false (past ∙ z)) in
+    rw past (omega (arith, w.1, w.2))
 
 pub returns-then-past-eq0 : goal.returns-then-past-eq0
 returns-then-past-eq0 c =
@@ -43,9 +57,9 @@ returns-then-accepted c =
     let here = ways_of a.lines a.waiting.now a.far.now in
     let f = one_waits a.lines.from a.waiting.now (us l) (waits_here l here there us vs held) (λ z. c.if-past-eq0.false (past.ensures.is ∙ z)) in
     let b = bench_of a.end send a.unit.now a.inbox.now buffer (placed l here there) in
-    let s = station_of d.result.told.end send d.new.flow.1.1.0 d.new.flow.1.1.1.0 in
+    let s = station_of d.result.told.end send d.new.unit d.new.inbox in
     take_step a.flow given f.unit b d.result.outcome d.result.told.answer d.result.told.signalled s buffer
-    (ways_of d.result.lines a.waiting.now d.new.flow.1.1.1.1.1.0) there out.result out.new.cells es us vs f.rest
+    (ways_of d.result.lines a.waiting.now d.new.far) there out.result out.new.cells es us vs f.rest
     (take (past.result - 2) (drop 2 a.waiting.now)) f.are
     (ap (λ (k : ℕ). take (k - 2) (drop 2 a.waiting.now)) past.ensures.is ∙ f.there)
     (d.ensures send buffer a.waiting.now there es us vs held)
@@ -63,8 +77,8 @@ returns-else-accepted c =
     let here = ways_of a.lines a.waiting.now a.far.now in
     let f = one_waits a.lines.from a.waiting.now (us l) (waits_here l here there us vs held) (λ z. c.if-past-eq0.false (past.ensures.is ∙ z)) in
     let b = bench_of a.end send a.unit.now a.inbox.now buffer (placed l here there) in
-    let s = station_of d.result.told.end send d.new.flow.1.1.0 d.new.flow.1.1.1.0 in
-    let after = ways_of d.result.lines a.waiting.now d.new.flow.1.1.1.1.1.0 in
+    let s = station_of d.result.told.end send d.new.unit d.new.inbox in
+    let after = ways_of d.result.lines a.waiting.now d.new.far in
     let st = d.ensures send buffer a.waiting.now there es us vs held in
     take_step a.flow given f.unit b d.result.outcome d.result.told.answer d.result.told.signalled s buffer after there
     d.result.lines.from a.waiting.now es us vs f.rest

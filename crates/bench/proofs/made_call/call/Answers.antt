@@ -14,7 +14,10 @@ returns-then-is_read c =
     let s = station_of a.end a.send.now a.unit.now a.inbox.now in
     let d = c.receive in
     rw (read_is a.verb (sym c.is_read.ensures ∙ c.if-is_read.true))
-    (copied_left s d.result d.new.inbox d.new.inbox.1.0 a.buffer.now d.ensures, λ n. absurd (false≢true (sym n)))
+    record {
+      acted = copied_left s d.result d.new.inbox d.new.buffer a.buffer.now d.ensures;
+      unread = λ n. absurd (false≢true (sym n));
+    }
 
 pub returns : goal.returns
 returns c =
