@@ -15,7 +15,7 @@ fn main() {
     };
     let Some(place) = places.iter().find(|place| place.join(ARCHIVE).is_file()) else {
         eprintln!(
-            "lu62: there is no {ARCHIVE} in {places:?}: build it with `rt staticlib lu62`, or name its directory in LU62_LIB"
+            "lu62: there is no {ARCHIVE} in {places:?}: build it with `package/library`, or name its directory in LU62_LIB"
         );
         exit(1);
     };
