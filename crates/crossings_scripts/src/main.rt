@@ -47,7 +47,8 @@ fn run_argument(rt: &(impl Env + Files + Print + Eprint), i: usize) -> io::Resul
     let mut name = [0u8; LONGEST];
     match rt.arg(i, &mut name) {
         Ok(n) => run_script(rt, &name[..n])?,
-        Err(FillError::TooLong) => run_script(rt, &name)?,
+        // no file has such a name: it is run as an empty one, which cannot be opened
+        Err(FillError::TooLong) => run_script(rt, b"")?,
         Err(FillError::NotPresent) => return Ok(false),
     }
     Ok(true)
