@@ -1,6 +1,6 @@
 -- Whole conversations run on two joined ends, by computation: the definitions alive.
 -- Assumes nothing.
-use Rattle.std.specs.Prelude.{ℕ, ◌≡◌, refl, true, false, List, [], ◌∷◌, ◌++◌}
+use Rattle.std.specs.Prelude.{ℕ, ◌≡◌, true, false, List, [], ◌∷◌, ◌++◌}
 use Rattle.logical_record.specs.Records.{whole_records}
 use Rattle.control.specs.declared.State.{State}
 use Rattle.control.specs.declared.State.TheVariants.{Reset, Send, Receive}
@@ -10,7 +10,6 @@ use Rattle.calls.specs.Calls as J
 use Rattle.joined.specs.Ends.{Lane, normal, opened_both}
 use Rattle.joined.specs.Histories as H
 use Rattle.joined.specs.Histories.{Log, pacing_responses_taken, requests_made}
-use Rattle.worked_examples.specs.Computed.{computed}
 use Rattle.worked_examples.specs.Stations.{zeros, session, joined, runs}
 use Rattle.calls.specs.Calls.{Reply, Station, Verb, refusal_in}
 
@@ -147,23 +146,3 @@ pub record Conversations : Type 0 where
   pub refused : Refused
   pub cut : Cut
   pub confirm_turn_lem : ConfirmTurn
-
-pub held : Conversations
-unfolding computed
-held =
-    record {
-      race =
-          record { speaker_answers = refl; bidder_answers = refl; record_read = refl; speaker_receives = refl; bidder_sends = refl };
-      refused = record { bidder_answers = refl; record_read = refl; flag_off = refl; speaker_receives = refl; bidder_sends = refl };
-      cut =
-          record {
-            speaker_answers = refl;
-            bidder_answers = refl;
-            one_record = refl;
-            three_requests = refl;
-            one_answer = refl;
-            credit_left = refl;
-            both_reset = (refl, refl);
-          };
-      confirm_turn_lem = record { speaker_answers = refl; bidder_answers = refl; speaker_receives = refl; bidder_sends = refl };
-    }

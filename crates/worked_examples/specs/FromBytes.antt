@@ -1,6 +1,6 @@
 -- Opening from the session's own bytes, and the byte of a size (document 02, S-3).
 -- Assumes nothing.
-use Rattle.std.specs.Prelude.{ℕ, ◌≡◌, refl}
+use Rattle.std.specs.Prelude.{ℕ, ◌≡◌}
 use Rattle.bind.specs.SessionBytes.{window_of, mantissa, exponent, times, size_of, one_byte, no_byte, size_byte}
 use Rattle.session.specs.Opening.{opened, zero_end}
 use Rattle.session.specs.BindOpening.{opened_by_bytes}
@@ -8,7 +8,6 @@ use Rattle.session.specs.BindClaims.{EqualNumbers}
 use Rattle.session.specs.declared.bind_opening.SessionBytes.{SessionBytes}
 use Rattle.end.specs.declared.Done.{Done}
 use Rattle.answers.specs.Answers.{accepted, refused}
-use Rattle.worked_examples.specs.Computed.{computed}
 use Rattle.worked_examples.specs.Stations.{session}
 
 -- the same window byte and size byte both ways
@@ -73,47 +72,3 @@ pub record FromBytes : Type 0 where
   pub meanings : Meanings
   pub same_way : SameWay
   pub back : Back
-
-pub all_from_bytes : FromBytes
-unfolding computed
-all_from_bytes =
-    record {
-      meanings =
-          record {
-            size_85 = refl;
-            size_87 = refl;
-            size_97 = refl;
-            fails_97 = refl;
-            fails_75 = refl;
-            fails_outsize = refl;
-            fails_insize = refl;
-            window_c7 = refl;
-            fails_40 = refl;
-            greatest_window = refl;
-            least = refl;
-            greatest = refl;
-          };
-      same_way =
-          record {
-            equal = record { role = refl; outwindow = refl; inwindow = refl; outmax = refl; inmax = refl };
-            same = refl;
-            accepts = refl;
-            role_first = refl;
-            window_second = refl;
-            size_third = refl;
-            buffers_last = refl;
-          };
-      back =
-          record {
-            of_256 = refl;
-            of_1024 = refl;
-            of_8 = refl;
-            of_960 = refl;
-            of_1023 = refl;
-            of_17 = refl;
-            of_7 = refl;
-            of_1025 = refl;
-            of_1152 = refl;
-            of_0 = refl;
-          };
-    }

@@ -1,19 +1,18 @@
 -- Rows beside document 01's table, each an outcome that its words fix; W 3 and M 64 unless said. One statement, proved by computation.
 -- Assumes nothing.
-use Rattle.std.specs.Prelude.{ℕ, ◌≡◌, refl, Bool, true, false, List, [], ◌∷◌, ◌++◌}
+use Rattle.std.specs.Prelude.{ℕ, ◌≡◌, Bool, true, false, List, [], ◌∷◌, ◌++◌}
 use Rattle.end.specs.Record.{credit_of, open_of}
 use Rattle.end.specs.Outcome.{with_sending, with_receiving}
 use Rattle.calls.specs.Calls as J
 use Rattle.joined.specs.Ends.{opened_with}
-use Rattle.worked_examples.specs.Computed.{computed}
 use Rattle.worked_examples.specs.Stations.{zeros, session, first_speaker, bidder, after, makes, units_made, refuses, taking, take_refuses, after_taking, takes_refuse, flushed, first_unit, second_unit, third_unit, a_bid, a_pacing_answer, sending, one_sent, two_sent, has_bid, receiving}
-use Rattle.worked_examples.specs.Breaches.{Breaches, MarkFirst, breached, marked_first}
-use Rattle.worked_examples.specs.RulesNamed.{RulesNamed, rules_named}
-use Rattle.worked_examples.specs.Parts.{Parts, parts}
-use Rattle.worked_examples.specs.Prepared.{Prepared, all_prepared}
-use Rattle.worked_examples.specs.Denied.{Denied, all_denied}
-use Rattle.worked_examples.specs.Signalled.{Signalled, all_signalled}
-use Rattle.worked_examples.specs.FromBytes.{FromBytes, all_from_bytes}
+use Rattle.worked_examples.specs.Breaches.{Breaches, MarkFirst}
+use Rattle.worked_examples.specs.RulesNamed.{RulesNamed}
+use Rattle.worked_examples.specs.Parts.{Parts}
+use Rattle.worked_examples.specs.Prepared.{Prepared}
+use Rattle.worked_examples.specs.Denied.{Denied}
+use Rattle.worked_examples.specs.Signalled.{Signalled}
+use Rattle.worked_examples.specs.FromBytes.{FromBytes}
 use Rattle.calls.specs.Calls.{Station, Verb}
 
 -- ---- "Last sequence number sent and last taken, from 0; the number after 65,535 is 0."
@@ -157,93 +156,3 @@ pub record FurtherRows : Type 0 where
   pub denied : Denied
   pub signalled : Signalled
   pub from_bytes : FromBytes
-
-numbered : Numbers
-unfolding computed
-numbered =
-    record {
-      made = refl;
-      taken = refl;
-      last_taken_lem = refl;
-      bid_made = refl;
-    }
-
-credit_risen : CreditRaised
-unfolding computed
-credit_risen =
-    record {
-      as_opened = refl;
-      left_at_1 = refl;
-      left_at_2 = refl;
-      left_at_0 = refl;
-      unanswered_on = (refl, refl, refl);
-      taken_at_1 = refl;
-      raised_at_1 = refl;
-      off_at_1 = refl;
-      taken_at_2 = refl;
-      raised_at_2 = refl;
-      off_at_2 = refl;
-    }
-
-open_risen : OpenRaised
-unfolding computed
-open_risen =
-    record {
-      as_opened = refl;
-      left_at_1 = refl;
-      left_at_2 = refl;
-      left_at_0 = refl;
-      owed_on = (refl, refl, refl);
-      paced_at_1 = refl;
-      raised_at_1 = refl;
-      off_at_1 = refl;
-      paced_at_2 = refl;
-      raised_at_2 = refl;
-      off_at_2 = refl;
-      paced_once = refl;
-      no_room = refl;
-      bid_before = refl;
-      bid_granted = refl;
-      bid_refused = refl;
-      bid_owes = refl;
-    }
-
-allocated_once : SecondAllocate
-unfolding computed
-allocated_once =
-    record {
-      at_bidder = refl;
-      at_speaker = refl;
-    }
-
-unfinished_refused : Unfinished
-unfolding computed
-unfinished_refused =
-    record {
-      turn = refl;
-      confirm_turn_lem = refl;
-      end = refl;
-      confirm_end = refl;
-      confirm = refl;
-      flush = refl;
-      turn_flushed = refl;
-      turn_whole = refl;
-    }
-
-pub further : FurtherRows
-further =
-    record {
-      numbers = numbered;
-      credit_raised = credit_risen;
-      open_raised = open_risen;
-      second_allocate = allocated_once;
-      unfinished = unfinished_refused;
-      breaches = breached;
-      mark_first = marked_first;
-      rules = rules_named;
-      parts = parts;
-      prepared = all_prepared;
-      denied = all_denied;
-      signalled = all_signalled;
-      from_bytes = all_from_bytes;
-    }

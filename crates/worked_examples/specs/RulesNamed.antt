@@ -1,11 +1,10 @@
 -- The rule that 21 names: a header for each of H1 to H6, headers that break two rules, and headers that break three, which is the most there are.
 -- Assumes nothing.
-use Rattle.std.specs.Prelude.{ℕ, ◌≡◌, refl, cond, List, [], ◌∷◌}
+use Rattle.std.specs.Prelude.{ℕ, ◌≡◌, cond, List, [], ◌∷◌}
 use Rattle.header.specs.Rules.{bytes, breaks}
 use Rattle.header.specs.declared.HeaderBytes.{HeaderBytes}
 use Rattle.header.specs.declared.Rule.{Rule}
 use Rattle.header.specs.declared.Rule.TheVariants.{H1, H2, H3, H4, H5, H6}
-use Rattle.worked_examples.specs.Computed.{computed}
 use Rattle.worked_examples.specs.Stations.{receiving}
 use Rattle.worked_examples.specs.Breaches.{Names}
 
@@ -38,24 +37,3 @@ pub record RulesNamed : Type 0 where
   -- three
   pub h4_h5_and_h6 : Named 0x00 0x20 0x21 (H4 ∷ H5 ∷ H6 ∷ []) 4
   pub h3_h5_and_h6 : Named 0x00 0x30 0x22 (H3 ∷ H5 ∷ H6 ∷ []) 3
-
-pub rules_named : RulesNamed
-unfolding computed
-rules_named =
-    record {
-      format_alone = record { breaks_these = refl; names = refl };
-      every_bit = record { breaks_these = refl; names = refl };
-      bid_without_bb = record { breaks_these = refl; names = refl };
-      grant_with_bb = record { breaks_these = refl; names = refl };
-      both_responses = record { breaks_these = refl; names = refl };
-      confirm_not_last = record { breaks_these = refl; names = refl };
-      cd_and_ceb = record { breaks_these = refl; names = refl };
-      bb_not_first = record { breaks_these = refl; names = refl };
-      cd_not_last = record { breaks_these = refl; names = refl };
-      h5_and_h6 = record { breaks_these = refl; names = refl };
-      h4_and_h6 = record { breaks_these = refl; names = refl };
-      h3_and_h5 = record { breaks_these = refl; names = refl };
-      h3_and_h5_again = record { breaks_these = refl; names = refl };
-      h4_h5_and_h6 = record { breaks_these = refl; names = refl };
-      h3_h5_and_h6 = record { breaks_these = refl; names = refl };
-    }

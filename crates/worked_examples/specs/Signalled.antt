@@ -1,6 +1,6 @@
 -- Request to send (document 02, S-1). W 3 and M 64 unless said.
 -- Assumes nothing.
-use Rattle.std.specs.Prelude.{ℕ, ◌≡◌, refl, Bool, true, false, List, [], ◌∷◌}
+use Rattle.std.specs.Prelude.{ℕ, ◌≡◌, Bool, true, false, List, [], ◌∷◌}
 use Rattle.control.specs.declared.State.TheVariants.{Send, Receive, ConfirmOwed, DeferTurn}
 use Rattle.control.specs.declared.WhatReceived.TheVariants as mark
 use Rattle.expedited.specs.declared.Expedited.{Expedited}
@@ -11,7 +11,6 @@ use Rattle.calls.specs.Calls.{Station, Verb, Reply, expedited_reply}
 use Rattle.joined.specs.Joined.{Took, Both, first, second, act, take}
 use Rattle.joined.specs.Ends.{Lane, normal, expedited, acts, takes, on_expedited}
 use Rattle.joined.specs.Signals.{signals_made, signals_told}
-use Rattle.worked_examples.specs.Computed.{computed}
 use Rattle.worked_examples.specs.Stations.{bidder, after, makes, joined, runs, shortest_record, sending, receiving}
 use Rattle.worked_examples.specs.Breaches.{Refused, Names, owes, waits, defers_turn, marked, state_of}
 use Rattle.worked_examples.specs.Parts.{RefusedCall}
@@ -145,62 +144,3 @@ pub record Signalled : Type 0 where
   pub answers : Answers
   pub questions : Questions
   pub crossing : Crossing
-
-pub all_signalled : Signalled
-unfolding computed
-all_signalled =
-    record {
-      requests =
-          record {
-            in_receive = refl;
-            in_owes = refl;
-            none_normal = refl;
-            kept = refl;
-            no_state = (refl, refl);
-            normal_number = refl;
-            in_reset = refl;
-            in_send_lem = refl;
-            in_waits = refl;
-            in_defer_lem = refl;
-            twice = refl;
-            state_first = refl;
-            wraps = refl;
-          };
-      answers =
-          record {
-            made = refl;
-            told = refl;
-            kept = refl;
-            no_state = refl;
-            under_mark = (refl, refl);
-            in_defer_lem = (refl, refl);
-            in_reset = refl;
-            wraps = refl;
-            cleared = refl;
-            untold = refl;
-            nothing_made = refl;
-          };
-      questions =
-          record {
-            short = refl;
-            confirmation = refl;
-            bid = refl;
-            negative = refl;
-            signal_there = refl;
-            response_there = refl;
-            manual = refl;
-            grant = refl;
-            no_ru = refl;
-            not_next = refl;
-            again = refl;
-            another_number = refl;
-            not_asked = refl;
-          };
-      crossing =
-          record {
-            made = (refl, refl);
-            waiting = (refl, refl);
-            told = (refl, refl);
-            kept = (refl, refl);
-          };
-    }

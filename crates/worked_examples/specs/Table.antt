@@ -1,6 +1,6 @@
 -- Document 01's table 'Proved examples', a row a field, W 3 and M 64 unless said. One statement, proved by computation.
 -- Assumes nothing.
-use Rattle.std.specs.Prelude.{ℕ, ◌≡◌, refl, Bool, true, false, List, [], ◌∷◌, take}
+use Rattle.std.specs.Prelude.{ℕ, ◌≡◌, Bool, true, false, List, [], ◌∷◌, take}
 use Rattle.logical_record.specs.Records.{whole_records}
 use Rattle.logical_record.specs.declared.Position.TheVariants.{Between}
 use Rattle.header.specs.Rules.{bytes, header_good}
@@ -11,7 +11,6 @@ use Rattle.end.specs.Outcome.{with_control, with_owed}
 use Rattle.calls.specs.Calls as J
 use Rattle.joined.specs.Ends.{normal, acts}
 use Rattle.joined.specs.Histories.{bytes_in_send_buffer}
-use Rattle.worked_examples.specs.Computed.{computed}
 use Rattle.worked_examples.specs.Stations.{zeros, first_speaker, bidder, after, makes, refuses, taking, take_refuses, shortest_record, flushed, a_bid, sending, receiving}
 use Rattle.calls.specs.Calls.{Station, Verb}
 
@@ -107,32 +106,3 @@ pub record Table : Type 0 where
   pub is_complete : complete (after holding (read4 ∷ [])) read4 ≡ true
   pub read_third : copied (after holding (read4 ∷ read4 ∷ [])) read4 ≡ 0x00 ∷ []
   pub not_complete_again : complete (after holding (read4 ∷ read4 ∷ [])) read4 ≡ false
-
-pub proved : Table
-unfolding computed
-proved =
-    record {
-      bid = refl;
-      grant = refl;
-      refusal = refl;
-      confirmation = refl;
-      ends = refl;
-      cut = refl;
-      confirm = refl;
-      good_header = refl;
-      good_taken = refl;
-      good_mark = refl;
-      bad_header = refl;
-      good_length = refl;
-      whole_record = refl;
-      whole_place = refl;
-      whole_carried = refl;
-      bad_length = refl;
-      no_credit = refl;
-      read_first = refl;
-      not_complete = refl;
-      read_second = refl;
-      is_complete = refl;
-      read_third = refl;
-      not_complete_again = refl;
-    }

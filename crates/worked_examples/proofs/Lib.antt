@@ -1,0 +1,10 @@
+mod Breaches
+mod Conversations
+mod Denied
+mod FromBytes
+mod Further
+mod Parts
+mod Prepared
+mod RulesNamed
+mod Signalled
+mod Table
