@@ -1,4 +1,4 @@
--- What is claimed of attach headers, for a reader to find. Proved in proofs/, and promised by the function `theorems::attach_headers`.
+-- What is to be claimed of attach headers, for a reader to find. None of it is proved yet, and no function promises it.
 -- Assumes nothing.
 use Rattle.std.specs.Prelude.{◌≡◌, List, ℕ, ◌≤◌, length, take, drop}
 use Rattle.answers.specs.Answers.{accepted}
