@@ -1,3 +1,4 @@
 pub mod Rows
 pub mod TwoRows
 pub mod Naming
+pub mod Outcomes

@@ -1,8 +1,9 @@
 // The answers that calls give: the refusal number, its sense, and the rule that a refusal names.
 #![tactic(auto)]
 
-pub mod first_no;
 pub mod numbers;
+pub mod questions;
+pub mod refusals;
 
 ghost use Rattle.std.specs.Prelude.{◌≡◌, false};
 ghost use Rattle.header.specs.Rules.{rule_number};
@@ -12,7 +13,8 @@ use crate::numbers::BAD_HEADER;
 use control::{Control, WhatReceived};
 use header::Rule;
 
-// The refusal number, 0 if accepted; its sense; the rule for 21, else 0; and the length of the unit made, 0 for none.
+// The refusal number, 0 if accepted; its sense; the rule for 21, else 0; and the length of the unit made, 0 for none. C reads the four
+// as numbers; the questions in the code give a `Refusal`.
 #[derive(Clone, Copy)]
 pub struct Answer {
     pub refusal: u8,
@@ -99,14 +101,7 @@ pub fn refuse_naming(number: u8, rule: u8) -> Answer
 pub fn rule_number(rule: Rule) -> u8
     ensures { result ≡ rule_number rule }
 {
-    match rule {
-        Rule::H1 => 1,
-        Rule::H2 => 2,
-        Rule::H3 => 3,
-        Rule::H4 => 4,
-        Rule::H5 => 5,
-        Rule::H6 => 6,
-    }
+    rule as u8
 }
 
 // A refused read: nothing copied, no record complete, so no part that another follows; no mark.

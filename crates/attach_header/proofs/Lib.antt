@@ -1,4 +1,4 @@
-pub mod Padding
+mod Padding
 pub mod FoundParts
 pub mod Security
 pub mod FixedPart

@@ -1,15 +1,15 @@
 -- Laws of strings: bytes of one type, and padding.
 -- Assumes nothing.
 use mathlib.Core.Path.{◌≡◌, refl, sym, ap, ◌∙◌}
-use mathlib.Core.Bool.{Bool, true, false, cond, ◌&&◌}
+use mathlib.Core.Bool.{Bool, true, false, ◌&&◌}
 use mathlib.Core.List.{List, [], ◌∷◌, ◌++◌}
-use Prim.Native.Nat.{ℕ, suc, ◌+◌, ◌≤◌, ◌<◌, zero-le}
+use Prim.Native.Nat.{ℕ, suc, ◌+◌, ◌-◌, ◌≤◌, ◌<◌, zero-le}
 use native.Mathlib.Numerals.{add-one}
 use native.Mathlib.Omega.{arith}
 use lib.Dec.{eqb}
 use lib.ListN.{length, get_or, take, drop, replicate, drop_of_length-le, length-append}
-use lib.Seq.{drop-cons, take-suc, length-take-le}
-use borrow.Author.Tests.{eqb-true, ne_eqb}
+use lib.Seq.{drop-cons, take-suc, take-length}
+use borrow.Author.Tests.{ne_eqb}
 use Rattle.bools.proofs.Cases.{cases}
 use Rattle.cells.proofs.Copies.{copy_front}
 use Rattle.attach_header.specs.declared.SymbolString.{SymbolString}
@@ -41,21 +41,6 @@ no_longer (b ∷ bs) =
     let h = no_longer bs in
     cases (λ (l : List ℕ). length l ≤ suc (length bs)) (is_empty (unpadded bs) && eqb b SPACE) (λ t. zero-le) (λ t. omega (arith, h))
 
--- and it stands at the front
-pub stands_first : (x : List ℕ) → take (length (unpadded x)) x ≡ unpadded x
-unfolding unpadded
-stands_first [] = refl
-stands_first (b ∷ bs) =
-    cases (λ (l : List ℕ). take (length l) (b ∷ bs) ≡ l) (is_empty (unpadded bs) && eqb b SPACE) (λ t. refl)
-    (λ t. ap (λ (l : List ℕ). b ∷ l) (stands_first bs))
-
--- lent as the part of that length
-pub lent : (x : List ℕ) {m : ℕ} → m ≡ length (unpadded x) → take m x ≡ unpadded x
-lent x e = rw e (stands_first x)
-
-pub lent_length : (x : List ℕ) {m : ℕ} → m ≡ length (unpadded x) → m ≡ length (take m x)
-lent_length x e = e ∙ ap length (sym (lent x e))
-
 -- one more byte: a space adds nothing, any other ends the padding before it
 pub space_more : (x : List ℕ) → unpadded (x ++ (SPACE ∷ [])) ≡ unpadded x
 unfolding unpadded
@@ -70,21 +55,33 @@ unfolding unpadded
 byte_more [] b t = rw t
 byte_more (a ∷ x) b t = rw (byte_more x b t, not_empty x b)
 
-more : (x : List ℕ) (b : ℕ) → length (unpadded (x ++ (b ∷ []))) ≡ cond (eqb b SPACE) (length (unpadded x)) (length x + 1)
-more x b =
-    cases (λ (n : ℕ). length (unpadded (x ++ (b ∷ []))) ≡ n) (eqb b SPACE)
-    (λ t. rw (eqb-true b SPACE t) (ap length (space_more x)))
-    (λ t. ap length (byte_more x b t) ∙ length-append x (b ∷ []))
+-- the last byte
+last_of : (s : List ℕ) → 1 ≤ length s → s ≡ take (length s - 1) s ++ (get_or s (length s - 1) 0 ∷ [])
+last_of s h =
+    let n : ℕ = length s - 1 in
+    let e : suc n ≡ length s = omega arith in
+    sym (take-length s) ∙ (ap (λ (k : ℕ). take k s) (sym e) ∙ take-suc s n 0 (omega arith))
 
--- of the bytes passed, one more
-pub passed : (s : List ℕ) (i : ℕ) → i < length s
-    → length (unpadded (take (i + 1) s)) ≡ cond (eqb (get_or s i 0) SPACE) (length (unpadded (take i s))) (i + 1)
-passed s i h = rw (add-one, take-suc s i 0 h) (more (take i s) (get_or s i 0) ∙ rw (length-take-le i s (omega (arith, h)), add-one) refl)
+pub space_off : (s : List ℕ) → 1 ≤ length s → get_or s (length s - 1) 0 ≡ SPACE → unpadded (take (length s - 1) s) ≡ unpadded s
+space_off s h e =
+    let x : List ℕ = take (length s - 1) s in
+    sym (space_more x) ∙ ap unpadded (ap (λ (b : ℕ). x ++ (b ∷ [])) (sym e) ∙ sym (last_of s h))
+
+pub none_off : (s : List ℕ) → 1 ≤ length s → (get_or s (length s - 1) 0 ≡ SPACE → ⊥) → s ≡ unpadded s
+none_off s h d =
+    let x : List ℕ = take (length s - 1) s in
+    let b : ℕ = get_or s (length s - 1) 0 in
+    last_of s h ∙ (sym (byte_more x b (ne_eqb b SPACE d)) ∙ ap unpadded (sym (last_of s h)))
+
+pub nothing_left : (s : List ℕ) → length s < 1 → s ≡ unpadded s
+unfolding unpadded
+nothing_left [] h = refl
+nothing_left (b ∷ s) h = absurd (omega arith)
 
 -- ---- a string kept
 
-pub kept : (x : List ℕ) (n : ℕ) (after : List ℕ) → n ≡ length (unpadded x)
-    → after ≡ take (length (take n x)) (take n x) ++ drop (length (take n x)) (replicate 64 0)
-    → ◌≡◌ {A = SymbolString} (record { length = n; bytes = after }) (string_of (unpadded x))
+pub kept : (x text after : List ℕ) → text ≡ unpadded x
+    → after ≡ take (length text) text ++ drop (length text) (replicate 64 0)
+    → ◌≡◌ {A = SymbolString} (record { length = length text; bytes = after }) (string_of (unpadded x))
 unfolding string_of
-kept x n after e h = rw (copy_front (take n x) (replicate 64 0) after h, e, stands_first x)
+kept x text after e h = rw (copy_front text (replicate 64 0) after h, e)

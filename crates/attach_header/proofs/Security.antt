@@ -1,13 +1,14 @@
 -- Subfields taken one by one from the front of what is left.
 -- Assumes nothing.
 use mathlib.Core.Path.{◌≡◌, refl, sym, ap, ◌∙◌}
-use mathlib.Core.Bool.{true, false, cond, ◌&&◌}
+use mathlib.Core.Bool.{Bool, true, false, cond, ◌&&◌}
 use mathlib.Core.List.{List, [], ◌∷◌}
 use Prim.Native.Nat.{ℕ, zero, suc, ◌+◌, ◌-◌, ◌≤◌, ◌<◌}
 use native.Mathlib.Omega.{arith}
 use lib.Dec.{leb, eqb}
 use lib.ListN.{length, take, drop, length-drop, drop_of_length-le}
-use borrow.Author.Tests.{ne_eqb, leb-true}
+use borrow.Author.Tests.{ne_eqb, leb-true, leb-false}
+use Rattle.std.specs.Int.{from_bool}
 use Rattle.bools.proofs.Tests.{both, left, right}
 use Rattle.attach_header.specs.declared.parts.Part.{Part}
 use Rattle.attach_header.proofs.FoundParts.{Found}
@@ -35,9 +36,14 @@ unfolding subfields_good
 good_end zero x e = e
 good_end (suc k) x e = rw e
 
-pub too_many : (x : List ℕ) → is_empty x ≡ false → subfields_good 0 x ≡ false
+left_over : (t : Bool) (s : List ℕ) (at : ℕ) → leb (length s) at ≡ t → t ≡ is_empty (drop at s)
+left_over true s at e = sym (none_left s at (leb-true (length s) at e))
+left_over false s at e = sym (some_left s at (leb-false (length s) at e))
+
+-- no more may come
+pub all_read : (s : List ℕ) (at k : ℕ) → k ≡ 0 → leb (length s) at ≡ subfields_good k (drop at s)
 unfolding subfields_good
-too_many x e = e
+all_read s at k e = rw e (left_over (leb (length s) at) s at refl)
 
 -- ---- the subfields
 
@@ -61,6 +67,15 @@ none_more k x e = rw e
 pub count_end : (t k : ℕ) (x : List ℕ) → subfields k x ≡ [] → count_of t (subfields k x) ≡ 0
 unfolding count_of
 count_end t k x e = rw e
+
+-- a test counts as one where it is true
+pub one_if : (b : Bool) → from_bool b ≡ cond b 1 0
+one_if true = refl
+one_if false = refl
+
+pub at_most_one : (b : Bool) → from_bool b ≤ 1
+at_most_one true = omega arith
+at_most_one false = omega arith
 
 pub type_end : (t k : ℕ) (x : List ℕ) → subfields k x ≡ [] → of_type t (subfields k x) ≡ []
 unfolding of_type

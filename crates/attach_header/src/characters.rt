@@ -38,13 +38,10 @@ fn belongs_to(b: u8, graphic: bool) -> bool
 pub(crate) fn all_belong(s: &[u8], graphic: bool) -> bool
     ensures { result ≡ every (belongs graphic) s.now }
 {
-    let mut i = 0;
-    while i < s.len() {
-        let b = s[i];
-        if !belongs_to(b, graphic) {
+    for b in s {
+        if !belongs_to(*b, graphic) {
             return false;
         }
-        i += 1;
     }
     true
 }

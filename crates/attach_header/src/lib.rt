@@ -17,7 +17,7 @@ pub mod written_tests;
 pub const LONGEST: usize = 255;
 
 // A symbol string: the bytes up to `length`. Of length 0 it is an absent one, and no other form of it is. What stands past the length is
-// looked at by nobody; a reader makes it 0.
+// looked at by nobody; a reader makes it 0. Fixed memory: the cells are part of it.
 #[derive(Clone, Copy)]
 pub struct SymbolString {
     pub length: u8,

@@ -17,12 +17,10 @@ const PERIOD: u8 = 0x4B;
 pub(crate) fn program_good(s: &[u8]) -> bool
     ensures { result ≡ program_good s.now }
 {
-    let n = s.len();
-    if n == 0 {
+    let [first, rest @ ..] = s else {
         return false;
-    }
-    let b = s[0];
-    (n <= LONGEST_PROGRAM) & ((b <= 0x3F) | is_graphic(b)) & all_belong(&s[1..], true)
+    };
+    (s.len() <= LONGEST_PROGRAM) & ((*first <= 0x3F) | is_graphic(*first)) & all_belong(rest, true)
 }
 
 // A profile, password or user ID.
@@ -36,11 +34,10 @@ pub(crate) fn data_good(s: &[u8]) -> bool
 fn part_good(s: &[u8]) -> bool
     ensures { result ≡ part_good s.now }
 {
-    let n = s.len();
-    if n == 0 {
+    let [first, ..] = s else {
         return false;
-    }
-    (n <= LONGEST_PART) & is_letter(s[0]) & all_belong(s, false)
+    };
+    (s.len() <= LONGEST_PART) & is_letter(*first) & all_belong(s, false)
 }
 
 // A fully qualified LU network name. A period is in no part of it, so the first one parts it.

@@ -2,7 +2,8 @@
 ghost use Rattle.std.specs.Prelude.{◌≡◌, ◌≤◌, length};
 ghost use Rattle.attach_header.specs.Places.{part_at};
 
-// Where a field stands: from `start` up to `end`. It is not whole if its length byte counts more bytes than there are.
+// Where a field stands: from `start` up to `end`. It is not whole if its length byte counts more bytes than there are; the definition of
+// `part_at` gives its place then too.
 #[derive(Clone, Copy)]
 pub struct Part {
     pub whole: bool,

@@ -16,7 +16,7 @@ ghost use Rattle.attach_header.specs.Places.{places_of};
 
 use crate::names::program_good;
 use crate::parts::{Part, part_at};
-use crate::strings::{symbol_string, unpadded_length};
+use crate::strings::{symbol_string, unpadded};
 use crate::subfields::{security_good, security_of};
 use crate::work::{identifier_good, work_of};
 use crate::{Attach, LONGEST, SymbolString};
@@ -28,7 +28,7 @@ const FIXED: usize = 6;
 
 const LEAST_FIXED: u8 = 3;
 
-// What is read: the fields, every one 0 or absent where the header is refused.
+// What is read: the fields, every one 0 or absent where the header is refused. No Result: `read_attach` is so defined.
 #[derive(Clone, Copy)]
 pub struct AttachRead {
     pub answer: Answer,
@@ -87,8 +87,7 @@ fn find_places(h: &[u8]) -> Places
 fn name_good(s: &[u8]) -> bool
     ensures { result ≡ name_good s.now }
 {
-    let m = unpadded_length(s);
-    (s.len() <= 64) & program_good(&s[..m])
+    (s.len() <= 64) & program_good(unpadded(s))
 }
 
 fn header_good(h: &[u8]) -> bool
@@ -98,17 +97,12 @@ fn header_good(h: &[u8]) -> bool
         return false;
     }
     let found = find_places(h);
-    let program = found.program;
-    let security = found.security;
-    let work = found.work;
-    let a = program.start;
-    let b = program.end;
-    let c = security.start;
-    let d = security.end;
-    let e = work.start;
-    let f = work.end;
-    let lengths = program.whole & security.whole & work.whole & (h.len() - f <= 1);
-    lengths & name_good(&h[a..b]) & security_good(&h[c..d]) & identifier_good(&h[e..f])
+    let (program, security, work) = (found.program, found.security, found.work);
+    let lengths = program.whole & security.whole & work.whole & (h.len() - work.end <= 1);
+    lengths
+        & name_good(&h[program.start..program.end])
+        & security_good(&h[security.start..security.end])
+        & identifier_good(&h[work.start..work.end])
 }
 
 // The fields of a good header: of its fixed part, and of the three parts behind it.
@@ -118,11 +112,7 @@ fn fields_from(h: &[u8], name: &[u8], security: &[u8], identifier: &[u8]) -> Att
     ensures { result ≡ attach_of (fields_from h.now name.now security.now identifier.now) }
 {
     let secured = security_of(security);
-    let profile = secured.profile;
-    let password = secured.password;
-    let user = secured.user;
     let work = work_of(identifier);
-    let lu = work.lu;
     let instance = work.instance;
     let sequence = work.sequence;
     Attach {
@@ -130,10 +120,10 @@ fn fields_from(h: &[u8], name: &[u8], security: &[u8], identifier: &[u8]) -> Att
         resource: h[6],
         sync: h[8] / 64,
         program: symbol_string(name),
-        profile,
-        password,
-        user,
-        lu,
+        profile: secured.profile,
+        password: secured.password,
+        user: secured.user,
+        lu: work.lu,
         instance,
         sequence,
     }
@@ -144,16 +134,13 @@ fn fields_in(h: &[u8]) -> Attach
     ensures { result ≡ attach_of (fields_in h.now) }
 {
     let found = find_places(h);
-    let program = found.program;
-    let security = found.security;
-    let work = found.work;
-    let a = program.start;
-    let b = program.end;
-    let c = security.start;
-    let d = security.end;
-    let e = work.start;
-    let f = work.end;
-    fields_from(h, &h[a..b], &h[c..d], &h[e..f])
+    let (program, security, work) = (found.program, found.security, found.work);
+    fields_from(
+        h,
+        &h[program.start..program.end],
+        &h[security.start..security.end],
+        &h[work.start..work.end],
+    )
 }
 
 fn no_string() -> SymbolString

@@ -1,5 +1,5 @@
 // Access security information subfields: profile, password and user ID, in any order.
-ghost use Rattle.std.specs.Prelude.{◌≡◌, true, cond, ◌≤◌, length};
+ghost use Rattle.std.specs.Prelude.{◌≡◌, true, ◌≤◌, length};
 ghost use Rattle.attach_header.specs.Read.{
   subfield_good,
   subfields_good,
@@ -15,7 +15,7 @@ ghost use Rattle.attach_header.specs.Places.{security_of};
 use crate::SymbolString;
 use crate::names::data_good;
 use crate::parts::part_at;
-use crate::strings::{symbol_string, unpadded_length};
+use crate::strings::{symbol_string, unpadded};
 
 pub const PROFILE: u8 = 0;
 
@@ -40,69 +40,52 @@ const LONGEST_SUBFIELD: usize = 11;
 fn subfield_good(s: &[u8]) -> bool
     ensures { result ≡ subfield_good s.now }
 {
-    let n = s.len();
-    if n == 0 {
+    let [kind, data @ ..] = s else {
         return false;
-    }
-    let data = &s[1..];
-    let m = unpadded_length(data);
-    (n <= LONGEST_SUBFIELD) & (s[0] <= USER) & data_good(&data[..m])
+    };
+    (s.len() <= LONGEST_SUBFIELD) & (*kind <= USER) & data_good(unpadded(data))
 }
 
 fn is_type(s: &[u8], kind: u8) -> bool
     ensures { result ≡ is_type kind s.now }
 {
-    if s.len() == 0 {
+    let [first, ..] = s else {
         return false;
-    }
-    s[0] == kind
+    };
+    *first == kind
 }
 
 // Each subfield is good, and they fill the field.
 fn subfields_good(s: &[u8]) -> bool
     ensures { result ≡ subfields_good 3 s.now }
 {
-    let mut left = MOST;
     let mut at = 0;
-    while at < s.len() {
-        if left == 0 {
-            return false;
+    for _ in 0..MOST {
+        if s.len() <= at {
+            return true;
         }
         let p = part_at(s, at);
-        let start = p.start;
-        let end = p.end;
-        if !(p.whole & subfield_good(&s[start..end])) {
+        if !(p.whole & subfield_good(&s[p.start..p.end])) {
             return false;
         }
-        at = end;
-        left = left - 1;
+        at = p.end;
     }
-    true
-}
-
-fn one_if(yes: bool) -> usize
-    ensures { (result ≡ cond yes 1 0) × (result ≤ 1) }
-{
-    if yes { 1 } else { 0 }
+    s.len() <= at
 }
 
 // How often a type comes.
 fn count(s: &[u8], kind: u8) -> usize
     ensures { result ≡ count_of kind (subfields 3 s.now) }
 {
-    let mut left = MOST;
     let mut at = 0;
     let mut n = 0;
-    while at < s.len() {
-        if left == 0 {
+    for _ in 0..MOST {
+        if s.len() <= at {
             return n;
         }
         let p = part_at(s, at);
-        let start = p.start;
-        let end = p.end;
-        n = n + one_if(is_type(&s[start..end], kind));
-        at = end;
-        left = left - 1;
+        n += usize::from(is_type(&s[p.start..p.end], kind));
+        at = p.end;
     }
     n
 }
@@ -118,23 +101,19 @@ fn data_of(s: &[u8], kind: u8) -> SymbolString
     requires { subfields_good 3 s.now ≡ true }
     ensures { result ≡ string_of (data_of kind s.now) }
 {
-    let mut left = MOST;
     let mut at = 0;
-    while at < s.len() {
-        if left == 0 {
-            return symbol_string(&s[..0]);
+    for _ in 0..MOST {
+        if s.len() <= at {
+            return symbol_string(&[]);
         }
         let p = part_at(s, at);
-        let start = p.start;
-        let end = p.end;
-        let field = &s[start..end];
+        let field = &s[p.start..p.end];
         if is_type(field, kind) {
             return symbol_string(&field[1..]);
         }
-        at = end;
-        left = left - 1;
+        at = p.end;
     }
-    symbol_string(&s[..0])
+    symbol_string(&[])
 }
 
 pub(crate) fn security_of(s: &[u8]) -> Security

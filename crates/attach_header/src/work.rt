@@ -7,7 +7,7 @@ ghost use Rattle.attach_header.specs.Places.{work_of};
 use crate::SymbolString;
 use crate::names::lu_name_good;
 use crate::parts::part_at;
-use crate::strings::{symbol_string, unpadded_length};
+use crate::strings::{symbol_string, unpadded};
 use cells::copy;
 
 const LONGEST_LU_NAME: usize = 17;
@@ -34,11 +34,11 @@ pub(crate) fn identifier_good(s: &[u8]) -> bool
         return true;
     }
     let p = part_at(s, 0);
-    let start = p.start;
-    let end = p.end;
-    let name = &s[start..end];
-    let m = unpadded_length(name);
-    p.whole & (end - start <= LONGEST_LU_NAME) & (n - end == NUMBERS) & lu_name_good(&name[..m])
+    let name = &s[p.start..p.end];
+    p.whole
+        & (name.len() <= LONGEST_LU_NAME)
+        & (n - p.end == NUMBERS)
+        & lu_name_good(unpadded(name))
 }
 
 fn instance_of(numbers: &[u8]) -> [u8; 6]
@@ -71,12 +71,10 @@ pub(crate) fn work_of(s: &[u8]) -> Work
         };
     }
     let p = part_at(s, 0);
-    let start = p.start;
-    let end = p.end;
-    let instance = instance_of(&s[end..]);
-    let sequence = sequence_of(&s[end..]);
+    let instance = instance_of(&s[p.end..]);
+    let sequence = sequence_of(&s[p.end..]);
     Work {
-        lu: symbol_string(&s[start..end]),
+        lu: symbol_string(&s[p.start..p.end]),
         instance,
         sequence,
     }

@@ -1,5 +1,6 @@
 // An attach header written, in its single form.
 ghost use Rattle.std.specs.Prelude.{◌≡◌, true, ◌≤◌, length};
+ghost use Rattle.answers.specs.Refusals.{outcome_number};
 ghost use Rattle.answers.specs.FirstNo.{first_no};
 ghost use Rattle.digits.specs.PutAt.{put_at};
 ghost use Rattle.attach_header.specs.Fields.{fields_of};
@@ -8,12 +9,12 @@ ghost use Rattle.attach_header.specs.Written.{header_of, needed, writable, write
 use crate::written_parts::{put_string, put_trailing};
 use crate::written_tests::{is_writable, needed_length};
 use crate::{Attach, LONGEST};
-use answers::first_no::then_ask;
-use answers::numbers::{BAD_ATTACH, BAD_BUFFER, LONG_ATTACH};
+use answers::questions::ask;
+use answers::refusals::Refusal;
 use answers::{Answer, accept, refuse};
 use digits::printed::put;
 
-// What is written: the length of the header, 0 where it is refused.
+// What is written: the length of the header, 0 where it is refused. No Result: `write_attach` is so defined.
 #[derive(Clone, Copy)]
 pub struct Written {
     pub answer: Answer,
@@ -21,12 +22,13 @@ pub struct Written {
 }
 
 // The buffer, the length that is needed, the fields.
-fn write_refusal(attach: Attach, room: usize) -> u8
-    ensures { result ≡ first_no (write_questions attach room) }
+#[tactic(auto, unfolding(crate::specs::Written::write_questions))]
+fn write_refusal(attach: Attach, room: usize) -> Result<(), Refusal>
+    ensures { outcome_number result ≡ first_no (write_questions attach room) }
 {
-    let buffer = then_ask(0, LONGEST <= room, BAD_BUFFER);
-    let long = then_ask(buffer, needed_length(attach) <= LONGEST, LONG_ATTACH);
-    then_ask(long, is_writable(attach), BAD_ATTACH)
+    ask(LONGEST <= room, Refusal::BadBuffer)?;
+    ask(needed_length(attach) <= LONGEST, Refusal::LongAttach)?;
+    ask(is_writable(attach), Refusal::BadAttach)
 }
 
 // Bytes 0 to j, the program name behind its length, and what trails.
@@ -54,13 +56,13 @@ fn put_header(out: &mut [u8], attach: Attach) -> usize
 }
 
 // Writes an attach header at the front of a buffer. A refusal changes no cell.
+#[tactic(auto, unfolding(crate::specs::Written::write_attach))]
 pub fn write_attach(attach: Attach, header: &mut [u8]) -> Written
     ensures { (result, header.new) ≡ write_attach attach header.old }
 {
-    let refusal = write_refusal(attach, header.len());
-    if refusal != 0 {
+    if let Err(why) = write_refusal(attach, header.len()) {
         return Written {
-            answer: refuse(refusal),
+            answer: refuse(why.into()),
             length: 0,
         };
     }

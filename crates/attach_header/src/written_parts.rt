@@ -24,13 +24,10 @@ use digits::printed::put;
 pub(crate) fn put_string(out: &mut [u8], at: usize, s: SymbolString) -> usize
     ensures { (result, out.new) ≡ put_at (text_of s) at out.old }
 {
-    let n = s.length as usize;
-    let bytes = s.bytes;
-    let cells: &[u8] = &bytes;
-    if cells.len() < n {
-        return put(out, at, cells);
+    match s.text() {
+        Some(text) => put(out, at, text),
+        None => put(out, at, &s.bytes),
     }
-    put(out, at, &cells[..n])
 }
 
 // A security subfield: the length of its type and data, the type, the data. Nothing, where there is no data.
@@ -91,24 +88,22 @@ pub(crate) fn put_trailing(out: &mut [u8], at: usize, attach: Attach) -> usize
     requires attach_in_bounds { at + length (trailing (security (fields_of attach)) (work (fields_of attach))) ≤ length out.old }
     ensures { (result, out.new) ≡ put_at (trailing (security (fields_of attach)) (work (fields_of attach))) at out.old }
 {
-    let profile = attach.profile;
-    let password = attach.password;
-    let user = attach.user;
-    let lu = attach.lu;
-    let instance = attach.instance;
-    let sequence = attach.sequence;
-    let s = security_needs(profile.length, password.length, user.length);
-    let w = work_needs(lu.length);
+    let s = security_needs(
+        attach.profile.length,
+        attach.password.length,
+        attach.user.length,
+    );
+    let w = work_needs(attach.lu.length);
     if (s == 0) & (w == 0) {
         return at;
     }
     let before = [s as u8];
     let security = put(out, at, &before);
-    let behind = put_security(out, security, profile, password, user);
+    let behind = put_security(out, security, attach.profile, attach.password, attach.user);
     if w == 0 {
         return behind;
     }
     let length = [w as u8];
     let work = put(out, behind, &length);
-    put_work(out, work, lu, instance, sequence)
+    put_work(out, work, attach.lu, attach.instance, attach.sequence)
 }

@@ -61,49 +61,34 @@ fn trailing_needs(security: usize, work: usize) -> usize
 pub(crate) fn needed_length(attach: Attach) -> usize
     ensures { result ≡ needed attach }
 {
-    let program = attach.program;
-    let profile = attach.profile;
-    let password = attach.password;
-    let user = attach.user;
-    let lu = attach.lu;
-    let security = security_needs(profile.length, password.length, user.length);
-    10 + program.length as usize + trailing_needs(security, work_needs(lu.length))
+    let security = security_needs(
+        attach.profile.length,
+        attach.password.length,
+        attach.user.length,
+    );
+    10 + attach.program.length as usize + trailing_needs(security, work_needs(attach.lu.length))
 }
 
+#[tactic(auto, unfolding(crate::specs::Written::program_fits))]
 fn program_fits(s: SymbolString) -> bool
     ensures { result ≡ program_fits s }
 {
-    let n = s.length as usize;
-    let bytes = s.bytes;
-    let cells: &[u8] = &bytes;
-    if cells.len() < n {
-        return false;
-    }
-    program_good(&cells[..n])
+    s.text().is_some_and(program_good)
 }
 
+#[tactic(auto, unfolding(crate::specs::Written::data_fits))]
 fn data_fits(s: SymbolString) -> bool
     ensures { result ≡ data_fits s }
 {
-    let n = s.length as usize;
-    let bytes = s.bytes;
-    let cells: &[u8] = &bytes;
-    if cells.len() < n {
-        return false;
-    }
-    data_good(&cells[..n])
+    s.text().is_some_and(data_good)
 }
 
+#[tactic(auto, unfolding(crate::specs::Written::lu_fits))]
 fn lu_fits(s: SymbolString) -> bool
     ensures { result ≡ lu_fits s }
 {
-    let n = s.length as usize;
-    let bytes = s.bytes;
-    let cells: &[u8] = &bytes;
-    if cells.len() < n {
-        return false;
-    }
-    (n == 0) | lu_name_good(&cells[..n])
+    s.text()
+        .is_some_and(|text| text.is_empty() | lu_name_good(text))
 }
 
 // True of all that the type Attach holds. It is asked so that the definition assumes nothing of the two arrays.
@@ -120,17 +105,10 @@ pub(crate) fn is_writable(attach: Attach) -> bool
     ensures { result ≡ writable attach }
 {
     let numbers = (attach.pip <= 1) & resource_good(attach.resource) & (attach.sync <= 2);
-    let program = attach.program;
-    let profile = attach.profile;
-    let password = attach.password;
-    let user = attach.user;
-    let lu = attach.lu;
-    let instance = attach.instance;
-    let sequence = attach.sequence;
-    let strings = program_fits(program)
-        & data_fits(profile)
-        & data_fits(password)
-        & data_fits(user)
-        & lu_fits(lu);
-    numbers & strings & numbers_whole(instance, sequence)
+    let strings = program_fits(attach.program)
+        & data_fits(attach.profile)
+        & data_fits(attach.password)
+        & data_fits(attach.user)
+        & lu_fits(attach.lu);
+    numbers & strings & numbers_whole(attach.instance, attach.sequence)
 }

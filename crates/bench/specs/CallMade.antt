@@ -3,9 +3,9 @@
 use Rattle.std.specs.Prelude.{ℕ, Bool, true, false, cond, List, []}
 use Rattle.end.specs.declared.End.{End}
 use Rattle.end.specs.declared.Done.{Done}
-use Rattle.end.specs.declared.ExpeditedDone.{ExpeditedDone}
+use Rattle.answers.specs.declared.Answer.{Answer}
+use Rattle.answers.specs.declared.ExpeditedAnswer.{ExpeditedAnswer}
 use Rattle.answers.specs.declared.ReadAnswer.{ReadAnswer}
-use Rattle.end.specs.declared.ReadDone.{ReadDone}
 use Rattle.calls.specs.Calls as J
 use Rattle.joined.specs.Ends.{Lane, normal, expedited}
 use Rattle.script.specs.declared.Flow.{Flow}
@@ -72,7 +72,7 @@ abbrev pub station_of : End → List ℕ → List ℕ → List ℕ → Station
 station_of e send unit inbox = record { end = e; send = send; unit = unit; inbox = inbox }
 
 -- by what it hands back and the cells it is lent as it returns; only a read's reply has the cells of a buffer
-abbrev pub acted_by : Verb → ReadDone → List ℕ → List ℕ → List ℕ → List ℕ → Called
+abbrev pub acted_by : Verb → Done ReadAnswer → List ℕ → List ℕ → List ℕ → List ℕ → Called
 acted_by v d send unit inbox buffer =
     let units = units_of d.answer.answer.unit unit in
     record {
@@ -83,16 +83,16 @@ acted_by v d send unit inbox buffer =
     }
 
 -- the answer of a call that is no read: nothing copied, no record complete, no part that another follows, no mark
-abbrev pub plain_done : Done → ReadDone
+abbrev pub plain_done : Done Answer → Done ReadAnswer
 plain_done d = record { answer = (plain d.answer).answer; end = d.end }
 
 -- ---- what a take leaves
 
 -- a take on the normal line tells of no signal
-abbrev pub unit_told : Done → Told
+abbrev pub unit_told : Done Answer → Told
 unit_told d = record { answer = (plain d.answer).answer; signalled = false; end = d.end }
 
-abbrev pub signal_told : ExpeditedDone → Told
+abbrev pub signal_told : Done ExpeditedAnswer → Told
 signal_told d = record { answer = (plain d.answer.answer).answer; signalled = d.answer.signalled; end = d.end }
 
 -- by what it hands back and the cells as it returns; the send buffer is not lent

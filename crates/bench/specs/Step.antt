@@ -1,6 +1,6 @@
 -- One step on the bench: a request at one end, with the two lines to it and the two lines to the other end, against the joined ends of the claims.
 -- Assumes nothing.
-use Rattle.std.specs.Prelude.{ℕ, ◌≡◌, Bool, false, cond, List, [], ◌∷◌, ◌++◌, leb, eqb, length}
+use Rattle.std.specs.Prelude.{ℕ, ◌≡◌, Bool, false, cond, List, [], ◌∷◌, ◌++◌, leb, eqb, length, Option, Some, None, Result, Ok, Err, IfOk, IfErr}
 use Rattle.end.specs.declared.End.{End}
 use Rattle.answers.specs.declared.ReadAnswer.{ReadAnswer}
 use Rattle.joined.specs.Lanes.{Lines}
@@ -13,8 +13,9 @@ use Rattle.script.specs.declared.Request.{Request}
 use Rattle.script.specs.declared.Request.TheVariants.{Call, Take, Offer}
 use Rattle.unit_lines.specs.declared.Line.{Line}
 use Rattle.bench.specs.declared.Pair.{Pair}
-use Rattle.bench.specs.declared.Outcome.{Outcome}
-use Rattle.bench.specs.declared.Outcome.TheVariants.{Answered, NothingWaiting, Full}
+use Rattle.bench.specs.declared.Stepped.{Stepped}
+use Rattle.bench.specs.declared.NotMade.{NotMade}
+use Rattle.bench.specs.declared.NotMade.TheVariants.{NothingWaiting, Full}
 use Rattle.unit_lines.specs.UnitLine.{MOST_UNITS, Holds}
 use Rattle.bench.specs.CallMade.{verb_of, is_read, station_of, verb_lane, flow_lane}
 use Rattle.calls.specs.Calls.{Reply, Station}
@@ -60,25 +61,38 @@ lane_of (Call v) = verb_lane v
 lane_of (Take f) = flow_lane f
 lane_of (Offer f) = flow_lane f
 
-abbrev pub unless_full : List (List ℕ) → Outcome
-unless_full vs = cond (leb MOST_UNITS (length vs)) Full Answered
+abbrev pub unless_full : List (List ℕ) → Option NotMade
+unless_full vs = cond (leb MOST_UNITS (length vs)) (Some Full) None
 
--- by the two lines of the request's lane
-abbrev pub outcome_on : Request → List (List ℕ) → List (List ℕ) → Outcome
+-- by the two lines of the request's lane: why it is not made; none, if it is answered
+abbrev pub outcome_on : Request → List (List ℕ) → List (List ℕ) → Option NotMade
 outcome_on (Call v) us vs = unless_full vs
-outcome_on (Take f) [] vs = NothingWaiting
+outcome_on (Take f) [] vs = Some NothingWaiting
 outcome_on (Take f) (u ∷ us) vs = unless_full vs
 outcome_on (Offer f) us vs = unless_full vs
 
 -- a take with nothing waiting is no call; any other request is answered unless the line that its unit would join is full
-abbrev pub outcome_of : Request → Lines Lane (List ℕ) → Lines Lane (List ℕ) → Outcome
+abbrev pub outcome_of : Request → Lines Lane (List ℕ) → Lines Lane (List ℕ) → Option NotMade
 outcome_of q us vs = outcome_on q (us (lane_of q)) (vs (lane_of q))
 
--- a take that is accepted, by its outcome and its refusal number
-abbrev pub accepted : Outcome → ℕ → Bool
-accepted Answered q = eqb q 0
-accepted NothingWaiting q = false
-accepted Full q = false
+-- a take that is accepted, by its refusal number
+abbrev pub accepted : ℕ → Bool
+accepted q = eqb q 0
+
+-- ---- what a step hands back
+
+abbrev pub why_not : Result Stepped NotMade → Option NotMade
+why_not (Ok s) = None
+why_not (Err w) = Some w
+
+-- the end and the lines afterwards: where the request is not made, those before
+abbrev pub end_left : End → Result Stepped NotMade → End
+end_left e (Ok s) = s.told.end
+end_left e (Err w) = e
+
+abbrev pub lines_left : Pair → Result Stepped NotMade → Pair
+lines_left p (Ok s) = s.lines
+lines_left p (Err w) = p
 
 -- ---- what an answered request leaves
 
@@ -117,15 +131,15 @@ pub record Leaves (b : Bench) (reply : Reply) (vs : Lines Lane (List ℕ)) (l : 
   pub answer_is : Newest reply l.side.log
 
 -- ---- the step, from b to b₁, where us wait for this end and vs for the other
-pub record Steps (q : Request) (given : List ℕ) (b : Bench) (o : Outcome) (a : ReadAnswer) (signalled : Bool) (b₁ : Bench) (es : Log)
+pub record Steps (q : Request) (given : List ℕ) (b : Bench) (r : Result Stepped NotMade) (b₁ : Bench) (es : Log)
     (us vs : Lines Lane (List ℕ)) : Type 0 where
-  pub outcome_is : o ≡ outcome_of q us vs
-  pub answered : o ≡ Answered → Leaves b₁ (reply_to q a signalled b₁.buffer) vs (local_of q given b es us)
+  pub outcome_is : why_not r ≡ outcome_of q us vs
+  pub answered : IfOk r (λ s. Leaves b₁ (reply_to q s.told.answer s.told.signalled b₁.buffer) vs (local_of q given b es us))
   -- no other request than a read touches the read's buffer
   pub unread : reads q ≡ false → b₁.buffer ≡ b.buffer
   -- a request that is not answered changes nothing
-  pub unchanged : (o ≡ Answered → ⊥) → b₁ ≡ b
+  pub unchanged : IfErr r (λ w. b₁ ≡ b)
 
 -- the step, whatever the lines hold and whatever has happened at this end
-abbrev pub StepsTo : Request → List ℕ → Bench → Outcome → ReadAnswer → Bool → Bench → Type 0
-StepsTo q given b o a signalled b₁ = (es : Log) (us vs : Lines Lane (List ℕ)) → Held b.lines us vs → Steps q given b o a signalled b₁ es us vs
+abbrev pub StepsTo : Request → List ℕ → Bench → Result Stepped NotMade → Bench → Type 0
+StepsTo q given b r b₁ = (es : Log) (us vs : Lines Lane (List ℕ)) → Held b.lines us vs → Steps q given b r b₁ es us vs

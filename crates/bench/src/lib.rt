@@ -7,18 +7,16 @@ mod made_call;
 
 ghost use Rattle.std.specs.Prelude.{◌≡◌, List, ℕ};
 ghost use Rattle.bench.specs.CallMade.{verb_lane, flow_lane};
-ghost use Rattle.bench.specs.Step.{accepted, Ways, ways_of, placed, bench_of, lane_of, StepsTo};
+ghost use Rattle.bench.specs.Step.{Ways, ways_of, placed, bench_of, end_left, lines_left, lane_of, StepsTo};
 
 use crate::made_call::{call, take};
-use control::WhatReceived;
-use end::{Answer, End, ReadAnswer};
+use end::{End, ReadAnswer};
 use script::{Flow, Request, Verb};
 use unit_lines::{Line, deliver, is_full, oldest_end, remove_oldest};
 
-// Whether the call was made.
+// Why a request is not made: a take finds nothing waiting, or the line that the unit would join is full.
 #[derive(Clone, Copy)]
-pub enum Outcome {
-    Answered,
+pub enum NotMade {
     NothingWaiting,
     Full,
 }
@@ -38,41 +36,11 @@ pub struct Told {
     pub end: End,
 }
 
-// What a step hands back: the answer, if one was made, with the new end; and the two lines of its flow.
+// What a request that is made hands back: its answer with the new end, and the two lines of its flow.
 #[derive(Clone, Copy)]
 pub struct Stepped {
-    pub outcome: Outcome,
     pub told: Told,
     pub lines: Pair,
-}
-
-// No call is made, and nothing changes.
-fn unmade(outcome: Outcome, end: End, lines: Pair) -> Stepped
-    ensures { (result.outcome ≡ outcome) × (result.told.end ≡ end) × (result.lines ≡ lines) }
-{
-    let none = Answer {
-        refusal: 0,
-        sense: 0,
-        rule: 0,
-        unit: 0,
-    };
-    let answer = ReadAnswer {
-        answer: none,
-        copied: 0,
-        complete: false,
-        more: false,
-        mark: WhatReceived::Nothing,
-    };
-    let told = Told {
-        answer,
-        signalled: false,
-        end,
-    };
-    Stepped {
-        outcome,
-        told,
-        lines,
-    }
 }
 
 // A call that the end answers by itself, with the lines of the flow that its unit joins.
@@ -86,33 +54,27 @@ fn step_call(
     buffer: &mut [u8],
     lines: Pair,
     far: &mut [u8],
-) -> Stepped
+) -> Result<Stepped, NotMade>
     ensures { (waiting : List ℕ) (there : Ways) → StepsTo (Request.Call verb) given.now
         (bench_of end send.old unit.old inbox.old buffer.old
-        (placed (verb_lane verb) (ways_of lines waiting far.old) there)) result.outcome result.told.answer result.told.signalled
-        (bench_of result.told.end send.new unit.new inbox.new buffer.new
-        (placed (verb_lane verb) (ways_of result.lines waiting far.new) there)) }
+        (placed (verb_lane verb) (ways_of lines waiting far.old) there)) result
+        (bench_of (end_left end result) send.new unit.new inbox.new buffer.new
+        (placed (verb_lane verb) (ways_of (lines_left lines result) waiting far.new) there)) }
 {
-    let from = lines.from;
-    let to = lines.to;
-    if is_full(to) {
-        return unmade(Outcome::Full, end, lines);
+    if is_full(lines.to) {
+        return Err(NotMade::Full);
     }
     let done = call(end, verb, given, send, unit, inbox, buffer);
-    let answer = done.answer;
-    let next = done.end;
-    let made = answer.answer;
-    let behind = deliver(to, far, unit, made.unit);
+    let to = deliver(lines.to, far, unit, done.answer.answer.unit);
     let told = Told {
-        answer,
+        answer: done.answer,
         signalled: false,
-        end: next,
+        end: done.end,
     };
-    Stepped {
-        outcome: Outcome::Answered,
+    Ok(Stepped {
         told,
-        lines: Pair { from, to: behind },
-    }
+        lines: Pair { to, ..lines },
+    })
 }
 
 // A unit that is given: it is taken or refused, and what it makes, the answer to a bid or to a signal, joins the line to the other
@@ -125,41 +87,25 @@ fn step_offer(
     inbox: &mut [u8],
     lines: Pair,
     far: &mut [u8],
-) -> Stepped
+) -> Result<Stepped, NotMade>
     ensures { (send buffer waiting : List ℕ) (there : Ways) → StepsTo (Request.Offer flow) taken.now
         (bench_of end send unit.old inbox.old buffer
-        (placed (flow_lane flow) (ways_of lines waiting far.old) there)) result.outcome result.told.answer result.told.signalled
-        (bench_of result.told.end send unit.new inbox.new buffer
-        (placed (flow_lane flow) (ways_of result.lines waiting far.new) there)) }
+        (placed (flow_lane flow) (ways_of lines waiting far.old) there)) result
+        (bench_of (end_left end result) send unit.new inbox.new buffer
+        (placed (flow_lane flow) (ways_of (lines_left lines result) waiting far.new) there)) }
 {
-    let from = lines.from;
-    let to = lines.to;
-    if is_full(to) {
-        return unmade(Outcome::Full, end, lines);
+    if is_full(lines.to) {
+        return Err(NotMade::Full);
     }
     let told = take(end, flow, taken, inbox, unit);
-    let answer = told.answer;
-    let made = answer.answer;
-    let behind = deliver(to, far, unit, made.unit);
-    Stepped {
-        outcome: Outcome::Answered,
+    let to = deliver(lines.to, far, unit, told.answer.answer.unit);
+    Ok(Stepped {
         told,
-        lines: Pair { from, to: behind },
-    }
+        lines: Pair { to, ..lines },
+    })
 }
 
-// Only an accepted take removes its unit.
-fn accepted(outcome: Outcome, refusal: u8) -> bool
-    ensures { result ≡ accepted outcome refusal }
-{
-    match outcome {
-        Outcome::Answered => refusal == 0,
-        Outcome::NothingWaiting => false,
-        Outcome::Full => false,
-    }
-}
-
-// A take of the oldest unit: it is offered, and goes from the line unless it is refused.
+// A take of the oldest unit: it is offered, and goes from the line where the take is accepted.
 fn step_take(
     end: End,
     flow: Flow,
@@ -168,34 +114,28 @@ fn step_take(
     lines: Pair,
     waiting: &mut [u8],
     far: &mut [u8],
-) -> Stepped
+) -> Result<Stepped, NotMade>
     ensures { (given send buffer : List ℕ) (there : Ways) → StepsTo (Request.Take flow) given
         (bench_of end send unit.old inbox.old buffer
-        (placed (flow_lane flow) (ways_of lines waiting.old far.old) there)) result.outcome result.told.answer result.told.signalled
-        (bench_of result.told.end send unit.new inbox.new buffer
-        (placed (flow_lane flow) (ways_of result.lines waiting.new far.new) there)) }
+        (placed (flow_lane flow) (ways_of lines waiting.old far.old) there)) result
+        (bench_of (end_left end result) send unit.new inbox.new buffer
+        (placed (flow_lane flow) (ways_of (lines_left lines result) waiting.new far.new) there)) }
 {
-    let from = lines.from;
-    let past = oldest_end(from, waiting);
-    if past == 0 {
-        return unmade(Outcome::NothingWaiting, end, lines);
-    }
-    let offered = step_offer(end, flow, &waiting[2..past], unit, inbox, lines, far);
-    let outcome = offered.outcome;
-    let told = offered.told;
-    let answer = told.answer;
-    let given = answer.answer;
-    if accepted(outcome, given.refusal) {
-        let behind = offered.lines;
-        let to = behind.to;
-        let rest = remove_oldest(from, waiting);
-        Stepped {
-            outcome,
-            told,
-            lines: Pair { from: rest, to },
-        }
+    let Some(past) = oldest_end(lines.from, waiting) else {
+        return Err(NotMade::NothingWaiting);
+    };
+    let offered = step_offer(end, flow, &waiting[2..past], unit, inbox, lines, far)?;
+    if offered.told.answer.answer.refusal == 0 {
+        let from = remove_oldest(lines.from, waiting);
+        Ok(Stepped {
+            told: offered.told,
+            lines: Pair {
+                from,
+                ..offered.lines
+            },
+        })
     } else {
-        offered
+        Ok(offered)
     }
 }
 
@@ -204,16 +144,8 @@ fn verb_flow(verb: Verb) -> Flow
     ensures { flow_lane result ≡ verb_lane verb }
 {
     match verb {
-        Verb::Allocate => Flow::Normal,
-        Verb::Confirmed => Flow::Normal,
-        Verb::SendError => Flow::Normal,
         Verb::RequestToSend => Flow::Expedited,
-        Verb::SendPacingResponse => Flow::Normal,
-        Verb::SendData => Flow::Normal,
-        Verb::Close(_, _) => Flow::Normal,
-        Verb::Defer(_) => Flow::Normal,
-        Verb::Withdraw => Flow::Normal,
-        Verb::Receive => Flow::Normal,
+        _ => Flow::Normal,
     }
 }
 
@@ -223,13 +155,12 @@ pub fn request_flow(request: Request) -> Flow
 {
     match request {
         Request::Call(verb) => verb_flow(verb),
-        Request::Take(flow) => flow,
-        Request::Offer(flow) => flow,
+        Request::Take(flow) | Request::Offer(flow) => flow,
     }
 }
 
 // Makes the request at this end, with the lines of its flow: the line to this end in `waiting`, the line to the other end in `far`.
-// Those of the other flow, `there`, stay as they are.
+// Those of the other flow, `there`, stay as they are; where the request is not made, all does.
 pub fn step(
     end: End,
     request: Request,
@@ -241,12 +172,12 @@ pub fn step(
     lines: Pair,
     waiting: &mut [u8],
     far: &mut [u8],
-) -> Stepped
+) -> Result<Stepped, NotMade>
     ensures { (there : Ways) → StepsTo request given.now
         (bench_of end send.old unit.old inbox.old buffer.old
-        (placed (lane_of request) (ways_of lines waiting.old far.old) there)) result.outcome result.told.answer result.told.signalled
-        (bench_of result.told.end send.new unit.new inbox.new buffer.new
-        (placed (lane_of request) (ways_of result.lines waiting.new far.new) there)) }
+        (placed (lane_of request) (ways_of lines waiting.old far.old) there)) result
+        (bench_of (end_left end result) send.new unit.new inbox.new buffer.new
+        (placed (lane_of request) (ways_of (lines_left lines result) waiting.new far.new) there)) }
 {
     match request {
         Request::Call(verb) => {

@@ -1,6 +1,6 @@
 -- The bytes with which a session starts: what a window byte and a size byte mean, and the way back, from a size to its byte.
 -- Assumes nothing.
-use Rattle.std.specs.Prelude.{ℕ, zero, suc, ◌*◌, ◌/◌, ◌%◌, ◌^◌, Bool, cond, not, ◌&&◌, List, [], ◌∷◌, eqb, leb}
+use Rattle.std.specs.Prelude.{ℕ, zero, suc, ◌*◌, ◌/◌, ◌%◌, ◌^◌, Bool, cond, not, ◌&&◌, List, [], ◌∷◌, eqb, leb, Option, Some, None}
 use Rattle.unit.specs.Maximum.{max_good}
 use Rattle.answers.specs.FirstNo.{first_no}
 use Rattle.answers.specs.Answers.{BAD_MAXIMUM, NO_SIZE_BYTE, accepted, refused}
@@ -45,6 +45,10 @@ byte_below (suc n) size = cond (means n size) n (byte_below n size)
 
 unfoldable pub byte_of : ℕ → ℕ
 byte_of size = byte_below 256 size
+
+-- the byte, where one means the size
+abbrev pub byte_found : ℕ → Option ℕ
+byte_found size = cond (eqb (byte_of size) 0) None (Some (byte_of size))
 
 abbrev pub size_questions : ℕ → List (Bool × ℕ)
 size_questions size = (max_good size, BAD_MAXIMUM) ∷ (not (eqb (byte_of size) 0), NO_SIZE_BYTE) ∷ []

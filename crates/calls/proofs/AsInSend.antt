@@ -7,7 +7,7 @@ use Rattle.calls.proofs.CallWords.{mark_answered, first_no, yes, window_answered
 use Rattle.calls.proofs.CallWords.{send_pacing_response_decision}
 use Rattle.calls.proofs.CallWords.{send_pacing_response, bytes_read, inbox_moved, some_held, receive_refusal, mark_read, receive_decision, receive, ru_received}
 use Rattle.calls.proofs.CallWords.{data_joined}
-use Rattle.calls.proofs.CallWords.{bid_answered, credit_raised, header_received, receive_unit_refusal, receive_unit_decision, receive_unit, End, ReadDone, facts}
+use Rattle.calls.proofs.CallWords.{bid_answered, credit_raised, header_received, receive_unit_refusal, receive_unit_decision, receive_unit, End, Done, ReadAnswer, facts}
 use Rattle.calls.proofs.CallWords.{Called, Station, Verb, called, taken, taken_expedited}
 use Rattle.calls.proofs.CallWords.{receive_expedited_refusal, receive_expedited_decision, receive_expedited, with_expedited, unit_taken, header_taken}
 use Rattle.expedited.specs.declared.Expedited.{Expedited}
@@ -67,7 +67,7 @@ unmarked s a =
     nothing_is c.mark (unmarked_outside_receive c (facts s.end a.good).control (rw (send_is c.state (sending_clear c a.sending).0)))
 
 -- what a read leaves by what it hands back
-abbrev read_of : Station → List ℕ → ReadDone → Called
+abbrev read_of : Station → List ℕ → Done ReadAnswer → Called
 read_of s buffer d =
     copies s
     (record { done = d; inbox = inbox_moved s.end d.answer.copied s.inbox; buffer = front (take d.answer.copied s.inbox) buffer })

@@ -2,7 +2,8 @@
 -- Assumes nothing.
 use Rattle.calls.proofs.CallWords.{ℕ, ◌+◌, ◌≤◌, eqb-true, leb-true, ne_eqb, eqb, leb, take, drop, length, Bool, true, false, cond, not, ◌&&◌, ◌||◌, List}
 use Rattle.calls.proofs.CallWords.{[], ◌∷◌, ◌++◌, ◌≡◌, refl, sym, ap, ◌∙◌, arith, cases, both, left, or_right, front, written, walk, place_or, Position}
-use Rattle.calls.proofs.CallWords.{Walked, At, BadLength, header_good, ChainEnd, Continues, Last, DataHeader, Follows, Header, bid_ru, error_ru, fixed_ru, ru_good}
+use Rattle.calls.proofs.CallWords.{Result, Ok, Err, BadLength}
+use Rattle.calls.proofs.CallWords.{header_good, ChainEnd, Continues, Last, DataHeader, Follows, Header, bid_ru, error_ru, fixed_ru, ru_good}
 use Rattle.calls.proofs.CallWords.{RU_START, unit_of, number_in, header_in, unit_length, paced, has_credit, may_allocate, may_confirm, positive_response_fits}
 use Rattle.calls.proofs.CallWords.{negative_response_fits, confirmation_fits, holds_send, may_send, may_withdraw, Deferred, is_nothing, agree, is_first_speaker}
 use Rattle.calls.proofs.CallWords.{control_good, Control, bid_answer}
@@ -16,7 +17,7 @@ use Rattle.calls.proofs.CallWords.{confirmed_refusal, confirmed_decision, confir
 use Rattle.calls.proofs.CallWords.{send_pacing_response_refusal, send_pacing_response_decision, send_pacing_response, bytes_read, inbox_moved, some_held}
 use Rattle.calls.proofs.CallWords.{receive_refusal, mark_read, receive_decision, receive, ru_received, data_joined, bid_answered, credit_raised, header_received}
 use Rattle.calls.proofs.CallWords.{receive_unit_refusal, receive_unit_decision, receive_unit, record_good, data_header, held_bytes, gone, bytes_kept}
-use Rattle.calls.proofs.CallWords.{bytes_spilled, send_refusal, send_decision, send_data, End, ReadDone, facts, Called, Station, Verb, called, taken, taken_expedited}
+use Rattle.calls.proofs.CallWords.{bytes_spilled, send_refusal, send_decision, send_data, End, Done, ReadAnswer, facts, Called, Station, Verb, called, taken, taken_expedited}
 use Rattle.calls.proofs.CallWords.{ExpeditedHeader, Signal, SignalResponse, expedited_ru, expedited_of, expedited_length, with_expedited, signal_made, signal_taken}
 use Rattle.calls.proofs.CallWords.{response_taken, unit_taken, header_taken, rule_taken, request_refusal, request_decision, request_to_send}
 use Rattle.calls.proofs.CallWords.{receive_expedited_refusal, receive_expedited_decision, receive_expedited}
@@ -30,7 +31,6 @@ use lib.Dec.{T}
 use lib.ListN.{get_or}
 use Rattle.cells.proofs.Fronts.{front_bytes}
 use Rattle.logical_record.specs.Positions.{is_whole}
-use Rattle.logical_record.specs.RestOfRecord.{rest}
 use Rattle.unit.specs.Ru.{marks}
 use Rattle.header.specs.declared.Header.TheVariants.{Data, Bid, ErrorDescription, PositiveBidResponse, NegativeBidResponse, Confirmation}
 use Rattle.header.specs.declared.Header.TheVariants.{NegativeConfirmation, PacingResponse}
@@ -138,9 +138,9 @@ allocate_cases P s refuses speaks bids =
 
 -- ---- send data
 
-good_at : (w : Walked) → is_good w ≡ true → (p : Position) × (w ≡ At p)
-good_at (At p) e = (p, refl)
-good_at BadLength e = never e
+good_at : (w : Result Position BadLength) → is_good w ≡ true → (p : Position) × (w ≡ Ok p)
+good_at (Ok p) e = (p, refl)
+good_at (Err bad) e = never e
 
 -- the bytes are kept
 abbrev pub kept_act : Station → List ℕ → Called
@@ -182,7 +182,7 @@ pub record SendAsked (s : Station) (bytes : List ℕ) : Type 0 where
   pub most : length bytes ≤ s.end.sending.max
   pub sending : may_send s.end.control ≡ true
   pub place : Position
-  pub walked : walk s.end.sending.given bytes ≡ At place
+  pub walked : walk s.end.sending.given bytes ≡ Ok place
 
 pub send_cases :
     (P : Called → Type 0) (s : Station) (bytes : List ℕ)
@@ -502,7 +502,7 @@ read_cases P s buffer refuses copied marked =
     let e = s.end in
     let q : ℕ = receive_refusal e s.inbox (length buffer) in
     cases
-    (λ (d : ReadDone).
+    (λ (d : Done ReadAnswer).
     P (copies s (record { done = d; inbox = inbox_moved e d.answer.copied s.inbox; buffer = front (take d.answer.copied s.inbox) buffer })))
     (eqb q 0)
     (λ y.
@@ -510,7 +510,7 @@ read_cases P s buffer refuses copied marked =
     let asked : ReadAsked s buffer =
     record { inbox = eqb-true _ _ (t 0); good = t 1; least = leb-true _ _ (t 2); rest = t 3 } in
     cases
-    (λ (d : ReadDone).
+    (λ (d : Done ReadAnswer).
     P (copies s (record { done = d; inbox = inbox_moved e d.answer.copied s.inbox; buffer = front (take d.answer.copied s.inbox) buffer })))
     (some_held e)
     (λ h. copied asked h)
@@ -656,16 +656,16 @@ pub record DataAsked (s : Station) (d : DataHeader) (ru : List ℕ) : Type 0 whe
   pub short : length ru ≤ s.end.receiving.max
   pub request : RequestAsked s.end.receiving.window d.pacing
   pub away : holds_send s.end.control.state ≡ false
-  pub walked : walk s.end.receiving.taken ru ≡ At (place_or s.end.receiving.taken (walk s.end.receiving.taken ru))
+  pub walked : walk s.end.receiving.taken ru ≡ Ok (place_or s.end.receiving.taken (walk s.end.receiving.taken ru))
 
 request_asked : (w : Window) (bit : Bool) → has_credit w && agree bit (paced w) ≡ true → RequestAsked w bit
 request_asked w bit e =
     let h = both (has_credit w) (agree bit (paced w)) e in
     record { credit = h.0; bit = agrees bit (paced w) h.1 }
 
-fits_at : (ends : ChainEnd) (p : Position) (w : Walked) → records_fit ends w ≡ true → w ≡ At (place_or p w)
-fits_at ends p (At q) e = refl
-fits_at ends p BadLength e = cc
+fits_at : (ends : ChainEnd) (p : Position) (w : Result Position BadLength) → records_fit ends w ≡ true → w ≡ Ok (place_or p w)
+fits_at ends p (Ok q) e = refl
+fits_at ends p (Err bad) e = cc
 
 pub take_cases :
     (P : Called → Type 0) (s : Station) (u : List ℕ)

@@ -10,8 +10,8 @@ pub use mathlib.Core.Path.{◌≡◌, refl, sym, ap, ◌∙◌}
 pub use native.Mathlib.Omega.{arith}
 pub use Rattle.bools.proofs.{Cases.cases, Tests.both, Tests.join, Tests.left, Tests.right, Tests.or_right}
 unfoldable pub use Rattle.cells.specs.{Cells.front, Cells.written}
-pub use Rattle.logical_record.specs.{Walk.walk, Walk.place_or, declared.Position.Position, declared.Walked.Walked, declared.Walked.TheVariants.At}
-pub use Rattle.logical_record.specs.{declared.Walked.TheVariants.BadLength}
+pub use Rattle.logical_record.specs.{Walk.walk, Walk.place_or, declared.Position.Position, declared.BadLength.BadLength}
+pub use Rattle.std.specs.Prelude.{Result, Ok, Err}
 pub use Rattle.header.specs.{Header.confirms, Rules.header_good, declared.ChainEnd.ChainEnd, declared.ChainEnd.TheVariants.Continues}
 pub use Rattle.header.specs.{declared.ExpeditedHeader.ExpeditedHeader}
 pub use Rattle.header.specs.{declared.ExpeditedHeader.TheVariants.Signal, declared.ExpeditedHeader.TheVariants.SignalResponse}
@@ -57,7 +57,8 @@ unfoldable pub use Rattle.end.specs.{ReceiveUnit.receive_unit, Requests.data_hea
 unfoldable pub use Rattle.end.specs.{SendData.send_decision, SendData.send_data, Record.record_good}
 pub use Rattle.end.specs.{Close.nothing_goes, Close.closing, Outcome.with_control, Outcome.with_sending, Outcome.with_receiving, Outcome.with_expedited, Outcome.Decision, Outcome.decided, Receive.some_held}
 pub use Rattle.end.specs.{ReceiveUnit.rule_named, ReceiveUnit.ru_received, ReceiveUnit.header_received, SendData.held_bytes, SendData.gone}
-pub use Rattle.end.specs.{declared.End.End, declared.ReadDone.ReadDone}
+pub use Rattle.end.specs.{declared.End.End, declared.Done.Done}
+pub use Rattle.answers.specs.declared.ReadAnswer.{ReadAnswer}
 pub use Rattle.end.proofs.{RecordGood.facts}
 pub use Rattle.calls.specs.{Calls.Called, Calls.Station, Calls.Verb, Calls.refusal_in, Laws.AllBytes, Laws.BytesOf, UnitCounts.count}
 pub use Rattle.calls.specs.{UnitCounts.is_pacing_response, UnitCounts.is_request, UnitCounts.requests_among}

@@ -1,7 +1,7 @@
 -- What each call costs or gives: a request made 1 credit, a pacing response taken W; a request taken 1 of open, a pacing response made W.
 -- Assumes nothing.
 use Rattle.calls.proofs.CallWords.{ℕ, ◌+◌, ◌*◌, eqb, Bool, true, false, ◌&&◌, List, [], ◌∷◌, ◌≡◌, refl, ap, ◌∙◌, arith, left, ChainEnd, Continues, Last}
-use Rattle.calls.proofs.CallWords.{Header, bid_ru, unit_of, paced, has_credit, advanced, answered, request_received, request_made, next_number, bid_made}
+use Rattle.calls.proofs.CallWords.{Header, bid_ru, unit_of, paced, has_credit, advanced, request_received, request_made, next_number, bid_made}
 use Rattle.calls.proofs.CallWords.{closing, bytes_read, mark_read, data_joined, bid_answered, credit_raised, record_good, data_header, held_bytes}
 use Rattle.calls.proofs.CallWords.{bytes_kept, error_ru, negative_confirmation_ru, error_marked}
 use Rattle.calls.proofs.CallWords.{bytes_spilled, facts, Called, Station, Verb, called, taken, taken_expedited, refusal_in, count, is_pacing_response, is_request}

@@ -1,7 +1,7 @@
 -- Every call keeps question 5: the record that it leaves is within the section 'The end's record'.
 -- Assumes nothing.
 use Rattle.calls.proofs.CallWords.{ℕ, ◌<◌, ◌+◌, ◌*◌, ◌≤◌, eqb-true, leb-true, ne_eqb, eqb, leb, take, length, Bool, true, false, not, List, ◌≡◌, refl}
-use Rattle.calls.proofs.CallWords.{sym, ap, arith, both, join, left, right, walk, place_or, Position, Walked, At, BadLength, Follows, RU_START, number_in}
+use Rattle.calls.proofs.CallWords.{sym, ap, arith, both, join, left, right, walk, place_or, Position, Result, Ok, Err, BadLength, Follows, RU_START, number_in}
 use Rattle.calls.proofs.CallWords.{closing, deferred, withdrawn, control_good, Control, within, allocated, confirmation_made, mark_answered, first_no, yes}
 use Rattle.calls.proofs.CallWords.{request_received, ◌||◌, or_right, holds_send, closed, confirmation_denied, error_made, error_marked}
 use Rattle.calls.proofs.CallWords.{window_answered, request_made, bid_made, with_control, with_receiving, bytes_read, ru_received, data_joined}
@@ -59,9 +59,11 @@ expedited_apart x e = refl
 
 -- ---- record places
 
-place_at_lem : (p : Position) (w : Walked) (bs : List ℕ) → walk p bs ≡ w → is_position p ≡ true → AllBytes bs → is_position (place_or p w) ≡ true
-place_at_lem p (At q) bs e v b = walk_position p q bs v b e
-place_at_lem p BadLength bs e v b = v
+place_at_lem :
+    (p : Position) (w : Result Position BadLength) (bs : List ℕ)
+    → walk p bs ≡ w → is_position p ≡ true → AllBytes bs → is_position (place_or p w) ≡ true
+place_at_lem p (Ok q) bs e v b = walk_position p q bs v b e
+place_at_lem p (Err bad) bs e v b = v
 
 -- the place walked to over bytes is one
 place_good_lem : (p : Position) (bs : List ℕ) → is_position p ≡ true → AllBytes bs → is_position (place_or p (walk p bs)) ≡ true

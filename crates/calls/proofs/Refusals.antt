@@ -10,7 +10,7 @@ use Rattle.calls.proofs.CallWords.{confirmed_refusal, confirmed_decision, confir
 use Rattle.calls.proofs.CallWords.{send_pacing_response_decision, send_pacing_response, bytes_read, some_held, receive_refusal, mark_read, receive_decision}
 use Rattle.calls.proofs.CallWords.{receive, rule_named, ru_received, header_received, receive_unit_refusal, receive_unit_decision, receive_unit, record_good}
 use Rattle.calls.proofs.CallWords.{bytes_kept}
-use Rattle.calls.proofs.CallWords.{bytes_spilled, send_refusal, send_decision, send_data, End, ReadDone, Called, Station, Verb, called, taken, taken_expedited, refusal_in}
+use Rattle.calls.proofs.CallWords.{bytes_spilled, send_refusal, send_decision, send_data, End, Done, ReadAnswer, Called, Station, Verb, called, taken, taken_expedited, refusal_in}
 use Rattle.calls.proofs.CallWords.{rule_taken, request_refusal, request_decision, request_to_send, receive_expedited_refusal, receive_expedited_decision, receive_expedited}
 use Rattle.end.specs.ReceiveExpedited.{receive_expedited_questions}
 use Rattle.answers.specs.declared.Answer.{Answer}
@@ -68,8 +68,8 @@ number_is s (Verb.close f b) =
     decided_number _ s.end _ (both_accepted (nothing_goes s.end x b) (accept s.end nothing) (last_made s.end x b s.send) refl refl)
 number_is s (Verb.receive buffer) =
     let q : ℕ = receive_refusal s.end s.inbox (length buffer) in
-    cases (λ (d : ReadDone). d.answer.answer.refusal ≡ q) (eqb q 0)
-    (λ y. cases (λ (d : ReadDone). d.answer.answer.refusal ≡ q) (some_held s.end) (λ h. sym (eqb-true q 0 y)) (λ h. sym (eqb-true q 0 y)))
+    cases (λ (d : Done ReadAnswer). d.answer.answer.refusal ≡ q) (eqb q 0)
+    (λ y. cases (λ (d : Done ReadAnswer). d.answer.answer.refusal ≡ q) (some_held s.end) (λ h. sym (eqb-true q 0 y)) (λ h. sym (eqb-true q 0 y)))
     (λ n. refl)
 
 pub take_number_is : (s : Station) (u : List ℕ) → refusal_in (taken s u).answer ≡ first_no (receive_unit_questions s u)

@@ -86,7 +86,7 @@ pub record Called : Type 0 where
   pub expedited : List (List ℕ)
 
 -- a call that is lent nothing makes no unit
-abbrev pub hands : Station → Done → Called
+abbrev pub hands : Station → Done Answer → Called
 hands s d =
     record {
       end = record { end = d.end; send = s.send; unit = s.unit; inbox = s.inbox };

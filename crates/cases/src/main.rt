@@ -2,106 +2,93 @@
 // no case has is bad.
 #![tactic(auto)]
 
-use cells::copy;
-use script::text::line_end;
-use std::io;
-
-// The length of a line that is longer than any name: the name of no case.
-const TOO_LONG: usize = usize::MAX;
-
-// Bytes of a line join those that came before, as far as there is room. Answers how many bytes of the line there are.
-fn join(name: &mut [u8], length: usize, part: &[u8]) -> usize {
-    let room = name.len();
-    if room < length {
-        return TOO_LONG;
-    }
-    if room - length < part.len() {
-        return TOO_LONG;
-    }
-    copy(part, &mut name[length..]);
-    length + part.len()
-}
+use std::io::{self, Read};
 
 // No two cases have one name.
 fn right(name: &[u8]) -> bool {
     conversation_cases::run(name) | refusal_cases::run(name) | direct_cases::run(name)
 }
 
-fn is_ok(name: &[u8], length: usize) -> bool {
-    if name.len() < length {
-        return false;
-    }
-    right(&name[0..length])
+// The longest line that is kept: any name is shorter.
+const LONGEST: usize = 40;
+
+// The line that is read, as far as it has come; it has no length where it is too long to be kept.
+#[derive(Drop)]
+struct Line {
+    bytes: [u8; LONGEST],
+    length: Option<usize>,
 }
 
-// The line has ended: its name is already printed, and its verdict follows.
-fn verdict(rt: &impl Print, name: &[u8], length: usize) -> io::Result<()> {
-    if is_ok(name, length) {
-        rt.write_all(b" ok\n")
-    } else {
-        rt.write_all(b" bad\n")
+impl Line {
+    fn empty() -> Line {
+        Line {
+            bytes: [0; LONGEST],
+            length: Some(0),
+        }
+    }
+
+    fn is_empty(&self) -> bool {
+        self.length == Some(0)
+    }
+
+    // These bytes stand behind those that came before, if there is room.
+    fn join(&mut self, part: &[u8]) {
+        let Some(length) = self.length else {
+            return;
+        };
+        self.length = None;
+        let Some(room) = self.bytes.get_mut(length..) else {
+            return;
+        };
+        let Some(cells) = room.get_mut(..part.len()) else {
+            return;
+        };
+        cells.copy_from_slice(part);
+        self.length = Some(length + part.len());
+    }
+
+    fn is_right(&self) -> bool {
+        self.length
+            .and_then(|length| self.bytes.get(..length))
+            .is_some_and(right)
+    }
+
+    // The line has ended: its name is already printed, and its verdict follows.
+    fn end(&mut self, rt: &impl Print) -> io::Result<()> {
+        let verdict: &[u8] = if self.is_right() { b" ok\n" } else { b" bad\n" };
+        self.length = Some(0);
+        rt.write_all(verdict)
     }
 }
 
 // The lines of what was read, and of the last one what there is of it. Bytes are printed as they come, so that a line of any
 // length is answered whole.
-fn lines(rt: &impl Print, text: &[u8], name: &mut [u8], before: usize) -> io::Result<usize> {
-    let mut length = before;
-    let mut at = 0;
-    while at < text.len() {
-        let end = line_end(text, at);
-        rt.write_all(&text[at..end])?;
-        length = join(name, length, &text[at..end]);
-        if end < text.len() {
-            verdict(rt, name, length)?;
-            length = 0;
+fn lines(rt: &impl Print, text: &[u8], line: &mut Line) -> io::Result<()> {
+    for part in text.split_inclusive(|byte| *byte == b'\n') {
+        let bytes = part.strip_suffix(b"\n").unwrap_or(part);
+        rt.write_all(bytes)?;
+        line.join(bytes);
+        if bytes.len() < part.len() {
+            line.end(rt)?;
         }
-        at = end + 1;
     }
-    Ok(length)
-}
-
-// Reads once, and answers whether there may be more; `length` is then that of the line begun.
-#[derive(Clone, Copy)]
-struct Read {
-    more: bool,
-    length: usize,
-}
-
-fn read_some<R: io::Read>(
-    rt: &impl Print,
-    input: &mut R,
-    name: &mut [u8],
-    length: usize,
-) -> io::Result<Read> {
-    let mut text = [0u8; 4096];
-    let n = input.read(&mut text)?;
-    if n == 0 {
-        return Ok(Read {
-            more: false,
-            length,
-        });
-    }
-    Ok(Read {
-        more: true,
-        length: lines(rt, &text[..n], name, length)?,
-    })
+    Ok(())
 }
 
 // A proved loop has to end, and nothing says that an input does: the turns are counted up to a number that no run reaches.
 fn main(rt: HostRuntime) -> io::Result<()> {
     let mut input = rt.reader();
-    let mut name = [0u8; 40];
-    let mut length = 0;
+    let mut line = Line::empty();
+    let mut text = [0u8; 4096];
     for _ in 0..u64::MAX {
-        let read = read_some(&rt, &mut input, &mut name, length)?;
-        length = read.length;
-        if !read.more {
+        let n = input.read(&mut text)?;
+        if n == 0 {
             break;
         }
+        lines(&rt, &text[..n], &mut line)?;
     }
-    if 0 < length {
-        verdict(&rt, &name, length)?;
+    if !line.is_empty() {
+        line.end(&rt)?;
     }
     Ok(())
 }

@@ -1,12 +1,13 @@
 -- `same_bytes` decides whether two lists of bytes are equal.
 -- Assumes nothing.
-use mathlib.Core.Path.{◌≡◌, refl, sym}
-use mathlib.Core.Bool.{Bool, true, false}
+use mathlib.Core.Path.{◌≡◌, refl}
+use mathlib.Core.Bool.{true}
 use mathlib.Core.List.{List, [], ◌∷◌}
 use Prim.Native.Nat.{ℕ}
 use native.Mathlib.Omega.{arith}
 use borrow.Author.Tests.{eqb-true, eq-eqb}
 use lib.Dec.{eqb}
+use lib.Pointwise.{pointwise}
 use Rattle.cells.specs.Equal.{same_bytes}
 use Rattle.bools.proofs.Tests.{both}
 
@@ -29,12 +30,10 @@ same_self (x ∷ xs) = rw (eq-eqb x x refl) (same_self xs)
 pub equal_same : (xs ys : List ℕ) → xs ≡ ys → same_bytes xs ys ≡ true
 equal_same xs ys e = rw e (same_self ys)
 
-no_other : (t : Bool) → (t ≡ true → ⊥) → false ≡ t
-no_other true f = absurd (f refl)
-no_other false f = refl
-
--- a Bool that is true exactly where the lists are equal
-pub same_is : (r : Bool) (xs ys : List ℕ) → (r ≡ true → xs ≡ ys) → (xs ≡ ys → r ≡ true) → r ≡ same_bytes xs ys
-same_is true xs ys f g = sym (equal_same xs ys (f refl))
-same_is false xs ys f g =
-    no_other (same_bytes xs ys) (λ t. let e : false ≡ true = g (same_equal xs ys t) in let z : ◌≡◌ {A = ℕ} 0 1 = cc in omega arith)
+-- `==` of slices compares pair by pair
+pub pair_by_pair : (xs ys : List ℕ) → pointwise eqb xs ys ≡ same_bytes xs ys
+unfolding same_bytes
+pair_by_pair [] [] = refl
+pair_by_pair [] (y ∷ ys) = refl
+pair_by_pair (x ∷ xs) [] = refl
+pair_by_pair (x ∷ xs) (y ∷ ys) = rw (pair_by_pair xs ys) refl

@@ -2,7 +2,7 @@
 // front of their own. Two buffers compared, and a byte looked for in one.
 #![tactic(auto)]
 
-ghost use Rattle.std.specs.Prelude.{◌≡◌, ◌+◌, ◌≤◌, ◌++◌, length, take, drop, slice_range};
+ghost use Rattle.std.specs.Prelude.{◌≡◌, ◌+◌, ◌≤◌, ◌==◌, ◌++◌, length, take, drop, slice_range, position};
 ghost use Rattle.cells.specs.Cells.{front};
 ghost use Rattle.cells.specs.Equal.{same_bytes};
 ghost use Rattle.cells.specs.Found.{index_of};
@@ -23,12 +23,8 @@ pub fn copy(from: &[u8], to: &mut [u8]) -> usize
 pub fn move_to_front(a: &mut [u8], from: usize)
     ensures { a.new ≡ front (drop from a.old) a.old }
 {
-    let mut i = 0;
-    let mut j = from;
-    while j < a.len() {
-        a[i] = a[j];
-        i += 1;
-        j += 1;
+    if from < a.len() {
+        a.copy_within(from.., 0);
     }
 }
 
@@ -36,7 +32,14 @@ pub fn move_to_front(a: &mut [u8], from: usize)
 pub fn same(a: &[u8], b: &[u8]) -> bool
     ensures { result ≡ same_bytes a.now b.now }
 {
-    check::same(a, b)
+    a == b
+}
+
+// The place of the first such byte, where there is one.
+fn first_of(text: &[u8], byte: u8) -> Option<usize>
+    ensures { result ≡ position (λ b. b == byte) text.now }
+{
+    text.iter().position(|b| *b == byte)
 }
 
 // The place of the first such byte from `from` on and before `to`; `to` where there is none.
@@ -46,10 +49,6 @@ pub fn find(text: &[u8], from: usize, to: usize, byte: u8) -> usize
     ensures place { result ≡ from + index_of byte (slice_range text.now from to) }
     ensures within { result ≤ to }
 {
-    for i in from..to {
-        if text[i] == byte {
-            return i;
-        }
-    }
-    to
+    let part = &text[from..to];
+    from + first_of(part, byte).unwrap_or(part.len())
 }

@@ -4,7 +4,6 @@ use Prim.Native.Nat.{ℕ}
 use mathlib.Core.Path.{◌≡◌, refl, sym, ap, ◌∙◌, subst}
 use mathlib.Core.Bool.{Bool, true, false, not, cond, ◌||◌}
 use mathlib.Core.List.{List, [], ◌∷◌, ◌++◌, append-nil}
-use native.Mathlib.Omega.{arith}
 use lib.Dec.{eqb}
 use lib.ListN.{drop, get_or}
 use Rattle.bools.proofs.Cases.{split}
@@ -74,7 +73,7 @@ still_announced (u ∷ us) e = by (on 0x80 (get_or u 2 0)) refl e (λ f. still_a
         subst (λ (x : Bool). announced x us ≡ true)
         (sym (ap (λ (b : Bool). cond (not b) false (cond (is_negative_confirmation u) true true)) o ∙ either_way (is_negative_confirmation u)))
         (h f)
-    by false o f h = absurd (let z : ◌≡◌ {A = ℕ} 0 1 = cc in omega arith)
+    by false o f h = cc
 
 -- ---- an error header, by its bytes
 

@@ -4,7 +4,6 @@ use Prim.Native.Nat.{ℕ}
 use mathlib.Core.Path.{◌≡◌, refl}
 use mathlib.Core.Bool.{Bool, true, false, ◌&&◌}
 use mathlib.Core.List.{List, [], ◌∷◌}
-use native.Mathlib.Omega.{arith}
 use Rattle.bools.proofs.Tests.{both}
 use Rattle.logical_record.specs.RecordClaims.{EveryPlaceCanEnd}
 use Rattle.logical_record.specs.declared.Position.TheVariants.{Remaining}
@@ -32,7 +31,7 @@ waits [] = false
 waits (u ∷ us) = true
 
 waits_fed : (us : List (List ℕ)) → waits us ≡ true → Some us
-waits_fed [] e = absurd (let z : ◌≡◌ {A = ℕ} 0 1 = cc in omega arith)
+waits_fed [] e = cc
 waits_fed (u ∷ us) e = tt
 
 -- every take of the list finds a unit

@@ -3,7 +3,7 @@
 use mathlib.Core.Path.{refl}
 use Rattle.joined.specs.Claim.{Claim, TheRecords}
 use Rattle.joined.specs.Denials.{TheDenials}
-use Rattle.calls.specs.Calls.{Verb, confirm, flush}
+use Rattle.calls.specs.Calls.{Verb, confirm}
 use Rattle.calls.specs.ErrorLaws.{Denying}
 use Rattle.worked_examples.specs.Computed.{computed}
 use Rattle.claim_in_use.specs.Conversation.{speaker, bidder, lent, calls, reply3}

@@ -12,6 +12,7 @@ use Rattle.session.specs.Opening.{opened}
 use Rattle.session.specs.OpeningQuestions.{buffers_good, opening_refusal}
 use Rattle.session.specs.declared.Session.{Session}
 use Rattle.end.specs.declared.Done.{Done}
+use Rattle.answers.specs.declared.Answer.{Answer}
 use Rattle.joined.specs.Ends.{Buffers, OpeningAccepted, JoinedOpenings}
 use Rattle.claim_in_use.specs.OtherWords.{Numbers, speaker, bidder, WindowIs, MaximumIs, Opens, InRange}
 
@@ -36,7 +37,7 @@ lent s b o =
 passed : (a b c d : Bool) → a ≡ true → b ≡ true → c ≡ true → d ≡ true → ◌≡◌ {A = ℕ} (cond a (cond b (cond c (cond d 0 4) 3) 2) 1) 0
 passed a b c d e f g h = rw (e, f, g, h)
 
-accepted : (q : ℕ) (x y : Done) → q ≡ 0 → x.answer.refusal ≡ 0 → (cond (eqb q 0) x y).answer.refusal ≡ 0
+accepted : (q : ℕ) (x y : Done Answer) → q ≡ 0 → x.answer.refusal ≡ 0 → (cond (eqb q 0) x y).answer.refusal ≡ 0
 accepted q x y e h = subst (λ (n : ℕ). (cond (eqb n 0) x y).answer.refusal ≡ 0) (sym e) h
 
 pub accepts : (s : Session) (b : Buffers) → Opens s b → OpeningAccepted s b

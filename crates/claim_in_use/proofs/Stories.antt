@@ -159,7 +159,7 @@ not_counted true n e = absurd (omega (arith, e))
 not_counted false n e = (refl, omega (arith, e))
 
 outside : (r : Reply) → is_breach (number_of r) ≡ false → NoBreach r
-outside r e l m = let z : true ≡ false = sym (rw (le-leb 20 (number_of r) l, le-leb (number_of r) 29 m)) ∙ e in absurd (let y : ◌≡◌ {A = ℕ} 0 1 = cc in omega arith)
+outside r e l m = let z : true ≡ false = sym (rw (le-leb 20 (number_of r) l, le-leb (number_of r) 29 m)) ∙ e in cc
 
 pub no_breach_in : (es : Log) → breaches es ≡ 0 → All NoBreach (each take_answer (story es))
 unfolding breaches
@@ -175,7 +175,7 @@ abbrev pub Not : ℕ → Reply → Type 0
 Not n r = number_of r ≡ n → ⊥
 
 other_than : (n : ℕ) (r : Reply) → eqb (number_of r) n ≡ false → Not n r
-other_than n r e h = let z : true ≡ false = sym (eq-eqb (number_of r) n h) ∙ e in absurd (let y : ◌≡◌ {A = ℕ} 0 1 = cc in omega arith)
+other_than n r e h = let z : true ≡ false = sym (eq-eqb (number_of r) n h) ∙ e in cc
 
 pub never_in : (n : ℕ) (es : Log) → refused_with n es ≡ 0 → All (Not n) (each answer (story es))
 unfolding refused_with

@@ -2,12 +2,11 @@
 -- meanwhile, as a signal does, which is told and answered; a table of two parts cut over three units and by a read, no confirmation of it and the error header
 -- that says so, a signal that is on the line, and a way back that is under way. What the claim says of it is written out in bytes and numbers.
 -- Assumes nothing.
-use Rattle.std.specs.Prelude.{ℕ, ◌+◌, ◌*◌, ◌≡◌, true, false, List, [], ◌∷◌, ◌++◌}
+use Rattle.std.specs.Prelude.{ℕ, ◌+◌, ◌*◌, ◌≡◌, true, false, List, [], ◌∷◌, ◌++◌, Ok}
 use Rattle.logical_record.specs.Positions.{start, is_whole}
 use Rattle.logical_record.specs.Walk.{walk}
 use Rattle.logical_record.specs.RecordClaims.{CanEnd}
 use Rattle.logical_record.specs.declared.Position.TheVariants.{Between, Remaining}
-use Rattle.logical_record.specs.declared.Walked.TheVariants.{At}
 use Rattle.control.specs.StateTests.{is_send, holds_send}
 use Rattle.control.specs.declared.State.TheVariants.{Send, Receive}
 use Rattle.control.specs.declared.Deferred.TheVariants as deferral
@@ -257,13 +256,13 @@ pub record Said : Type 0 where
   pub tables_to_come_back : List (List (List ℕ))
   pub tables_back : (reply1 ∷ reply2 ∷ []) ∷ (reply3 ∷ []) ∷ [] ≡ [] ++ tables_to_come_back
   -- the places: the fourth record given is unfinished; the second is begun in the inbox, behind a part that says that another follows
-  pub given_two : walk start (reply1 ++ (reply2 ++ (reply3 ++ reply4))) ≡ At (Remaining true 11000)
-  pub read_one : walk start reply1 ≡ At (Between true)
-  pub inbox_one : walk (Between true) (0x00 ∷ 0x05 ∷ []) ≡ At (Remaining false 3)
+  pub given_two : walk start (reply1 ++ (reply2 ++ (reply3 ++ reply4))) ≡ Ok (Remaining true 11000)
+  pub read_one : walk start reply1 ≡ Ok (Between true)
+  pub inbox_one : walk (Between true) (0x00 ∷ 0x05 ∷ []) ≡ Ok (Remaining false 3)
   pub whole_one : is_send Receive ≡ false → is_whole (Between false) ≡ true
-  pub given_one : walk start (part1 ++ part2) ≡ At (Between false)
-  pub read_two : walk start (part1 ++ part2) ≡ At (Between false)
-  pub inbox_two : walk (Between false) [] ≡ At (Between false)
+  pub given_one : walk start (part1 ++ part2) ≡ Ok (Between false)
+  pub read_two : walk start (part1 ++ part2) ≡ Ok (Between false)
+  pub inbox_two : walk (Between false) [] ≡ Ok (Between false)
   pub whole_two : is_send Send ≡ false → is_whole (Remaining true 11000) ≡ true
   -- some bytes finish that fourth record and its table
   pub ends_two : CanEnd (Remaining true 11000)

@@ -5,8 +5,7 @@ use Rattle.std.specs.Prelude.{ℕ, ◌≡◌, true, false, not, ◌&&◌, List, 
 use Rattle.logical_record.specs.Positions.{is_whole}
 use Rattle.logical_record.specs.declared.Position.TheVariants.{Between}
 use Rattle.control.specs.StateTests.{is_send, is_receive, is_nothing, holds_send}
-use Rattle.control.specs.declared.State.TheVariants.{Send, Receive, ConfirmOwed, ConfirmAwaited}
-use Rattle.control.specs.declared.WhatReceived.TheVariants as mark
+use Rattle.control.specs.declared.State.TheVariants.{Send, ConfirmOwed, ConfirmAwaited}
 use Rattle.joined.specs.Joined.{At, run}
 use Rattle.joined.specs.Ends.{Lane, normal, same_lane, acts, takes}
 use Rattle.joined.specs.Denials.{units_made, units_taken, announced}

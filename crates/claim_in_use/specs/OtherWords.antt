@@ -1,13 +1,12 @@
 -- The claim about two joined ends once more, in other words: from the numbers of two sessions, by what the calls answered, oldest first. It cites of crate
 -- joined only the ends and how a list of calls runs on them; so that a claim that is thinned, or that asks more of the openings, no longer proves it.
 -- Assumes nothing.
-use Rattle.std.specs.Prelude.{ℕ, ◌+◌, ◌-◌, ◌*◌, ◌≤◌, ◌<◌, ◌≡◌, true, false, not, cond, ◌&&◌, List, [], ◌∷◌, ◌++◌, eqb, leb, length, take, drop, get_or}
+use Rattle.std.specs.Prelude.{ℕ, ◌+◌, ◌-◌, ◌*◌, ◌≤◌, ◌<◌, ◌≡◌, true, false, not, cond, ◌&&◌, List, [], ◌∷◌, ◌++◌, eqb, leb, length, take, drop, get_or, Ok}
 use Rattle.header.specs.Weights.{on}
 use Rattle.logical_record.specs.Positions.{start, is_whole}
 use Rattle.logical_record.specs.Walk.{walk}
 use Rattle.logical_record.specs.Records.{whole_records, ended, last_bit, whole_tables}
 use Rattle.logical_record.specs.RecordClaims.{CanEnd}
-use Rattle.logical_record.specs.declared.Walked.TheVariants as walked
 use Rattle.pacing.specs.declared.Window.{Window}
 use Rattle.control.specs.declared.State.{State}
 use Rattle.control.specs.declared.State.TheVariants.{Send, Receive, DeferTurn, DeferEnd}
@@ -180,15 +179,15 @@ pub record AtOneEnd (w : ℕ) (x : OneEnd) : Type 0 where
       length (each request (each made (story x.log))) + credit_left x.end.end.sending.window
       ≡ w * (1 + length (each pacing_answer (story x.log)))
   -- what was given and not finished is what the end keeps; there is none outside Send, and none where a turn or an end is prepared
-  pub unfinished : walk start (given x) ≡ walked.At x.end.end.sending.given
+  pub unfinished : walk start (given x) ≡ Ok x.end.end.sending.given
   pub finished : (x.end.end.control.state ≡ Send → ⊥) → is_whole x.end.end.sending.given ≡ true
   -- and none where an error header is due
   pub finished_first : x.end.end.control.error ≡ true → is_whole x.end.end.sending.given ≡ true
   -- whatever was given, some bytes finish it
   pub can_finish : CanEnd x.end.end.sending.given
   -- what was read ends at the place read, and what the inbox holds goes on from there to the place taken
-  pub read_so_far : walk start (has_read x) ≡ walked.At x.end.end.receiving.read
-  pub in_inbox : walk x.end.end.receiving.read (take x.end.end.receiving.held x.end.inbox) ≡ walked.At x.end.end.receiving.taken
+  pub read_so_far : walk start (has_read x) ≡ Ok x.end.end.receiving.read
+  pub in_inbox : walk x.end.end.receiving.read (take x.end.end.receiving.held x.end.inbox) ≡ Ok x.end.end.receiving.taken
   -- no read was answered with 8
   pub no_bad_record : All (λ r. number_of r ≡ 8 → ⊥) (each read_answer (story x.log))
   -- a call said complete exactly if it copied bytes and the bytes read until then end a record; and fewer of its bytes would not have ended one

@@ -6,61 +6,25 @@ use crate::{Control, State, WhatReceived};
 use header::Follows;
 
 impl Control {
-    pub fn with_state(self, state: State) -> Control
+    pub fn with_state(mut self, state: State) -> Control
         ensures { result ≡ set_state state self }
     {
-        let role = self.role;
-        let follows = self.follows;
-        let mark = self.mark;
-        Control {
-            role,
-            state,
-            follows,
-            mark,
-            due: self.due,
-            error: self.error,
-            bid: self.bid,
-            outchain: self.outchain,
-            inchain: self.inchain,
-        }
+        self.state = state;
+        self
     }
 
-    pub fn with_follows(self, follows: Follows) -> Control
+    pub fn with_follows(mut self, follows: Follows) -> Control
         ensures { result ≡ set_follows follows self }
     {
-        let role = self.role;
-        let state = self.state;
-        let mark = self.mark;
-        Control {
-            role,
-            state,
-            follows,
-            mark,
-            due: self.due,
-            error: self.error,
-            bid: self.bid,
-            outchain: self.outchain,
-            inchain: self.inchain,
-        }
+        self.follows = follows;
+        self
     }
 
-    pub fn with_mark(self, mark: WhatReceived) -> Control
+    pub fn with_mark(mut self, mark: WhatReceived) -> Control
         ensures { result ≡ set_mark mark self }
     {
-        let role = self.role;
-        let state = self.state;
-        let follows = self.follows;
-        Control {
-            role,
-            state,
-            follows,
-            mark,
-            due: self.due,
-            error: self.error,
-            bid: self.bid,
-            outchain: self.outchain,
-            inchain: self.inchain,
-        }
+        self.mark = mark;
+        self
     }
 
     pub fn with_due(mut self, due: bool) -> Control

@@ -3,11 +3,11 @@
 #![tactic(auto)]
 
 mod field_changed;
-pub mod questions;
-pub mod state_tests;
+mod questions;
+mod state_tests;
 
 // Document 01's role.
-#[derive(Clone, Copy)]
+#[derive(Clone, Copy, PartialEq, Eq)]
 pub enum Role {
     FirstSpeaker,
     Bidder,
@@ -15,7 +15,7 @@ pub enum Role {
 
 // Document 01's state; ConfirmOwed is its Owes, ConfirmAwaited its Waits. DeferTurn and DeferEnd are document 02's Defer: a turn
 // or an end is prepared and not yet carried out (document 004: Defer Receive and Defer Deallocate).
-#[derive(Clone, Copy)]
+#[derive(Clone, Copy, PartialEq, Eq)]
 pub enum State {
     Reset,
     Send,
@@ -27,7 +27,7 @@ pub enum State {
 }
 
 // What is prepared in Defer.
-#[derive(Clone, Copy)]
+#[derive(Clone, Copy, PartialEq, Eq)]
 pub enum Deferred {
     Turn,
     End,
@@ -35,7 +35,7 @@ pub enum Deferred {
 
 // Document 01's mark: what the last unit taken says after its bytes, kept until a read answers it. Error is document 02's: the
 // partner does not confirm, and this is the cause.
-#[derive(Clone, Copy)]
+#[derive(Clone, Copy, PartialEq, Eq)]
 pub enum WhatReceived {
     Nothing,
     Turn,

@@ -21,6 +21,20 @@ pub struct Joined {
     pub expedited: Pair,
 }
 
+// The cells of the two lines of one flow, each named for the end that it leads to.
+#[derive(Drop)]
+pub struct FlowCells<'a> {
+    pub to_first: &'a mut [u8],
+    pub to_second: &'a mut [u8],
+}
+
+// The cells of the four lines.
+#[derive(Drop)]
+pub struct Cells<'a> {
+    pub normal: FlowCells<'a>,
+    pub expedited: FlowCells<'a>,
+}
+
 fn lent(end: End) -> Side {
     Side {
         send: [0u8; 1024],
@@ -48,20 +62,17 @@ pub fn join(first: End, second: End) -> Joined {
 
 // The two lines as they are seen from the other end.
 fn turned(lines: Pair) -> Pair {
-    let from = lines.to;
-    let to = lines.from;
-    Pair { from, to }
+    Pair {
+        from: lines.to,
+        to: lines.from,
+    }
 }
 
 pub fn swapped(joined: Joined) -> Joined {
-    let near = joined.away;
-    let away = joined.near;
-    let normal = turned(joined.normal);
-    let expedited = turned(joined.expedited);
     Joined {
-        near,
-        away,
-        normal,
-        expedited,
+        near: joined.away,
+        away: joined.near,
+        normal: turned(joined.normal),
+        expedited: turned(joined.expedited),
     }
 }

@@ -40,7 +40,7 @@ impl Handing for Met<'_> {
 
 // The text at the front of `out`.
 pub fn hand_front<H: Handing>(answers: &mut H, out: &[u8], length: usize) {
-    if length <= out.len() {
-        answers.hand_out(&out[..length]);
+    if let Some(text) = out.get(..length) {
+        answers.hand_out(text);
     }
 }

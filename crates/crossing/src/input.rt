@@ -5,7 +5,8 @@ ghost use Rattle.std.specs.Io.KnownBytes.{Consumes, IsAtEnd};
 use std::io;
 
 // Reads to the end of the input, or until the buffer is full, and answers how many bytes stand at its front: the next ones of
-// the input, and where there is room for more its last.
+// the input, and where there is room for more its last. A loop over `read`: `read_exact` and `read_to_end` do not say how far they
+// came, which `count` and `bytes` do.
 pub fn read_full<R: io::Read>(reader: &mut R, buffer: &mut [u8]) -> io::Result<usize>
     ensures count { IfOk result (λ n. n ≤ length buffer.new) }
     ensures bytes { IfOk result (λ n. Consumes (R.remaining reader.old) (R.remaining reader.new) (take n buffer.new)) }

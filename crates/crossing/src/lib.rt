@@ -4,6 +4,7 @@
 mod both_ends;
 mod handing;
 pub mod input;
+mod lines;
 pub mod named;
 mod near;
 mod opened_ends;

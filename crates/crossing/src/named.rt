@@ -1,27 +1,20 @@
 // A named case as one text: its name on the first line, then its script, a line `=`, and the answers that the script must have.
 use crate::run::answers_as;
-use cells::find;
-use check::same;
 
 // What follows the first line, run. No script has the byte `=`.
 fn script_goes(case: &[u8]) -> bool {
-    let n = case.len();
-    let bar = find(case, 0, n, b'=');
-    if n - bar < 2 {
+    let Some(bar) = case.iter().position(|byte| *byte == b'=') else {
         return false;
-    }
-    answers_as(&case[0..bar], &case[bar + 2..])
+    };
+    case[bar..]
+        .get(2..)
+        .is_some_and(|expected| answers_as(&case[..bar], expected))
 }
 
 // Whether the case has that name and its script is answered as it says.
 pub fn goes(name: &[u8], case: &[u8]) -> bool {
-    let n = case.len();
-    let end = find(case, 0, n, b'\n');
-    if n <= end {
+    let Some(end) = case.iter().position(|byte| *byte == b'\n') else {
         return false;
-    }
-    if same(name, &case[0..end]) {
-        return script_goes(&case[end + 1..]);
-    }
-    false
+    };
+    name == &case[..end] && script_goes(&case[end + 1..])
 }

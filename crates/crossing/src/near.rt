@@ -1,39 +1,22 @@
 // A step at the near end, and its answer handed out.
-ghost use Rattle.std.specs.Prelude.{◌≤◌};
-
-use crate::both_ends::{Joined, Side};
+use crate::both_ends::{Cells, FlowCells, Joined, Side};
 use crate::handing::{Handing, hand_front};
 use crate::step_text::step_text;
-use bench::{Pair, Stepped, request_flow, step};
-use end::End;
-use script::{Flow, Request};
+use bench::{NotMade, Pair, Stepped, request_flow, step};
+use script::{Asked, Flow, Request};
 
 // What a step leaves: what it hands back, and each buffer that was lent to it.
 #[derive(Clone, Copy)]
 struct Made {
-    stepped: Stepped,
+    stepped: Result<Stepped, NotMade>,
     send: [u8; 1024],
     inbox: [u8; 65535],
     unit: [u8; 1029],
     buffer: [u8; 2048],
 }
 
-// A line gives, or reads, at most 2,048 bytes.
-pub fn cells(count: usize) -> usize
-    ensures { result ≤ 2048 }
-{
-    if count < 2048 { count } else { 2048 }
-}
-
-// The inbox that the end's record asks for.
-fn room(end: End) -> usize
-    ensures { result ≤ 65535 }
-{
-    let receiving = end.receiving;
-    receiving.inbox as usize
-}
-
-// The step on one side. Of a read the buffer has as many cells as bytes are given.
+// The step on one side, with as much inbox as the end's record says. A line gives, or reads, at most 2,048 bytes; of a read the
+// buffer has as many cells as bytes are given.
 fn make(
     side: Side,
     request: Request,
@@ -42,21 +25,20 @@ fn make(
     waiting: &mut [u8],
     far: &mut [u8],
 ) -> Made {
-    let end = side.end;
-    let room = room(end);
-    let count = cells(given.len());
+    let room = side.end.receiving.inbox as usize;
+    let count = given.len().min(2048);
     let mut send = side.send;
     let mut inbox = side.inbox;
     let mut unit = [0u8; 1029];
     let mut buffer = [0u8; 2048];
     let stepped = step(
-        end,
+        side.end,
         request,
         given,
         &mut send,
         &mut unit,
-        &mut inbox[0..room],
-        &mut buffer[0..count],
+        &mut inbox[..room],
+        &mut buffer[..count],
         lines,
         waiting,
         far,
@@ -70,76 +52,81 @@ fn make(
     }
 }
 
-fn hand_made<H: Handing>(answers: &mut H, second: bool, request: Request, made: Made) {
-    let stepped = made.stepped;
-    let unit = made.unit;
-    let buffer = made.buffer;
+fn hand_made<H: Handing>(answers: &mut H, asked: Asked, made: Made) {
     let mut out = [0u8; 8192];
-    let length = step_text(stepped, second, request, &unit, &buffer, &mut out);
+    let length = step_text(made.stepped, asked, &made.unit, &made.buffer, &mut out);
     hand_front(answers, &out, length);
 }
 
-// The near side after the step.
-fn near_side(made: Made) -> Side {
-    let stepped = made.stepped;
-    let told = stepped.told;
+// The near side after the step. A step that is not made leaves the end as it was.
+fn near_side(side: Side, made: Made) -> Side {
     let send = made.send;
     let inbox = made.inbox;
-    let end = told.end;
+    let end = match made.stepped {
+        Ok(stepped) => stepped.told.end,
+        Err(_) => side.end,
+    };
     Side { send, inbox, end }
 }
 
 // Both ends after the step, with the lines of its flow as it left them.
 fn left(joined: Joined, flow: Flow, made: Made) -> Joined {
-    let stepped = made.stepped;
-    let lines = stepped.lines;
+    let side = joined.near;
     let mut after = joined;
-    after.near = near_side(made);
-    match flow {
-        Flow::Normal => after.normal = lines,
-        Flow::Expedited => after.expedited = lines,
+    after.near = near_side(side, made);
+    if let Ok(stepped) = made.stepped {
+        match flow {
+            Flow::Normal => after.normal = stepped.lines,
+            Flow::Expedited => after.expedited = stepped.lines,
+        }
     }
     after
 }
 
 // The step at the near end, the first one or the second, with the lines of its flow.
-fn on_lines<H: Handing>(
-    answers: &mut H,
+fn on_lines(
     joined: Joined,
-    second: bool,
-    request: Request,
+    asked: Asked,
     given: &[u8],
-    flow: Flow,
-    waiting: &mut [u8],
-    far: &mut [u8],
-) -> Joined {
+    lines: Pair,
+    cells: &mut FlowCells<'_>,
+) -> Made {
     let side = joined.near;
-    let lines = match flow {
-        Flow::Normal => joined.normal,
-        Flow::Expedited => joined.expedited,
-    };
-    let made = make(side, request, given, lines, waiting, far);
-    hand_made(answers, second, request, made);
-    left(joined, flow, made)
+    let request = asked.request;
+    if asked.second {
+        make(
+            side,
+            request,
+            given,
+            lines,
+            &mut *cells.to_second,
+            &mut *cells.to_first,
+        )
+    } else {
+        make(
+            side,
+            request,
+            given,
+            lines,
+            &mut *cells.to_first,
+            &mut *cells.to_second,
+        )
+    }
 }
 
-// The step at the near end. The normal lines are in `waiting` and `far`, the expedited ones in `signals` and `beyond`.
+// The call asked for, at the near end.
 pub fn at_near<H: Handing>(
     answers: &mut H,
     joined: Joined,
-    second: bool,
-    request: Request,
+    asked: Asked,
     given: &[u8],
-    waiting: &mut [u8],
-    far: &mut [u8],
-    signals: &mut [u8],
-    beyond: &mut [u8],
+    cells: &mut Cells<'_>,
 ) -> Joined {
-    let flow = request_flow(request);
-    match flow {
-        Flow::Normal => on_lines(answers, joined, second, request, given, flow, waiting, far),
-        Flow::Expedited => on_lines(
-            answers, joined, second, request, given, flow, signals, beyond,
-        ),
-    }
+    let flow = request_flow(asked.request);
+    let made = match flow {
+        Flow::Normal => on_lines(joined, asked, given, joined.normal, &mut cells.normal),
+        Flow::Expedited => on_lines(joined, asked, given, joined.expedited, &mut cells.expedited),
+    };
+    hand_made(answers, asked, made);
+    left(joined, flow, made)
 }

@@ -1,274 +1,121 @@
 // A whole script: its answers go to standard output, or are held to those expected.
-use crate::both_ends::{Joined, join};
+use crate::both_ends::{Cells, FlowCells, Joined, join};
 use crate::handing::{Handing, Met, Printed, hand_front};
-use crate::opened_ends::{open_first, open_second};
-use crate::script_line::line_at;
+use crate::lines::{Lines, lines_of};
+use crate::opened_ends::open_both;
+use crate::script_line::{hand_bad, line_at};
 use end::{Done, End};
-use report::other_lines::{bad_line, end_line, open_line};
+use report::other_lines::{Counts, end_line, open_line};
 use script::line_forms::first_line;
-use script::text::{line_end, passed_over, text_length, too_long};
-use script::{FirstLine, Sizes};
+use script::text::{passed_over, too_long};
 use std::io;
 use unit_lines::Line;
-
-// Both ends within a script, and where the next line begins, with its number.
-#[derive(Clone, Copy)]
-struct Ran {
-    joined: Joined,
-    at: usize,
-    number: usize,
-}
-
-// The call that a line asks for, or none if it is passed over.
-fn run_text<H: Handing>(
-    answers: &mut H,
-    joined: Joined,
-    line: &[u8],
-    number: usize,
-    line1: &mut [u8],
-    line2: &mut [u8],
-    signals1: &mut [u8],
-    signals2: &mut [u8],
-) -> Joined {
-    let text = &line[0..text_length(line)];
-    if passed_over(text) {
-        return joined;
-    }
-    line_at(
-        answers, joined, text, number, line1, line2, signals1, signals2,
-    )
-}
-
-// One line.
-fn run_line<H: Handing>(
-    answers: &mut H,
-    before: Ran,
-    script: &[u8],
-    line1: &mut [u8],
-    line2: &mut [u8],
-    signals1: &mut [u8],
-    signals2: &mut [u8],
-) -> Ran {
-    let at = before.at;
-    let number = before.number;
-    let end = line_end(script, at);
-    if end < at {
-        return before;
-    }
-    let ends = before.joined;
-    let joined = run_text(
-        answers,
-        ends,
-        &script[at..end],
-        number,
-        line1,
-        line2,
-        signals1,
-        signals2,
-    );
-    Ran {
-        joined,
-        at: end.wrapping_add(1),
-        number: number.wrapping_add(1),
-    }
-}
-
-// The lines left. A line has at least its end, so there are no more of them than bytes.
-fn run_lines<H: Handing>(
-    answers: &mut H,
-    before: Ran,
-    script: &[u8],
-    line1: &mut [u8],
-    line2: &mut [u8],
-    signals1: &mut [u8],
-    signals2: &mut [u8],
-) -> Ran {
-    let mut ran = before;
-    let mut turns = script.len();
-    while 0 < turns {
-        if ran.at < script.len() {
-            ran = run_line(answers, ran, script, line1, line2, signals1, signals2);
-            turns = turns - 1;
-        } else {
-            turns = 0;
-        }
-    }
-    ran
-}
-
-// The lines after the first, with nothing on the four lines between the ends.
-fn run_opened<H: Handing>(answers: &mut H, before: Ran, script: &[u8]) -> Joined {
-    let mut line1 = [0u8; 527872];
-    let mut line2 = [0u8; 527872];
-    let mut signals1 = [0u8; 527872];
-    let mut signals2 = [0u8; 527872];
-    let ran = run_lines(
-        answers,
-        before,
-        script,
-        &mut line1,
-        &mut line2,
-        &mut signals1,
-        &mut signals2,
-    );
-    ran.joined
-}
 
 // How an end stands when the script has ended, with the two lines to it.
 fn hand_last<H: Handing>(answers: &mut H, second: bool, end: End, normal: Line, expedited: Line) {
     let mut out = [0u8; 8192];
-    let control = end.control;
-    let state = control.state;
-    let mark = control.mark;
-    let sending = end.sending;
-    let receiving = end.receiving;
-    let outgoing = sending.window;
-    let incoming = receiving.window;
+    let counts = Counts {
+        send: end.sending.held,
+        inbox: end.receiving.held,
+        credit: end.sending.window.credit(),
+        opened: end.receiving.window.credit(),
+        waiting: normal.units as usize,
+        expedited: expedited.units as usize,
+    };
     let length = end_line(
         second,
-        state,
-        mark,
-        sending.held,
-        receiving.held,
-        outgoing.credit(),
-        incoming.credit(),
-        normal.units as usize,
-        expedited.units as usize,
+        end.control.state,
+        end.control.mark,
+        counts,
         &mut out,
     );
     hand_front(answers, &out, length);
 }
 
 fn hand_both<H: Handing>(answers: &mut H, joined: Joined) {
-    let near = joined.near;
-    let away = joined.away;
-    let one = near.end;
-    let two = away.end;
     let normal = joined.normal;
     let expedited = joined.expedited;
-    hand_last(answers, false, one, normal.from, expedited.from);
-    hand_last(answers, true, two, normal.to, expedited.to);
+    hand_last(answers, false, joined.near.end, normal.from, expedited.from);
+    hand_last(answers, true, joined.away.end, normal.to, expedited.to);
 }
 
-// The lines after the one that opens the ends; then how the ends stand.
-fn run_accepted<H: Handing>(
+// The calls that the lines ask for, one after the other, with these cells for the lines between the ends. They are lent here one by
+// one: a struct of the arrays themselves ran out of stack.
+fn run_lines<'a, H: Handing>(
     answers: &mut H,
-    joined: Joined,
-    script: &[u8],
-    from: usize,
-    number: usize,
-) {
-    let begun = Ran {
-        joined,
-        at: from,
-        number,
+    opened: Joined,
+    lines: Lines<'_>,
+    normal1: &'a mut [u8],
+    normal2: &'a mut [u8],
+    expedited1: &'a mut [u8],
+    expedited2: &'a mut [u8],
+) -> Joined {
+    let mut cells = Cells {
+        normal: FlowCells {
+            to_first: normal1,
+            to_second: normal2,
+        },
+        expedited: FlowCells {
+            to_first: expedited1,
+            to_second: expedited2,
+        },
     };
-    let left = run_opened(answers, begun, script);
-    hand_both(answers, left);
+    let mut joined = opened;
+    for (number, text) in lines {
+        if !passed_over(text) {
+            joined = line_at(answers, joined, text, number, &mut cells);
+        }
+    }
+    joined
 }
 
-fn hand_open<H: Handing>(answers: &mut H, second: bool, refusal: u8) {
-    let mut out = [0u8; 64];
-    let n = open_line(second, refusal, &mut out);
-    hand_front(answers, &out, n);
-}
-
-fn accepted(done: Done) -> bool {
-    let answer = done.answer;
-    answer.refusal == 0
+// The lines after the one that opens the ends, with nothing on the four lines between them.
+fn run_opened<H: Handing>(answers: &mut H, opened: Joined, lines: Lines<'_>) -> Joined {
+    let mut normal1 = [0u8; 527872];
+    let mut normal2 = [0u8; 527872];
+    let mut expedited1 = [0u8; 527872];
+    let mut expedited2 = [0u8; 527872];
+    run_lines(
+        answers,
+        opened,
+        lines,
+        &mut normal1,
+        &mut normal2,
+        &mut expedited1,
+        &mut expedited2,
+    )
 }
 
 fn hand_opening<H: Handing>(answers: &mut H, second: bool, done: Done) {
-    let answer = done.answer;
-    hand_open(answers, second, answer.refusal);
-}
-
-// The line that opens the ends is good: they are opened, and the script goes on if both are accepted.
-fn run_sizes<H: Handing>(answers: &mut H, sizes: Sizes, script: &[u8], from: usize, number: usize) {
-    let one = open_first(sizes);
-    let two = open_second(sizes);
-    hand_opening(answers, false, one);
-    hand_opening(answers, true, two);
-    if accepted(one) & accepted(two) {
-        let near = one.end;
-        let away = two.end;
-        run_accepted(answers, join(near, away), script, from, number);
-    }
-}
-
-// Where a line begins, with its number.
-#[derive(Clone, Copy)]
-struct Place {
-    at: usize,
-    number: usize,
-}
-
-// Whether the line that begins there is there and passed over.
-fn passes(script: &[u8], at: usize) -> bool {
-    let end = line_end(script, at);
-    if end < at {
-        return false;
-    }
-    let line = &script[at..end];
-    passed_over(&line[0..text_length(line)]) & (at < script.len())
-}
-
-// The first line that is not passed over, or the end of the script. A line has at least its end.
-fn first_place(script: &[u8]) -> Place {
-    let mut place = Place { at: 0, number: 1 };
-    let mut turns = script.len();
-    while 0 < turns {
-        if passes(script, place.at) {
-            place = Place {
-                at: line_end(script, place.at).wrapping_add(1),
-                number: place.number.wrapping_add(1),
-            };
-            turns = turns - 1;
-        } else {
-            turns = 0;
-        }
-    }
-    place
-}
-
-fn hand_bad_first<H: Handing>(answers: &mut H, number: usize) {
     let mut out = [0u8; 64];
-    let n = bad_line(number, &mut out);
-    hand_front(answers, &out, n);
+    let length = open_line(second, done.answer.refusal, &mut out);
+    hand_front(answers, &out, length);
 }
 
-// The line that opens the ends, and those after it.
-fn run_from<H: Handing>(answers: &mut H, script: &[u8], place: Place) {
-    let at = place.at;
-    let number = place.number;
-    let end = line_end(script, at);
-    if end < at {
-        return hand_bad_first(answers, 1);
-    }
-    let line = &script[at..end];
-    let first = first_line(&line[0..text_length(line)]);
-    match first {
-        FirstLine::Ends(sizes) => run_sizes(
-            answers,
-            sizes,
-            script,
-            end.wrapping_add(1),
-            number.wrapping_add(1),
-        ),
-        FirstLine::Bad => hand_bad_first(answers, number),
-    }
+fn accepted(done: Done) -> bool {
+    done.answer.refusal == 0
 }
 
-// Of a script that is too long no line is read; one in which every line is passed over has a bad first line.
+// Of a script that is too long no line is read; one in which every line is passed over has a bad first line. The script goes on
+// behind the line that opens the ends if both are accepted; last comes how the ends stand.
 fn run<H: Handing>(answers: &mut H, script: &[u8]) {
     if too_long(script.len()) {
         return answers.hand_out(b"input too long\n");
     }
-    let place = first_place(script);
-    if script.len() <= place.at {
-        return hand_bad_first(answers, 1);
+    let mut lines = lines_of(script);
+    let Some((number, text)) = lines.find(|line| !passed_over(line.1)) else {
+        return hand_bad(answers, 1);
+    };
+    let Some(sizes) = first_line(text) else {
+        return hand_bad(answers, number);
+    };
+    let (one, two) = open_both(sizes);
+    hand_opening(answers, false, one);
+    hand_opening(answers, true, two);
+    if accepted(one) & accepted(two) {
+        let joined = run_opened(answers, join(one.end, two.end), lines);
+        hand_both(answers, joined);
     }
-    run_from(answers, script, place)
 }
 
 // Prints the answers of a script.

@@ -1,57 +1,31 @@
 // The text of a step.
-use bench::{Outcome, Stepped, Told};
+use bench::{NotMade, Stepped, Told};
 use report::answer_line::answer_line;
 use report::other_lines::{line_full, nothing_waiting};
-use script::Request;
+use script::Asked;
 
-fn answer_text(
-    second: bool,
-    request: Request,
-    told: Told,
-    unit: &[u8],
-    buffer: &[u8],
-    out: &mut [u8],
-) -> usize {
+// The unit that was made stands at the front of `unit`, what a read copied at the front of `buffer`.
+fn answer_text(asked: Asked, told: Told, unit: &[u8], buffer: &[u8], out: &mut [u8]) -> usize {
     let answer = told.answer;
-    let plain = answer.answer;
-    let mark = answer.mark;
-    let made = plain.unit;
-    let copied = answer.copied;
-    if unit.len() < made {
+    let Some(made) = unit.get(..answer.answer.unit) else {
         return 0;
-    }
-    if buffer.len() < copied {
+    };
+    let Some(copied) = buffer.get(..answer.copied) else {
         return 0;
-    }
-    answer_line(
-        second,
-        request,
-        plain.refusal,
-        plain.sense,
-        plain.rule,
-        &unit[0..made],
-        &buffer[0..copied],
-        answer.complete,
-        answer.more,
-        told.signalled,
-        mark,
-        out,
-    )
+    };
+    answer_line(asked, answer, told.signalled, made, copied, out)
 }
 
 pub fn step_text(
-    stepped: Stepped,
-    second: bool,
-    request: Request,
+    stepped: Result<Stepped, NotMade>,
+    asked: Asked,
     unit: &[u8],
     buffer: &[u8],
     out: &mut [u8],
 ) -> usize {
-    let told = stepped.told;
-    let outcome = stepped.outcome;
-    match outcome {
-        Outcome::Answered => answer_text(second, request, told, unit, buffer, out),
-        Outcome::NothingWaiting => nothing_waiting(second, request, out),
-        Outcome::Full => line_full(second, request, out),
+    match stepped {
+        Ok(made) => answer_text(asked, made.told, unit, buffer, out),
+        Err(NotMade::NothingWaiting) => nothing_waiting(asked, out),
+        Err(NotMade::Full) => line_full(asked, out),
     }
 }

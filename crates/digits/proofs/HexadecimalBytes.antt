@@ -3,12 +3,12 @@
 use mathlib.Core.Path.{◌≡◌, refl, sym, ◌∙◌}
 use mathlib.Core.Bool.{Bool, true, false, ◌&&◌}
 use mathlib.Core.List.{List}
-use mathlib.Core.Option.{none, some}
 use Prim.Native.Nat.{ℕ, ◌/◌, ◌≤◌}
 use native.Mathlib.Omega.{arith}
 use lib.Dec.{leb}
 use lib.ListN.{length}
 use borrow.Author.Tests.{leb-true}
+use Rattle.std.specs.Prelude.{Some, None}
 use Rattle.bools.proofs.Tests.{both}
 use Rattle.digits.proofs.Pairs.{pairs_length}
 use Rattle.digits.specs.HexadecimalRead.{are_pairs, bytes_of, bytes_read}
@@ -23,11 +23,11 @@ flag true s most e = rw (half s e)
 flag false s most e = refl
 
 module _ (s : List ℕ) (most : ℕ) where
-  pub hex_given : are_pairs s && leb 1 (length s / 2) && leb (length s / 2) most ≡ true → bytes_read s most ≡ some (bytes_of s)
+  pub hex_given : are_pairs s && leb 1 (length s / 2) && leb (length s / 2) most ≡ true → bytes_read s most ≡ Some (bytes_of s)
   unfolding bytes_read
   hex_given e = rw (sym (flag (are_pairs s) s most refl) ∙ e)
 
-  pub hex_none : are_pairs s && leb 1 (length s / 2) && leb (length s / 2) most ≡ false → bytes_read s most ≡ none
+  pub hex_none : are_pairs s && leb 1 (length s / 2) && leb (length s / 2) most ≡ false → bytes_read s most ≡ None
   unfolding bytes_read
   hex_none e = rw (sym (flag (are_pairs s) s most refl) ∙ e)
 

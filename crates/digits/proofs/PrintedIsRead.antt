@@ -14,27 +14,27 @@ use Rattle.digits.specs.DecimalRead.{is_decimal, with_digit, read_on, number_of}
 use Rattle.digits.specs.HexadecimalRead.{is_letter, digit_of, are_pairs, bytes_of, bytes_read}
 use Rattle.digits.specs.Printed.{decimal_in, decimal_of, hex_digit, hex_of}
 use Rattle.digits.specs.ReadBack.{NumberReadBack, are_bytes, BytesReadBack}
-use Rattle.digits.specs.declared.Number.TheVariants.{Is, Bad}
+use Rattle.std.specs.Prelude.{Option, Some, None}
 use Rattle.digits.proofs.PrintedDigits.{below_ten, ten_up, fewer}
 
 -- ---- decimal
 
-one_digit : (value d m : ℕ) → d < 10 → 10 * value + d ≡ m → m ≤ 65535 → read_on value ((48 + d) ∷ []) ≡ Is m
+one_digit : (value d m : ℕ) → d < 10 → 10 * value + d ≡ m → m ≤ 65535 → read_on value ((48 + d) ∷ []) ≡ Some m
 unfolding read_on
 one_digit value d m h e l =
     let w : with_digit value (48 + d) ≡ m = omega arith in
     rw (le-leb 0x30 (48 + d) (omega arith), le-leb (48 + d) 0x39 (omega arith), w, le-leb m 65535 l)
 
 -- digits behind digits
-read_then : (xs ys : List ℕ) (value m : ℕ) → read_on value xs ≡ Is m → read_on value (xs ++ ys) ≡ read_on m ys
+read_then : (xs ys : List ℕ) (value m : ℕ) → read_on value xs ≡ Some m → read_on value (xs ++ ys) ≡ read_on m ys
 unfolding read_on
 read_then [] ys value m e = let v : value ≡ m = cc in rw v
 read_then (b ∷ xs) ys value m e =
     split (is_decimal b && leb (with_digit value b) 65535)
     (λ t. rw t (read_then xs ys (with_digit value b) m (rw t at e)))
-    (λ t. let u : Bad ≡ Is m = rw t at e in absurd (let z : ◌≡◌ {A = ℕ} 0 1 = cc in omega arith))
+    (λ t. let u : ◌≡◌ {A = Option ℕ} None (Some m) = rw t at e in cc)
 
-digits_read : (k n : ℕ) → n < 10 ^ k → n ≤ 65535 → read_on 0 (decimal_in k n) ≡ Is n
+digits_read : (k n : ℕ) → n < 10 ^ k → n ≤ 65535 → read_on 0 (decimal_in k n) ≡ Some n
 unfolding read_on decimal_in
 digits_read zero n h m = let e : 0 ≡ n = omega arith in rw e
 digits_read (suc k) n h m =

@@ -1,10 +1,7 @@
 -- Bytes in a line: pairs of capital hexadecimal digits.
 -- Assumes nothing.
-use Rattle.std.specs.Prelude.{ℕ, ◌+◌, ◌-◌, ◌*◌, Bool, true, false, cond, ◌&&◌, ◌||◌, List, [], ◌∷◌, leb, length}
-use Rattle.std.proofs.Math.Option.{Option, none, some}
+use Rattle.std.specs.Prelude.{ℕ, ◌+◌, ◌-◌, ◌*◌, Bool, true, false, cond, ◌&&◌, ◌||◌, List, [], ◌∷◌, leb, length, Option, Some, None}
 use Rattle.digits.specs.DecimalRead.{is_decimal}
-use Rattle.digits.specs.declared.Hex.{Hex}
-use Rattle.digits.specs.declared.Hex.TheVariants.{Bytes, Bad}
 
 -- A to F
 abbrev pub is_letter : ℕ → Bool
@@ -35,14 +32,14 @@ bytes_of (high ∷ low ∷ rest) = byte_of high low ∷ bytes_of rest
 -- the bytes of a text of pairs, at least one and at most `most`
 unfoldable pub bytes_read : List ℕ → ℕ → Option (List ℕ)
 bytes_read text most =
-    cond (are_pairs text && leb 1 (length (bytes_of text)) && leb (length (bytes_of text)) most) (some (bytes_of text)) none
+    cond (are_pairs text && leb 1 (length (bytes_of text)) && leb (length (bytes_of text)) most) (Some (bytes_of text)) None
 
--- how a reader answers
-abbrev pub hex_answer : Option (List ℕ) → Hex
-hex_answer none = Bad
-hex_answer (some bs) = Bytes (length bs)
+-- how a reader answers: how many they are
+abbrev pub hex_answer : Option (List ℕ) → Option ℕ
+hex_answer None = None
+hex_answer (Some bs) = Some (length bs)
 
 -- the bytes that it writes
 abbrev pub hex_bytes : Option (List ℕ) → List ℕ
-hex_bytes none = []
-hex_bytes (some bs) = bs
+hex_bytes None = []
+hex_bytes (Some bs) = bs

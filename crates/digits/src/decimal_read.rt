@@ -2,8 +2,6 @@
 ghost use Rattle.std.specs.Prelude.{◌≡◌};
 ghost use Rattle.digits.specs.DecimalRead.{is_decimal, read_on, number_of};
 
-use crate::Number;
-
 const ZERO: u8 = 0x30;
 
 const NINE: u8 = 0x39;
@@ -18,36 +16,29 @@ pub(crate) fn is_decimal(b: u8) -> bool
 }
 
 // The number whose digits these are, leading zeros or not. It stops once the value is past the greatest, so the value stays small.
-fn read_digits(text: &[u8]) -> Number
+fn read_digits(text: &[u8]) -> Option<u16>
     ensures { result ≡ read_on 0 text.now }
 {
     let mut value: u32 = 0;
-    let mut i = 0;
-    while i < text.len() {
-        let b = text[i];
-        if !is_decimal(b) {
-            return Number::Bad;
+    for b in text {
+        if !is_decimal(*b) {
+            return None;
         }
-        value = 10 * value + (b - ZERO) as u32;
+        value = 10 * value + (*b - ZERO) as u32;
         if GREATEST < value {
-            return Number::Bad;
+            return None;
         }
-        i += 1;
     }
-    Number::Is(value as u16)
+    Some(value as u16)
 }
 
 // At least one digit, and no 0 before others.
-pub fn number(text: &[u8]) -> Number
+pub fn number(text: &[u8]) -> Option<u16>
     ensures { result ≡ number_of text.now }
 {
-    let n = text.len();
-    if n == 0 {
-        return Number::Bad;
-    }
-    let b = text[0];
-    if (1 < n) & (b == ZERO) {
-        return Number::Bad;
+    let first = *text.first()?;
+    if (1 < text.len()) & (first == ZERO) {
+        return None;
     }
     read_digits(text)
 }

@@ -3,7 +3,6 @@ ghost use Rattle.std.specs.Prelude.{◌≡◌, true, ◌≤◌, length};
 ghost use Rattle.cells.specs.Cells.{front};
 ghost use Rattle.digits.specs.HexadecimalRead.{is_letter, digit_of, is_pair, byte_of, are_pairs, bytes_of, bytes_read, hex_answer, hex_bytes};
 
-use crate::Hex;
 use crate::decimal_read::is_decimal;
 
 // A to F.
@@ -42,42 +41,35 @@ fn byte(high: u8, low: u8) -> u8
 fn are_pairs(text: &[u8]) -> bool
     ensures { result ≡ are_pairs text.now }
 {
-    let mut i = 0;
-    while i < text.len() {
-        if text.len() - i < 2 {
+    let mut left = text;
+    while let [high, low, rest @ ..] = left {
+        if !is_pair(*high, *low) {
             return false;
         }
-        let high = text[i];
-        let low = text[i + 1];
-        if !is_pair(high, low) {
-            return false;
-        }
-        i += 2;
+        left = rest;
     }
-    true
+    left.is_empty()
 }
 
+// Counted by i: over the cells and the pairs side by side the proof did not close.
 fn write_bytes(text: &[u8], into: &mut [u8])
     requires { (are_pairs text.now ≡ true) × (length (bytes_of text.now) ≤ length into.old) }
     ensures { into.new ≡ front (bytes_of text.now) into.old }
 {
-    let n = text.len() / 2;
-    let mut i = 0;
-    while i < n {
+    for i in 0..text.len() / 2 {
         into[i] = byte(text[2 * i], text[2 * i + 1]);
-        i += 1;
     }
 }
 
-// At least one pair, and no more than `into` has cells; a text that is not so changes no cell.
-pub fn hex(text: &[u8], into: &mut [u8]) -> Hex
+// How many bytes are written: at least one, and no more than `into` has cells. A text that is not so changes no cell.
+pub fn hex(text: &[u8], into: &mut [u8]) -> Option<usize>
     ensures { (result ≡ hex_answer (bytes_read text.now (length into.old)))
         × (into.new ≡ front (hex_bytes (bytes_read text.now (length into.old))) into.old) }
 {
     let n = text.len() / 2;
     if are_pairs(text) & (1 <= n) & (n <= into.len()) {
         write_bytes(text, into);
-        return Hex::Bytes(n);
+        return Some(n);
     }
-    Hex::Bad
+    None
 }

@@ -20,7 +20,7 @@ pub fn put(out: &mut [u8], at: usize, text: &[u8]) -> usize
     at + text.len()
 }
 
-// Without leading zeros. The longest number has 20 digits; they are found from the last to the first.
+// Without leading zeros. The longest number has 20 digits; they are found from the last to the first. No heap: they stand in a fixed array.
 pub fn decimal(out: &mut [u8], at: usize, n: usize) -> usize
     ensures { (result, out.new) ≡ put_at (decimal_of n) at out.old }
 {
@@ -61,10 +61,8 @@ pub fn hex_bytes(out: &mut [u8], at: usize, bytes: &[u8]) -> usize
         return at;
     }
     let mut next = at;
-    let mut i = 0;
-    while i < bytes.len() {
-        next = hex_byte(out, next, bytes[i]);
-        i += 1;
+    for b in bytes {
+        next = hex_byte(out, next, *b);
     }
     next
 }
@@ -73,11 +71,6 @@ pub fn hex_bytes(out: &mut [u8], at: usize, bytes: &[u8]) -> usize
 pub fn hex_word(out: &mut [u8], at: usize, n: u32) -> usize
     ensures { (result, out.new) ≡ put_at (hex_word_of n) at out.old }
 {
-    let bytes = [
-        (n / 0x1000000) as u8,
-        (n / 0x10000 % 256) as u8,
-        (n / 0x100 % 256) as u8,
-        (n % 256) as u8,
-    ];
+    let bytes = n.to_be_bytes();
     hex_bytes(out, at, &bytes)
 }

@@ -3,7 +3,6 @@
 use crate::forged::forged;
 use crate::opened::opened_end;
 use crate::refused::{refused, request, take_expedited};
-use crate::wrapping::begins;
 use check::same;
 use control::{State, WhatReceived};
 use end::{End, Expedited, ExpeditedDone};
@@ -30,46 +29,17 @@ fn under_mark(mark: WhatReceived) -> End {
     end
 }
 
-fn state_code(state: State) -> u8 {
-    match state {
-        State::Reset => 0,
-        State::Send => 1,
-        State::Receive => 2,
-        State::ConfirmOwed => 3,
-        State::ConfirmAwaited => 4,
-        State::DeferTurn => 5,
-        State::DeferEnd => 6,
-    }
-}
-
-fn mark_code(mark: WhatReceived) -> u8 {
-    match mark {
-        WhatReceived::Nothing => 0,
-        WhatReceived::Turn => 1,
-        WhatReceived::End => 2,
-        WhatReceived::Confirm => 3,
-        WhatReceived::ConfirmTurn => 4,
-        WhatReceived::ConfirmEnd => 5,
-        WhatReceived::Error => 6,
-    }
-}
-
 // The state and the mark are the same.
 fn stands_as(before: End, after: End) -> bool {
     let was = before.control;
     let is = after.control;
-    let state_before = was.state;
-    let mark_before = was.mark;
-    let state = is.state;
-    let mark = is.mark;
-    (state_code(state_before) == state_code(state)) & (mark_code(mark_before) == mark_code(mark))
+    (was.state == is.state) & (was.mark == is.mark)
 }
 
 // What is kept of the expedited lines is this.
 fn keeps(end: End, unanswered: bool, sent: u16, taken: u16) -> bool {
     let kept = end.expedited;
-    let flag = kept.unanswered;
-    (!flag | unanswered) & (flag | !unanswered) & (kept.sent == sent) & (kept.taken == taken)
+    (kept.unanswered == unanswered) & (kept.sent == sent) & (kept.taken == taken)
 }
 
 fn signal_accepted(done: ExpeditedDone, before: End) -> bool {
@@ -93,7 +63,7 @@ fn first_signal_taken(end: End) -> bool {
     let after = done.end;
     signal_accepted(done, end)
         & keeps(after, false, 0, 1)
-        & begins(&unit, b"\x00\x01\xCB\x80\x00\xC9\xA5")
+        & unit.starts_with(b"\x00\x01\xCB\x80\x00\xC9\xA5")
 }
 
 // Seven states and, in Receive, six marks.
@@ -133,78 +103,56 @@ pub fn signal_unanswered_in_each_state() -> bool {
         & response_taken(State::DeferEnd)
 }
 
-#[derive(Clone, Copy)]
-struct Signalled {
-    end: End,
-    right: bool,
-}
-
-// A signal made in Receive; right if it is accepted and is this unit.
-fn signal(end: End, made: &[u8]) -> Signalled {
+// A signal made in Receive: the end after, if it is accepted and is this unit.
+fn signal(end: End, made: &[u8]) -> Option<End> {
     let mut unit = [0xA5u8; 69];
     let done = end.request_to_send(&mut unit);
     let answer = done.answer;
-    let after = done.end;
-    Signalled {
-        end: after,
-        right: (answer.refusal == 0) & (answer.unit == 10) & begins(&unit, made),
-    }
+    let right = (answer.refusal == 0) & (answer.unit == 10) & unit.starts_with(made);
+    right.then_some(done.end)
 }
 
 // Its answer is taken.
-fn answered(end: End, response: &[u8]) -> Signalled {
+fn answered(end: End, response: &[u8]) -> Option<End> {
     let mut unit = [0xA5u8; 69];
     let done = end.receive_expedited(response, &mut unit);
-    let after = done.end;
-    Signalled {
-        end: after,
-        right: response_accepted(done, end),
-    }
+    response_accepted(done, end).then_some(done.end)
 }
 
 // The last signal made was 65,534: the next two are 65,535 and 0.
-fn signals_wrap() -> bool {
+fn signals_wrap() -> Option<End> {
     let before = in_state(State::Receive, false, 65534, 0);
-    let one = signal(before, b"\xFF\xFF\x4B\x80\x00\xC9\x00\x01\x00\x00\xA5");
-    let waiting = one.end;
-    let between = answered(waiting, b"\xFF\xFF\xCB\x80\x00\xC9");
-    let ready = between.end;
-    let two = signal(ready, b"\x00\x00\x4B\x80\x00\xC9\x00\x01\x00\x00\xA5");
-    let after = two.end;
-    one.right & between.right & two.right & keeps(after, true, 0, 0)
+    let waiting = signal(before, b"\xFF\xFF\x4B\x80\x00\xC9\x00\x01\x00\x00\xA5")?;
+    let ready = answered(waiting, b"\xFF\xFF\xCB\x80\x00\xC9")?;
+    signal(ready, b"\x00\x00\x4B\x80\x00\xC9\x00\x01\x00\x00\xA5")
 }
 
-// A signal taken; right if it is told and answered by this unit.
-fn told(end: End, taken: &[u8], made: &[u8]) -> Signalled {
+// A signal taken: the end after, if it is told and answered by this unit.
+fn told(end: End, taken: &[u8], made: &[u8]) -> Option<End> {
     let mut unit = [0xA5u8; 69];
     let done = end.receive_expedited(taken, &mut unit);
-    let after = done.end;
-    Signalled {
-        end: after,
-        right: signal_accepted(done, end) & begins(&unit, made),
-    }
+    let right = signal_accepted(done, end) & unit.starts_with(made);
+    right.then_some(done.end)
 }
 
 // So at the end that takes them.
-fn takes_wrap() -> bool {
+fn takes_wrap() -> Option<End> {
     let before = in_state(State::Send, false, 0, 65534);
-    let one = told(
+    let between = told(
         before,
         b"\xFF\xFF\x4B\x80\x00\xC9\x00\x01\x00\x00",
         b"\xFF\xFF\xCB\x80\x00\xC9\xA5",
-    );
-    let between = one.end;
-    let two = told(
+    )?;
+    told(
         between,
         b"\x00\x00\x4B\x80\x00\xC9\x00\x01\x00\x00",
         b"\x00\x00\xCB\x80\x00\xC9\xA5",
-    );
-    let after = two.end;
-    one.right & two.right & keeps(after, false, 0, 0)
+    )
 }
 
 pub fn seq_expedited() -> bool {
-    signals_wrap() & takes_wrap()
+    signals_wrap().is_some_and(|end| keeps(end, true, 0, 0))
+        & takes_wrap().is_some_and(|end| keeps(end, false, 0, 0))
 }
 
 fn request_refused(end: End, number: u8) -> bool {

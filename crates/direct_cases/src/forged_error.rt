@@ -3,7 +3,6 @@
 use crate::deferred::{holding_end, sending_end};
 use crate::forged_defer::every_call_refused;
 use crate::opened::opened_end;
-use crate::wrapping::begins;
 use control::State;
 use end::End;
 
@@ -56,8 +55,5 @@ pub fn error_header_within_record() -> bool {
     let answer = flushed.answer;
     (answer.refusal == 0)
         & (answer.unit == 12)
-        & begins(
-            &unit,
-            b"\x00\x02\x0B\x90\x00\x07\x07\x08\x89\x00\x00\x00\xA5",
-        )
+        & unit.starts_with(b"\x00\x02\x0B\x90\x00\x07\x07\x08\x89\x00\x00\x00\xA5")
 }

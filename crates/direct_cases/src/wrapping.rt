@@ -1,6 +1,5 @@
 // Numbers that wrap: after 65,535 comes 0.
 use crate::opened::opened_end;
-use check::same;
 use end::{Done, End};
 
 // One record of two bytes, given and flushed.
@@ -10,32 +9,14 @@ fn flush_record(end: End, send: &mut [u8], unit: &mut [u8]) -> Done {
     holding.flush(send, unit)
 }
 
-// The cells begin with these bytes.
-pub fn begins(cells: &[u8], front: &[u8]) -> bool {
-    let n = front.len();
-    if cells.len() < n {
-        return false;
-    }
-    same(&cells[0..n], front)
-}
-
-#[derive(Clone, Copy)]
-struct Sent {
-    end: End,
-    right: bool,
-}
-
-// One record sent; right if it is accepted and the unit begins with these bytes.
-fn send_record(end: End, front: &[u8]) -> Sent {
+// One record sent: the end after, if it is accepted and the unit begins with these bytes.
+fn send_record(end: End, front: &[u8]) -> Option<End> {
     let mut send = [0xA5u8; 64];
     let mut unit = [0xA5u8; 69];
     let flushed = flush_record(end, &mut send, &mut unit);
     let answer = flushed.answer;
-    let after = flushed.end;
-    Sent {
-        end: after,
-        right: (answer.refusal == 0) & begins(&unit, front),
-    }
+    let right = (answer.refusal == 0) & unit.starts_with(front);
+    right.then_some(flushed.end)
 }
 
 // In a conversation, with 65,534 as the last number sent.
@@ -51,8 +32,7 @@ fn near_last() -> End {
 
 // The last number sent was 65,534: the next two are 65,535 and 0.
 pub fn seq() -> bool {
-    let one = send_record(near_last(), b"\xFF\xFF\x03\x91\x80\x00\x02\xA5");
-    let after = one.end;
-    let two = send_record(after, b"\x00\x00\x03\x90\x00\x00\x02\xA5");
-    one.right & two.right
+    send_record(near_last(), b"\xFF\xFF\x03\x91\x80\x00\x02\xA5")
+        .and_then(|end| send_record(end, b"\x00\x00\x03\x90\x00\x00\x02\xA5"))
+        .is_some()
 }

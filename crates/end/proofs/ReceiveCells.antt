@@ -13,7 +13,8 @@ use Rattle.answers.proofs.Rows.{yes}
 use Rattle.end.specs.Receive.{some_held, receive_questions, receive_refusal, copy_count, bytes_read, mark_read, receive_decision}
 use Rattle.end.proofs.RecordGood.{held_in_inbox}
 use Rattle.end.specs.declared.End.{End}
-use Rattle.end.specs.declared.ReadDone.{ReadDone}
+use Rattle.end.specs.declared.Done.{Done}
+use Rattle.answers.specs.declared.ReadAnswer.{ReadAnswer}
 
 -- the questions were all answered yes
 pub read_room : (e : End) (inbox : List ℕ) (buffer : ℕ) → receive_refusal e inbox buffer ≡ 0 → e.receiving.held ≤ length inbox
@@ -31,7 +32,7 @@ pub record Copies (e : End) (inbox : List ℕ) (buffer k : ℕ) : Type 0 where
   pub in_buffer : k ≤ buffer
 
 copies : (t b : Bool) (e : End) (inbox : List ℕ) (buffer : ℕ) → eqb (receive_refusal e inbox buffer) 0 ≡ t
-    → (let d : ReadDone = cond t (cond b (bytes_read e (copy_count e inbox buffer) inbox) (mark_read e)) (record { answer = read_refused (receive_refusal e inbox buffer); end = e }) in
+    → (let d : Done ReadAnswer = cond t (cond b (bytes_read e (copy_count e inbox buffer) inbox) (mark_read e)) (record { answer = read_refused (receive_refusal e inbox buffer); end = e }) in
     (d.answer.copied ≡ 0 → ⊥) → Copies e inbox buffer d.answer.copied)
 unfolding bytes_read mark_read copy_count
 copies false b e inbox buffer z h = absurd (h refl)

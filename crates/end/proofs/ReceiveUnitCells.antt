@@ -29,6 +29,7 @@ use Rattle.end.proofs.RoomToReceive.{bid_room, bid_answer_length, inbox_is, join
 use Rattle.end.proofs.ReceiveUnitRows.{kind_accepted, take_accepted}
 use Rattle.end.proofs.DecisionCells.{Makes, none, one, wrote}
 use Rattle.end.specs.declared.Done.{Done}
+use Rattle.answers.specs.declared.Answer.{Answer}
 use Rattle.end.specs.declared.End.{End}
 
 -- ---- by kind
@@ -141,15 +142,15 @@ take_wrote e taken inbox unit =
     )
 
 -- the same, of what the code hands back and leaves
-pub take_left : (e : End) (taken inbox unit : List ℕ) (r : Done) (answer : Header) (i u : List ℕ)
+pub take_left : (e : End) (taken inbox unit : List ℕ) (r : Done Answer) (answer : Header) (i u : List ℕ)
     → r ≡ done_naming taken (receive_unit_decision e taken (length inbox) (length unit))
     → answer ≡ bid_answer e.control
     → i ≡ cond (eqb r.end.receiving.held e.receiving.held) inbox (written e.receiving.held (drop 5 taken) inbox)
     → u ≡ cond (eqb r.answer.unit 0) unit (cells_made r.end.receiving.number answer (fixed_ru answer) unit)
     → taken_by r i u ≡ receive_unit e taken inbox unit
 take_left e taken inbox unit r answer i u decided b j w =
-    let made : Done → List ℕ = λ (x : Done). cond (eqb x.answer.unit 0) unit (cells_made x.end.receiving.number answer (fixed_ru answer) unit) in
-    let held : Done → List ℕ =
-    λ (x : Done). cond (eqb x.end.receiving.held e.receiving.held) inbox (written e.receiving.held (drop 5 taken) inbox) in
+    let made : Done Answer → List ℕ = λ (x : Done Answer). cond (eqb x.answer.unit 0) unit (cells_made x.end.receiving.number answer (fixed_ru answer) unit) in
+    let held : Done Answer → List ℕ =
+    λ (x : Done Answer). cond (eqb x.end.receiving.held e.receiving.held) inbox (written e.receiving.held (drop 5 taken) inbox) in
     let cells : taken_by r i u ≡ taken_by r (held r) (made r) = λ k. taken_by r (j k) (w k) in
-    cells ∙ ap (λ (x : Done). taken_by x (held x) (made x)) decided ∙ rw b (take_wrote e taken inbox unit)
+    cells ∙ ap (λ (x : Done Answer). taken_by x (held x) (made x)) decided ∙ rw b (take_wrote e taken inbox unit)

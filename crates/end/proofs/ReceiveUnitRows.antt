@@ -81,7 +81,7 @@ take_by_kind e taken inbox unit q l g = rw (receive_kind e taken inbox unit q l 
 -- ---- the rule named
 
 -- none, where the refusal is not 21
-pub unnamed : (taken : List ℕ) (r : Done) (d : Decision) → r ≡ done_of d → (d.refusal ≡ BAD_HEADER → ⊥) → r ≡ done_naming taken d
+pub unnamed : (taken : List ℕ) (r : Done Answer) (d : Decision) → r ≡ done_of d → (d.refusal ≡ BAD_HEADER → ⊥) → r ≡ done_naming taken d
 unnamed taken r d e h =
     rw e (ap (λ (a : Answer). record { answer = a; end = d.end }) (naming (eqb d.refusal 0) (length_out d.out) d.refusal (rule_named taken) h))
 

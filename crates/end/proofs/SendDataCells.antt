@@ -6,11 +6,10 @@ use mathlib.Core.Bool.{Bool, true, false, cond}
 use mathlib.Core.List.{List, ◌++◌}
 use native.Mathlib.Omega.{arith}
 use lib.Dec.{leb, eqb}
-use lib.ListN.{length, length-append, take, drop}
-use lib.Seq.{length-take-le}
+use lib.ListN.{length, take, drop}
 use borrow.Author.Tests.{leb-true, leb-false, eqb-true, eqb-false}
 use Rattle.cells.specs.Cells.{front, written}
-use Rattle.unit.specs.Unit.{RU_START, unit_of}
+use Rattle.unit.specs.Unit.{unit_of}
 use Rattle.header.specs.declared.ChainEnd.TheVariants.{Continues}
 use Rattle.sending.specs.Sending.{request_made, keeps}
 use Rattle.answers.proofs.Rows.{yes}
@@ -97,14 +96,3 @@ pub send_refused : (e : End) (bytes send unit : List ℕ)
 unfolding send_decision
 send_refused e bytes send unit h =
     send_stays (eqb (send_refusal e bytes (length send) (length unit)) 0) (keeps e.sending (length bytes)) e bytes send unit refl h
-
--- a unit that goes has the most bytes
-pub spilled_length : (e : End) (bytes send : List ℕ) → e.sending.held ≤ e.sending.max → e.sending.max < e.sending.held + length bytes
-    → e.sending.max ≤ length send → RU_START + length (held_bytes e send ++ take (gone e) bytes) ≡ RU_START + e.sending.max
-spilled_length e bytes send h m l =
-    omega (
-      arith,
-      length-append (held_bytes e send) (take (gone e) bytes),
-      length-take-le e.sending.held send (omega arith),
-      length-take-le (gone e) bytes (omega arith),
-    )

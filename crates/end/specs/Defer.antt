@@ -12,6 +12,7 @@ use Rattle.end.specs.Record.{record_good}
 use Rattle.end.specs.Outcome.{nothing, Decision, accept, decided, done_of, with_control}
 use Rattle.end.specs.declared.End.{End}
 use Rattle.end.specs.declared.Done.{Done}
+use Rattle.answers.specs.declared.Answer.{Answer}
 
 -- ---- prepare
 
@@ -24,7 +25,7 @@ defer_refusal e = first_no (defer_questions e)
 unfoldable pub defer_decision : End → Deferred → Decision
 defer_decision e d = decided (defer_refusal e) e (accept (with_control (deferred d e.control) e) nothing)
 
-unfoldable pub defer : Deferred → End → Done
+unfoldable pub defer : Deferred → End → Done Answer
 defer d e = done_of (defer_decision e d)
 
 -- ---- withdraw
@@ -38,5 +39,5 @@ withdraw_refusal e = first_no (withdraw_questions e)
 unfoldable pub withdraw_decision : End → Decision
 withdraw_decision e = decided (withdraw_refusal e) e (accept (with_control (withdrawn e.control) e) nothing)
 
-unfoldable pub withdraw : End → Done
+unfoldable pub withdraw : End → Done Answer
 withdraw e = done_of (withdraw_decision e)

@@ -14,8 +14,8 @@ use Rattle.receiving.specs.declared.Receiving.{Receiving}
 use Rattle.expedited.specs.declared.Expedited.{Expedited}
 use Rattle.end.specs.declared.End.{End}
 use Rattle.end.specs.declared.Done.{Done}
-use Rattle.end.specs.declared.ReadDone.{ReadDone}
-use Rattle.end.specs.declared.ExpeditedDone.{ExpeditedDone}
+use Rattle.answers.specs.declared.ReadAnswer.{ReadAnswer}
+use Rattle.answers.specs.declared.ExpeditedAnswer.{ExpeditedAnswer}
 
 -- the unit that a call makes, if it makes one: number, header and RU; or, for the expedited line, number and header, which has one RU
 pub data Out : Type 0 where
@@ -54,34 +54,34 @@ decided q e d = cond (eqb q 0) d (refuse q e)
 abbrev pub answer_of : Decision → Answer
 answer_of d = cond (eqb d.refusal 0) (accepted (length_out d.out)) (refused d.refusal)
 
-abbrev pub done_of : Decision → Done
+abbrev pub done_of : Decision → Done Answer
 done_of d = record { answer = answer_of d; end = d.end }
 
 -- what a call leaves that is lent the unit buffer
 pub record Made : Type 0 where
-  pub done : Done
+  pub done : Done Answer
   pub unit : List ℕ
 
 -- the send buffer and the unit buffer
 pub record Sent : Type 0 where
-  pub done : Done
+  pub done : Done Answer
   pub send : List ℕ
   pub unit : List ℕ
 
 -- the inbox and the unit buffer
 pub record Taken : Type 0 where
-  pub done : Done
+  pub done : Done Answer
   pub inbox : List ℕ
   pub unit : List ℕ
 
 -- a take on the expedited line is lent the unit buffer
 pub record TakenExpedited : Type 0 where
-  pub done : ExpeditedDone
+  pub done : Done ExpeditedAnswer
   pub unit : List ℕ
 
 -- the inbox and the caller's buffer
 pub record Copied : Type 0 where
-  pub done : ReadDone
+  pub done : Done ReadAnswer
   pub inbox : List ℕ
   pub buffer : List ℕ
 

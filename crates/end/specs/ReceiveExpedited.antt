@@ -13,7 +13,8 @@ use Rattle.expedited.specs.Takes.{header_taken, take_questions, rule_taken}
 use Rattle.end.specs.Record.{record_good, unit_lent}
 use Rattle.end.specs.Outcome.{Out, nothing, expedited_unit, length_out, cells_out, Decision, accept, decided, TakenExpedited, with_expedited}
 use Rattle.end.specs.declared.End.{End}
-use Rattle.end.specs.declared.ExpeditedDone.{ExpeditedDone}
+use Rattle.end.specs.declared.Done.{Done}
+use Rattle.answers.specs.declared.ExpeditedAnswer.{ExpeditedAnswer}
 
 -- what is asked of the end alone
 abbrev pub lent_questions : End → ℕ → List (Bool × ℕ)
@@ -39,7 +40,7 @@ receive_expedited_decision e taken n =
     (accept (with_expedited (unit_taken (header_taken taken) (number_in taken) e.expedited) e) (answer_to (header_taken taken) (number_in taken)))
 
 -- 21 names the rule that the header breaks; the program is told of a signal that was taken
-abbrev pub expedited_done : List ℕ → Decision → ExpeditedDone
+abbrev pub expedited_done : List ℕ → Decision → Done ExpeditedAnswer
 expedited_done taken d =
     record {
       answer =

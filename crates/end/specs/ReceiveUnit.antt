@@ -133,7 +133,7 @@ abbrev pub answer_naming : List ℕ → Decision → Answer
 answer_naming taken d = cond (eqb d.refusal 0) (accepted (length_out d.out)) (refused_naming (rule_named taken) d.refusal)
 
 -- what the decision hands back
-abbrev pub done_naming : List ℕ → Decision → Done
+abbrev pub done_naming : List ℕ → Decision → Done Answer
 done_naming taken d = record { answer = answer_naming taken d; end = d.end }
 
 unfoldable pub receive_unit : End → List ℕ → List ℕ → List ℕ → Taken

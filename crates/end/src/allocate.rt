@@ -1,5 +1,6 @@
 // The call allocate.
 ghost use Rattle.std.specs.Prelude.{◌≡◌};
+ghost use Rattle.answers.specs.Refusals.{outcome_number};
 ghost use Rattle.end.specs.Allocate.{allocate_refusal, bid_made, allocate_decision, allocate};
 ghost use Rattle.end.specs.Outcome.{done_of};
 ghost use Rattle.end.specs.Results.{made_by};
@@ -7,24 +8,24 @@ ghost use Rattle.end.specs.Results.{made_by};
 use crate::requests::{fixed_made, write_made};
 use crate::results::{accepted, refused};
 use crate::{Done, End};
-use answers::first_no::then_ask;
-use answers::numbers::{BAD_BUFFER, BAD_RECORD, NO_CREDIT, WRONG_STATE};
+use answers::questions::ask;
+use answers::refusals::Refusal;
 use header::Header;
 use sending::outgoing::request_sent;
 use transitions::allocated;
 
 impl End {
     // A first speaker needs no credit: its allocate makes no unit.
-    fn allocate_refusal(self, unit: usize) -> u8
-        ensures { result ≡ allocate_refusal self unit }
+    #[tactic(auto, unfolding(crate::specs::Allocate::allocate_refusal))]
+    fn allocate_refusal(self, unit: usize) -> Result<(), Refusal>
+        ensures { outcome_number result ≡ allocate_refusal self unit }
     {
-        let q = then_ask(0, self.unit_lent(unit), BAD_BUFFER);
-        let q = then_ask(q, self.record_good(), BAD_RECORD);
-        let q = then_ask(q, self.control.may_allocate(), WRONG_STATE);
-        then_ask(
-            q,
+        ask(self.unit_lent(unit), Refusal::BadBuffer)?;
+        ask(self.record_good(), Refusal::BadRecord)?;
+        ask(self.control.may_allocate(), Refusal::WrongState)?;
+        ask(
             self.control.speaks_first() | self.sending.window.has_credit(),
-            NO_CREDIT,
+            Refusal::NoCredit,
         )
     }
 
@@ -40,12 +41,12 @@ impl End {
     }
 
     // What allocate answers and leaves of the record, before a cell is written.
+    #[tactic(auto, unfolding(crate::specs::Allocate::allocate_decision))]
     pub fn allocate_decision(self, unit: usize) -> Done
         ensures { result ≡ done_of (allocate_decision self unit) }
     {
-        let q = self.allocate_refusal(unit);
-        if q != 0 {
-            return refused(q, self);
+        if let Err(why) = self.allocate_refusal(unit) {
+            return refused(why.into(), self);
         }
         if self.control.speaks_first() {
             return accepted(0, self.with_control(allocated(self.control)));

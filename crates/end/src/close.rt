@@ -2,6 +2,7 @@
 // They differ only in what that unit says to follow, and whether it asks for a confirmation. In Defer flush and confirm carry out
 // the turn or end that is prepared. While an error is due flush makes the error header, and the others are not allowed.
 ghost use Rattle.std.specs.Prelude.{◌≡◌, List, ℕ, ◌≤◌, length};
+ghost use Rattle.answers.specs.Refusals.{outcome_number};
 ghost use Rattle.end.specs.Close.{close_refusal, last_made, close_decision, close, flush, confirm, prepare_to_receive, deallocate};
 ghost use Rattle.end.specs.Outcome.{done_of};
 ghost use Rattle.end.specs.Results.{made_by};
@@ -9,8 +10,8 @@ ghost use Rattle.end.specs.Results.{made_by};
 use crate::requests::{fixed_made, write_made};
 use crate::results::{accepted, refused};
 use crate::{Done, End};
-use answers::first_no::then_ask;
-use answers::numbers::{BAD_BUFFER, BAD_RECORD, NO_CREDIT, UNFINISHED_RECORD, WRONG_STATE};
+use answers::questions::ask;
+use answers::refusals::Refusal;
 use header::{ChainEnd, Follows, Header};
 use sending::bytes_given::send_held;
 use sending::outgoing::{given_whole, nothing_goes, request_sent};
@@ -20,30 +21,42 @@ use unit::ru::marks;
 
 impl End {
     // Only a unit that leaves a mark needs the record given to be whole; a flush may stand within one.
-    fn close_refusal(self, follows: Follows, confirm: bool, send: usize, unit: usize) -> u8
-        ensures { result ≡ close_refusal self follows confirm send unit }
+    #[tactic(auto, unfolding(crate::specs::Close::close_refusal))]
+    fn close_refusal(
+        self,
+        follows: Follows,
+        confirm: bool,
+        send: usize,
+        unit: usize,
+    ) -> Result<(), Refusal>
+        ensures { outcome_number result ≡ close_refusal self follows confirm send unit }
     {
         let ends = ChainEnd::Last {
             follows: carried_out(self.control, follows),
             confirm,
         };
-        let q = then_ask(0, self.send_lent(send) & self.unit_lent(unit), BAD_BUFFER);
-        let q = then_ask(q, self.record_good(), BAD_RECORD);
-        let q = then_ask(q, self.control.may_close(follows, confirm), WRONG_STATE);
-        let q = then_ask(
-            q,
+        ask(
+            self.send_lent(send) & self.unit_lent(unit),
+            Refusal::BadBuffer,
+        )?;
+        ask(self.record_good(), Refusal::BadRecord)?;
+        ask(
+            self.control.may_close(follows, confirm),
+            Refusal::WrongState,
+        )?;
+        ask(
             !marks(ends) | given_whole(self.sending),
-            UNFINISHED_RECORD,
-        );
-        then_ask(
-            q,
+            Refusal::UnfinishedRecord,
+        )?;
+        ask(
             nothing_goes(self.sending.held, self.control.error, ends)
                 | self.sending.window.has_credit(),
-            NO_CREDIT,
+            Refusal::NoCredit,
         )
     }
 
     // The last unit: the error header if it is due, and else the bytes held.
+    #[tactic(auto, unfolding(crate::specs::Close::last_made))]
     fn last_decision(self, follows: Follows, confirm: bool) -> Done
         ensures { (cells : List ℕ) → self.sending.held ≤ length cells → result ≡ done_of (last_made self follows confirm cells) }
     {
@@ -61,12 +74,12 @@ impl End {
 
     // What a closing call answers and leaves of the record, before a cell is written: the same for every send buffer of this
     // length.
+    #[tactic(auto, unfolding(crate::specs::Close::close_decision))]
     pub fn close_decision(self, follows: Follows, confirm: bool, send: usize, unit: usize) -> Done
         ensures { (cells : List ℕ) → length cells ≡ send → result ≡ done_of (close_decision self follows confirm cells unit) }
     {
-        let q = self.close_refusal(follows, confirm, send, unit);
-        if q != 0 {
-            return refused(q, self);
+        if let Err(why) = self.close_refusal(follows, confirm, send, unit) {
+            return refused(why.into(), self);
         }
         let follows = carried_out(self.control, follows);
         let ends = ChainEnd::Last { follows, confirm };

@@ -1,5 +1,6 @@
 // The call confirmed.
 ghost use Rattle.std.specs.Prelude.{◌≡◌};
+ghost use Rattle.answers.specs.Refusals.{outcome_number};
 ghost use Rattle.end.specs.Confirmed.{confirmed_refusal, confirmed_decision, confirmed};
 ghost use Rattle.end.specs.Outcome.{done_of};
 ghost use Rattle.end.specs.Results.{made_by};
@@ -7,28 +8,29 @@ ghost use Rattle.end.specs.Results.{made_by};
 use crate::requests::{fixed_made, write_made};
 use crate::results::refused;
 use crate::{Done, End};
-use answers::first_no::then_ask;
-use answers::numbers::{BAD_BUFFER, BAD_RECORD, WRONG_STATE};
+use answers::questions::ask;
+use answers::refusals::Refusal;
 use header::Header;
 use transitions::confirmation_made;
 
 impl End {
     // Send error asks the same.
-    pub(crate) fn confirmed_refusal(self, unit: usize) -> u8
-        ensures { result ≡ confirmed_refusal self unit }
+    #[tactic(auto, unfolding(crate::specs::Confirmed::confirmed_refusal))]
+    pub(crate) fn confirmed_refusal(self, unit: usize) -> Result<(), Refusal>
+        ensures { outcome_number result ≡ confirmed_refusal self unit }
     {
-        let q = then_ask(0, self.unit_lent(unit), BAD_BUFFER);
-        let q = then_ask(q, self.record_good(), BAD_RECORD);
-        then_ask(q, self.control.may_confirm(), WRONG_STATE)
+        ask(self.unit_lent(unit), Refusal::BadBuffer)?;
+        ask(self.record_good(), Refusal::BadRecord)?;
+        ask(self.control.may_confirm(), Refusal::WrongState)
     }
 
     // What confirmed answers and leaves of the record, before a cell is written.
+    #[tactic(auto, unfolding(crate::specs::Confirmed::confirmed_decision))]
     pub fn confirmed_decision(self, unit: usize) -> Done
         ensures { result ≡ done_of (confirmed_decision self unit) }
     {
-        let q = self.confirmed_refusal(unit);
-        if q != 0 {
-            return refused(q, self);
+        if let Err(why) = self.confirmed_refusal(unit) {
+            return refused(why.into(), self);
         }
         let next = confirmation_made(self.control);
         fixed_made(self.with_control(next), Header::Confirmation)

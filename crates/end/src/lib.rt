@@ -37,21 +37,13 @@ pub struct End {
     pub expedited: Expedited,
 }
 
-// What a call hands back: its answer and the new end.
+// What a call hands back: its answer and the new end. A read answers more than other calls, and so does a take on the expedited line.
 #[derive(Clone, Copy)]
-pub struct Done {
-    pub answer: Answer,
+pub struct Done<A = Answer> {
+    pub answer: A,
     pub end: End,
 }
 
-#[derive(Clone, Copy)]
-pub struct ReadDone {
-    pub answer: ReadAnswer,
-    pub end: End,
-}
+pub type ReadDone = Done<ReadAnswer>;
 
-#[derive(Clone, Copy)]
-pub struct ExpeditedDone {
-    pub answer: ExpeditedAnswer,
-    pub end: End,
-}
+pub type ExpeditedDone = Done<ExpeditedAnswer>;

@@ -1,33 +1,34 @@
 // The call receive expedited (document 02: take, on the expedited line).
 ghost use Rattle.std.specs.Prelude.{◌≡◌};
+ghost use Rattle.answers.specs.Refusals.{outcome_number};
 ghost use Rattle.end.specs.Results.{expedited_by};
 ghost use Rattle.end.specs.ReceiveExpedited.{lent_refusal, receive_expedited_decision, expedited_done, receive_expedited};
 
-use crate::requests::write_expedited_made;
+use crate::requests::write_made;
 use crate::{End, ExpeditedDone};
-use answers::first_no::then_ask;
-use answers::numbers::{BAD_BUFFER, BAD_RECORD};
+use answers::questions::ask;
+use answers::refusals::Refusal;
 use answers::{expedited_answer, refuse};
 use expedited::takes::take_unit;
 use header::ExpeditedHeader;
 
 impl End {
     // Of the end alone, before a byte of the unit is read. No mark has to be read first, and the inbox is not lent.
-    fn lent_refusal(self, unit: usize) -> u8
-        ensures { result ≡ lent_refusal self unit }
+    #[tactic(auto, unfolding(crate::specs::ReceiveExpedited::lent_refusal))]
+    fn lent_refusal(self, unit: usize) -> Result<(), Refusal>
+        ensures { outcome_number result ≡ lent_refusal self unit }
     {
-        let q = then_ask(0, self.unit_lent(unit), BAD_BUFFER);
-        then_ask(q, self.record_good(), BAD_RECORD)
+        ask(self.unit_lent(unit), Refusal::BadBuffer)?;
+        ask(self.record_good(), Refusal::BadRecord)
     }
 
     // What receive expedited answers and leaves of the record, before a cell is written.
     pub fn receive_expedited_decision(self, taken: &[u8], unit: usize) -> ExpeditedDone
         ensures { result ≡ expedited_done taken.now (receive_expedited_decision self taken.now unit) }
     {
-        let q = self.lent_refusal(unit);
-        if q != 0 {
+        if let Err(why) = self.lent_refusal(unit) {
             return ExpeditedDone {
-                answer: expedited_answer(refuse(q), false),
+                answer: expedited_answer(refuse(why.into()), false),
                 end: self,
             };
         }
@@ -47,7 +48,7 @@ impl End {
     {
         let done = self.receive_expedited_decision(taken, unit.len());
         let number = done.end.expedited.taken;
-        write_expedited_made(
+        write_made(
             done.answer.answer.unit,
             number,
             ExpeditedHeader::SignalResponse,

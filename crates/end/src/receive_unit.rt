@@ -14,39 +14,34 @@ use answers::{refuse_naming, rule_number};
 use header::Header;
 use receiving::units_received::{join, walk_data};
 use transitions::bid_answer;
-use unit::UnitRead;
 use unit::read_unit::read_unit;
+use unit::{Heading, RU_START, Unreadable};
 
 impl End {
     // Of a unit whose heading is read: it is asked by its kind, and then taken. The RU is walked over once.
-    fn kind_decision(self, header: Header, number: u16, ru: &[u8]) -> Done
+    #[tactic(auto, unfolding(crate::specs::Kinds::kind_decision))]
+    fn kind_decision(self, heading: Heading<Header>, ru: &[u8]) -> Done
         requires { record_good self ≡ true }
-        ensures { result ≡ done_of (kind_decision self header number ru.now) }
+        ensures { result ≡ done_of (kind_decision self heading.header heading.number ru.now) }
     {
-        let walked = walk_data(header, self.receiving, ru);
-        let q = self.kind_refusal(header, number, walked, ru);
-        if q != 0 {
-            return refused(q, self);
+        let walked = walk_data(heading.header, self.receiving, ru);
+        if let Err(why) = self.kind_refusal(heading, walked, ru) {
+            return refused(why.into(), self);
         }
-        self.receive_kind(header, number, walked, ru)
+        self.receive_kind(heading, walked, ru)
     }
 
     // What receive unit answers and leaves of the record, before a cell is written. With 21 it names the lowest rule that is broken.
     pub fn receive_unit_decision(self, taken: &[u8], inbox: usize, unit: usize) -> Done
         ensures { result ≡ done_naming taken.now (receive_unit_decision self taken.now inbox unit) }
     {
-        let q = self.end_refusal(inbox, unit);
-        if q != 0 {
-            return refused(q, self);
+        if let Err(why) = self.end_refusal(inbox, unit) {
+            return refused(why.into(), self);
         }
-        let read = read_unit(taken);
-        match read {
-            UnitRead::Good(heading) => {
-                let header = heading.header;
-                self.kind_decision(header, heading.number, &taken[5..])
-            }
-            UnitRead::TooShort => refused(SHORT_UNIT, self),
-            UnitRead::Breaks(rule) => Done {
+        match read_unit(taken) {
+            Ok(heading) => self.kind_decision(heading, &taken[RU_START..]),
+            Err(Unreadable::TooShort) => refused(SHORT_UNIT, self),
+            Err(Unreadable::Breaks(rule)) => Done {
                 answer: refuse_naming(BAD_HEADER, rule_number(rule)),
                 end: self,
             },

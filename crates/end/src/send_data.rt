@@ -1,5 +1,6 @@
 // The call send data.
 ghost use Rattle.std.specs.Prelude.{◌≡◌, List, ℕ, ◌+◌, ◌≤◌, ◌<◌, length};
+ghost use Rattle.answers.specs.Refusals.{outcome_number};
 ghost use Rattle.logical_record.specs.Walk.{walk};
 ghost use Rattle.end.specs.SendData.{send_refusal, bytes_spilled, send_decision, send_data};
 ghost use Rattle.end.specs.Outcome.{done_of};
@@ -7,11 +8,11 @@ ghost use Rattle.end.specs.Results.{sent_by};
 
 use crate::results::{accepted, refused};
 use crate::{Done, End};
-use answers::first_no::then_ask;
-use answers::numbers::{BAD_BUFFER, BAD_LENGTH, BAD_LL, BAD_RECORD, NO_CREDIT, WRONG_STATE};
+use answers::questions::ask;
+use answers::refusals::Refusal;
 use header::ChainEnd;
-use logical_record::Walked;
 use logical_record::walk::is_good;
+use logical_record::{BadLength, Position};
 use sending::bytes_given::{keep, keeps, kept, length_fits, send_full, walk_given};
 use sending::outgoing::bytes_sent;
 use transitions::spilled;
@@ -19,25 +20,35 @@ use unit::RU_START;
 
 impl End {
     // `walked` is what the one walk over the bytes found.
-    fn send_refusal(self, bytes: &[u8], walked: Walked, send: usize, unit: usize) -> u8
+    #[tactic(auto, unfolding(crate::specs::SendData::send_refusal))]
+    fn send_refusal(
+        self,
+        bytes: &[u8],
+        walked: Result<Position, BadLength>,
+        send: usize,
+        unit: usize,
+    ) -> Result<(), Refusal>
         requires { walked ≡ walk self.sending.given bytes.now }
-        ensures { result ≡ send_refusal self bytes.now send unit }
+        ensures { outcome_number result ≡ send_refusal self bytes.now send unit }
     {
         let n = bytes.len();
-        let q = then_ask(0, self.send_lent(send) & self.unit_lent(unit), BAD_BUFFER);
-        let q = then_ask(q, self.record_good(), BAD_RECORD);
-        let q = then_ask(q, length_fits(self.sending, n), BAD_LENGTH);
-        let q = then_ask(q, self.control.may_send(), WRONG_STATE);
-        let q = then_ask(q, is_good(walked), BAD_LL);
-        then_ask(
-            q,
+        ask(
+            self.send_lent(send) & self.unit_lent(unit),
+            Refusal::BadBuffer,
+        )?;
+        ask(self.record_good(), Refusal::BadRecord)?;
+        ask(length_fits(self.sending, n), Refusal::BadLength)?;
+        ask(self.control.may_send(), Refusal::WrongState)?;
+        ask(is_good(walked), Refusal::BadLl)?;
+        ask(
             keeps(self.sending, n) | self.sending.window.has_credit(),
-            NO_CREDIT,
+            Refusal::NoCredit,
         )
     }
 
     // One unit goes, of the bytes held and the first of the new ones; the rest is kept.
-    fn spill_decision(self, walked: Walked, bytes: &[u8]) -> Done
+    #[tactic(auto, unfolding(crate::specs::SendData::bytes_spilled))]
+    fn spill_decision(self, walked: Result<Position, BadLength>, bytes: &[u8]) -> Done
         requires { (walked ≡ walk self.sending.given bytes.now) × (self.sending.held ≤ self.sending.max)
             × (self.sending.max < self.sending.held + length bytes.now) × (length bytes.now ≤ self.sending.max) }
         ensures { (cells : List ℕ) → self.sending.max ≤ length cells → result ≡ done_of (bytes_spilled self bytes.now cells) }
@@ -51,13 +62,13 @@ impl End {
     }
 
     // What send data answers and leaves of the record, before a cell is written: the same for every send buffer of this length.
+    #[tactic(auto, unfolding(crate::specs::SendData::send_decision))]
     pub fn send_decision(self, bytes: &[u8], send: usize, unit: usize) -> Done
         ensures { (cells : List ℕ) → length cells ≡ send → result ≡ done_of (send_decision self bytes.now cells unit) }
     {
         let walked = walk_given(self.sending, bytes);
-        let q = self.send_refusal(bytes, walked, send, unit);
-        if q != 0 {
-            return refused(q, self);
+        if let Err(why) = self.send_refusal(bytes, walked, send, unit) {
+            return refused(why.into(), self);
         }
         if keeps(self.sending, bytes.len()) {
             let next = kept(self.sending, bytes.len(), walked);

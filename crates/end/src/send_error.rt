@@ -12,12 +12,12 @@ use transitions::confirmation_denied;
 
 impl End {
     // What send error answers and leaves of the record, before a cell is written.
+    #[tactic(auto, unfolding(crate::specs::SendError::send_error_decision))]
     pub fn send_error_decision(self, unit: usize) -> Done
         ensures { result ≡ done_of (send_error_decision self unit) }
     {
-        let q = self.confirmed_refusal(unit);
-        if q != 0 {
-            return refused(q, self);
+        if let Err(why) = self.confirmed_refusal(unit) {
+            return refused(why.into(), self);
         }
         let next = confirmation_denied(self.control);
         fixed_made(self.with_control(next), Header::NegativeConfirmation)

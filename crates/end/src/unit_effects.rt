@@ -11,9 +11,8 @@ use crate::requests::fixed_made;
 use crate::results::accepted;
 use crate::{Done, End};
 use control::Control;
-use header::build::confirms;
 use header::{DataHeader, Header};
-use logical_record::Walked;
+use logical_record::{BadLength, Position};
 use receiving::incoming::request_counted;
 use receiving::units_received::{joined, owed_after};
 use sending::outgoing::credit_answered;
@@ -21,10 +20,18 @@ use transitions::{
     bid_answer, bid_received, confirmation_received, data_received, error_received,
     negative_confirmation_received, negative_response_received, positive_response_received,
 };
+use unit::Heading;
 
 impl End {
     // `walked` is what the one walk over the RU found.
-    fn join_data(self, d: DataHeader, number: u16, walked: Walked, ru: &[u8]) -> Done
+    #[tactic(auto, unfolding(crate::specs::ReceiveUnit::data_joined))]
+    fn join_data(
+        self,
+        d: DataHeader,
+        number: u16,
+        walked: Result<Position, BadLength>,
+        ru: &[u8],
+    ) -> Done
         requires { (walked ≡ walk self.receiving.taken ru.now) × (self.receiving.held + length ru.now ≤ self.receiving.inbox) }
         ensures { result ≡ done_of (data_joined self d number ru.now) }
     {
@@ -32,11 +39,12 @@ impl End {
         let next = joined(self.receiving, ru.len(), walked);
         let marked = data_received(self.control, ends);
         let mut end = self.with_control(marked).with_receiving(next);
-        end.owed = owed_after(confirms(ends), number, self.owed);
+        end.owed = owed_after(ends.confirms(), number, self.owed);
         accepted(0, end)
     }
 
     // An error header is counted as a request and leaves its mark. None of its bytes is for the program.
+    #[tactic(auto, unfolding(crate::specs::ReceiveUnit::error_marked))]
     fn mark_error(self) -> Done
         ensures { result ≡ done_of (error_marked self) }
     {
@@ -46,6 +54,7 @@ impl End {
     }
 
     // A bid is granted in Reset and refused in any other state.
+    #[tactic(auto, unfolding(crate::specs::ReceiveUnit::bid_answered))]
     fn answer_bid(self, number: u16) -> Done
         ensures { result ≡ done_of (bid_answered self number) }
     {
@@ -62,6 +71,7 @@ impl End {
         accepted(0, self.with_control(control))
     }
 
+    #[tactic(auto, unfolding(crate::specs::ReceiveUnit::credit_raised))]
     fn raise_credit(self) -> Done
         ensures { result ≡ done_of (credit_raised self) }
     {
@@ -70,11 +80,17 @@ impl End {
     }
 
     // A unit that no question refused.
-    pub(crate) fn receive_kind(self, header: Header, number: u16, walked: Walked, ru: &[u8]) -> Done
-        requires { (record_good self ≡ true) × (kind_refusal self header number ru.now ≡ 0)
-            × (walked ≡ walked_for header self.receiving.taken ru.now) }
-        ensures { result ≡ done_of (kind_received self header number ru.now) }
+    pub(crate) fn receive_kind(
+        self,
+        heading: Heading<Header>,
+        walked: Result<Position, BadLength>,
+        ru: &[u8],
+    ) -> Done
+        requires { (record_good self ≡ true) × (kind_refusal self heading.header heading.number ru.now ≡ 0)
+            × (walked ≡ walked_for heading.header self.receiving.taken ru.now) }
+        ensures { result ≡ done_of (kind_received self heading.header heading.number ru.now) }
     {
+        let Heading { number, header } = heading;
         match header {
             Header::Data(d) => self.join_data(d, number, walked, ru),
             Header::Bid(_) => self.answer_bid(number),

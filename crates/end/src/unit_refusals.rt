@@ -1,32 +1,45 @@
 // What is asked before a unit is taken: of the end, and then of the unit by its kind.
 ghost use Rattle.std.specs.Prelude.{◌≡◌};
+ghost use Rattle.answers.specs.Refusals.{outcome_number};
 ghost use Rattle.receiving.specs.UnitQuestions.{walked_for};
 ghost use Rattle.end.specs.Kinds.{end_refusal, kind_refusal};
 
 use crate::End;
-use answers::first_no::then_ask;
-use answers::numbers::{BAD_BUFFER, BAD_RECORD, UNREAD_MARK};
+use answers::questions::ask;
+use answers::refusals::Refusal;
 use header::Header;
-use logical_record::Walked;
+use logical_record::{BadLength, Position};
 use receiving::units_received::{
     bid_refusal, data_refusal, error_refusal, pacing_response_refusal, response_refusal,
 };
+use unit::Heading;
 
 impl End {
     // Of the end alone, before a byte of the unit is read.
-    pub(crate) fn end_refusal(self, inbox: usize, unit: usize) -> u8
-        ensures { result ≡ end_refusal self inbox unit }
+    #[tactic(auto, unfolding(crate::specs::Kinds::end_refusal))]
+    pub(crate) fn end_refusal(self, inbox: usize, unit: usize) -> Result<(), Refusal>
+        ensures { outcome_number result ≡ end_refusal self inbox unit }
     {
-        let q = then_ask(0, self.inbox_lent(inbox) & self.unit_lent(unit), BAD_BUFFER);
-        let q = then_ask(q, self.record_good(), BAD_RECORD);
-        then_ask(q, self.control.has_no_mark(), UNREAD_MARK)
+        ask(
+            self.inbox_lent(inbox) & self.unit_lent(unit),
+            Refusal::BadBuffer,
+        )?;
+        ask(self.record_good(), Refusal::BadRecord)?;
+        ask(self.control.has_no_mark(), Refusal::UnreadMark)
     }
 
     // By the kind of unit. A response to a bid carries the bid's number; a confirmation, or its refusal, the last one sent.
-    pub(crate) fn kind_refusal(self, header: Header, number: u16, walked: Walked, ru: &[u8]) -> u8
-        requires { walked ≡ walked_for header self.receiving.taken ru.now }
-        ensures { result ≡ kind_refusal self header number ru.now }
+    #[tactic(auto, unfolding(crate::specs::Kinds::kind_refusal))]
+    pub(crate) fn kind_refusal(
+        self,
+        heading: Heading<Header>,
+        walked: Result<Position, BadLength>,
+        ru: &[u8],
+    ) -> Result<(), Refusal>
+        requires { walked ≡ walked_for heading.header self.receiving.taken ru.now }
+        ensures { outcome_number result ≡ kind_refusal self heading.header heading.number ru.now }
     {
+        let Heading { number, header } = heading;
         let max = self.receiving.max;
         match header {
             Header::Data(d) => data_refusal(self.control, self.receiving, d, number, walked, ru),

@@ -2,20 +2,20 @@
 -- Assumes nothing.
 use Prim.Native.Nat.{ℕ}
 use mathlib.Core.Path.{◌≡◌, refl, ap, ◌∙◌}
-use mathlib.Core.Bool.{Bool, true, false, cond}
+use mathlib.Core.Bool.{true, false, cond}
 use mathlib.Core.List.{List}
 use lib.Dec.{eqb, leb}
 use lib.ListN.{length}
-use native.Mathlib.Omega.{arith}
+use Rattle.std.specs.Prelude.{Ok, Err}
 use Rattle.header.specs.Rules.{rule_number}
 use Rattle.header.specs.ExpeditedHeader.{expedited_good, broken_expedited, is_signal}
 use Rattle.header.specs.declared.ExpeditedHeader.{ExpeditedHeader}
 use Rattle.header.specs.declared.Rule.{Rule}
 use Rattle.unit.specs.Unit.{RU_START, number_in, header_in}
 use Rattle.unit.specs.ExpeditedUnit.{expedited_heading, read_expedited_unit}
-use Rattle.unit.specs.declared.ExpeditedHeading.{ExpeditedHeading}
-use Rattle.unit.specs.declared.ExpeditedUnitRead.{ExpeditedUnitRead}
-use Rattle.unit.specs.declared.ExpeditedUnitRead.TheVariants.{Good, TooShort, Breaks}
+use Rattle.unit.proofs.ReadByHeader.{good_of, short_of, broken_of}
+use Rattle.unit.specs.declared.Heading.{Heading}
+use Rattle.unit.specs.declared.Unreadable.TheVariants.{TooShort, Breaks}
 use Rattle.answers.specs.Answers.{BAD_HEADER, refused, refused_naming, expedited_answer}
 use Rattle.answers.specs.declared.Answer.{Answer}
 use Rattle.answers.proofs.Naming.{naming}
@@ -24,34 +24,14 @@ use Rattle.expedited.specs.Signals.{unit_taken}
 use Rattle.expedited.specs.Takes.{header_taken, ru_taken, field_questions, field_refusal, take_refusal, length_answered, rule_taken, unit_taken_by, headed_taken}
 use Rattle.expedited.specs.declared.Expedited.{Expedited}
 
--- ---- what was read of a unit, told from its head
-
-abbrev read_by : Bool → Bool → ExpeditedHeading → Rule → ExpeditedUnitRead
-read_by a b x rule = cond a (cond b (Good x) (Breaks rule)) TooShort
-
-good_of : (a b : Bool) (h x : ExpeditedHeading) (rule : Rule) → Good h ≡ read_by a b x rule → (a ≡ true) × (b ≡ true) × (h ≡ x)
-good_of true true h x rule e = (refl, refl, cc)
-good_of true false h x rule e = absurd (let z : ◌≡◌ {A = ℕ} 0 1 = cc in omega arith)
-good_of false b h x rule e = absurd (let z : ◌≡◌ {A = ℕ} 0 1 = cc in omega arith)
-
-short_of : (a b : Bool) (x : ExpeditedHeading) (rule : Rule) → TooShort ≡ read_by a b x rule → a ≡ false
-short_of true true x rule e = absurd (let z : ◌≡◌ {A = ℕ} 0 1 = cc in omega arith)
-short_of true false x rule e = absurd (let z : ◌≡◌ {A = ℕ} 0 1 = cc in omega arith)
-short_of false b x rule e = refl
-
-broken_of : (a b : Bool) (x : ExpeditedHeading) (named rule : Rule) → Breaks named ≡ read_by a b x rule → (a ≡ true) × (b ≡ false) × (named ≡ rule)
-broken_of true true x named rule e = absurd (let z : ◌≡◌ {A = ℕ} 0 1 = cc in omega arith)
-broken_of true false x named rule e = (refl, refl, cc)
-broken_of false b x named rule e = absurd (let z : ◌≡◌ {A = ℕ} 0 1 = cc in omega arith)
-
 -- ---- the answer where it is too short, or breaks a rule
 
-pub short_taken : (x : Expedited) (u : List ℕ) → TooShort ≡ read_expedited_unit u
+pub short_taken : (x : Expedited) (u : List ℕ) → Err TooShort ≡ read_expedited_unit u
     → record { answer = record { answer = refused 20; signalled = false }; next = x } ≡ unit_taken_by x u
 unfolding read_expedited_unit unit_taken_by take_refusal
 short_taken x u e = rw (short_of (leb RU_START (length u)) (expedited_good (header_in u)) (expedited_heading u) (broken_expedited (header_in u)) e)
 
-pub broken_taken : (x : Expedited) (u : List ℕ) (rule : Rule) → Breaks rule ≡ read_expedited_unit u
+pub broken_taken : (x : Expedited) (u : List ℕ) (rule : Rule) → Err (Breaks rule) ≡ read_expedited_unit u
     → record { answer = record { answer = refused_naming (rule_number rule) 21; signalled = false }; next = x } ≡ unit_taken_by x u
 unfolding read_expedited_unit unit_taken_by take_refusal
 broken_taken x u rule e =
@@ -64,7 +44,7 @@ asks_no_21 : (x : Expedited) (h : ExpeditedHeader) (n : ℕ) (ru : List ℕ) →
 unfolding field_refusal
 asks_no_21 x h n ru q = never 21 (field_questions x h n ru) refl q
 
-pub long : (u : List ℕ) (h : ExpeditedHeading) → Good h ≡ read_expedited_unit u → leb RU_START (length u) ≡ true
+pub long : (u : List ℕ) (h : Heading ExpeditedHeader) → Ok h ≡ read_expedited_unit u → leb RU_START (length u) ≡ true
 unfolding read_expedited_unit
 long u h e = (good_of (leb RU_START (length u)) (expedited_good (header_in u)) h (expedited_heading u) (broken_expedited (header_in u)) e).0
 
@@ -83,9 +63,9 @@ headed_is x u e =
     (naming (eqb q 0) (length_answered h) q (rule_taken u) (asks_no_21 x h (number_in u) (ru_taken u)))
     ∙ rw (← e)
 
-pub headed_taken_lem : (x : Expedited) (u : List ℕ) (h : ExpeditedHeading) → Good h ≡ read_expedited_unit u
+pub headed_taken_lem : (x : Expedited) (u : List ℕ) (h : Heading ExpeditedHeader) → Ok h ≡ read_expedited_unit u
     → headed_taken x h.header h.number (ru_taken u) ≡ unit_taken_by x u
 unfolding read_expedited_unit expedited_heading
 headed_taken_lem x u h e =
     let t = good_of (leb RU_START (length u)) (expedited_good (header_in u)) h (expedited_heading u) (broken_expedited (header_in u)) e in
-    ap (λ (k : ExpeditedHeading). headed_taken x k.header k.number (ru_taken u)) t.2 ∙ headed_is x u (row_left x u t.0 t.1)
+    ap (λ (k : Heading ExpeditedHeader). headed_taken x k.header k.number (ru_taken u)) t.2 ∙ headed_is x u (row_left x u t.0 t.1)

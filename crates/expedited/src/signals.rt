@@ -4,7 +4,7 @@ ghost use Rattle.expedited.specs.Signals.{no_signal, signal_made, unit_taken};
 
 use crate::Expedited;
 use header::ExpeditedHeader;
-use header::expedited::is_signal;
+use unit::Heading;
 use unit::sequence::next_number;
 
 // As opened.
@@ -25,25 +25,23 @@ pub fn signal_made(x: Expedited) -> Expedited
     Expedited {
         unanswered: true,
         sent: next_number(x.sent),
-        taken: x.taken,
+        ..x
     }
 }
 
 // A signal taken leaves its number; a response clears the flag.
-pub fn unit_taken(x: Expedited, h: ExpeditedHeader, number: u16) -> Expedited
-    ensures { result ≡ unit_taken h number x }
+pub fn unit_taken(x: Expedited, heading: Heading<ExpeditedHeader>) -> Expedited
+    ensures { result ≡ unit_taken heading.header heading.number x }
 {
-    if is_signal(h) {
+    if heading.header.is_signal() {
         Expedited {
-            unanswered: x.unanswered,
-            sent: x.sent,
-            taken: number,
+            taken: heading.number,
+            ..x
         }
     } else {
         Expedited {
             unanswered: false,
-            sent: x.sent,
-            taken: x.taken,
+            ..x
         }
     }
 }

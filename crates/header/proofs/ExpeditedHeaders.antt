@@ -6,6 +6,7 @@ use mathlib.Core.List.{[], ◌∷◌}
 use Prim.Native.Nat.{ℕ, ◌<◌}
 use native.Mathlib.Omega.{arith}
 use lib.Dec.{eqb}
+use Rattle.std.specs.Prelude.{Result, Ok, Err}
 use Rattle.bools.proofs.Cases.{never, split}
 use Rattle.bools.proofs.Tests.{both, follows_from}
 use Rattle.header.specs.Rules.{bytes, one_of, same_header, one_of_headers, lowest_broken, header_good, keeps}
@@ -20,8 +21,6 @@ use Rattle.header.specs.declared.Rule.{Rule}
 use Rattle.header.specs.declared.Rule.TheVariants.{H1, H2}
 use Rattle.header.specs.declared.ExpeditedHeader.{ExpeditedHeader}
 use Rattle.header.specs.declared.ExpeditedHeader.TheVariants.{Signal, SignalResponse}
-use Rattle.header.specs.declared.ExpeditedRead.{ExpeditedRead}
-use Rattle.header.specs.declared.ExpeditedRead.TheVariants.{Good, Breaks}
 use Rattle.header.proofs.FiniteHeader.{All, at_member, each, same_header_lem, at_header}
 use Rattle.header.proofs.EveryByte.{at_byte}
 use Rattle.header.proofs.HeadersCounted.{guarded_below, plausible, counted_where}
@@ -65,7 +64,7 @@ pub expedited_read_bytes : (h : HeaderBytes) → expedited_good h ≡ true → e
 unfolding rebuilt
 expedited_read_bytes h g = same_header_lem (expedited_bytes (expedited_fields h)) h (expedited_at rebuilt each_rebuilt h g)
 
-accepted : (ok : Bool) (f g : ExpeditedHeader) (r : Rule) → cond ok (Good g) (Breaks r) ≡ Good f → (ok ≡ true) × (g ≡ f)
+accepted : (ok : Bool) (f g : ExpeditedHeader) (r : Rule) → cond ok (Ok g) (Err r) ≡ Ok f → (ok ≡ true) × (g ≡ f)
 accepted true f g r e = (refl, cc)
 accepted false f g r e = absurd (let z : ◌≡◌ {A = ℕ} 0 1 = cc in omega arith)
 
@@ -78,15 +77,15 @@ expedited_read_is_built h f e =
 -- ---- the rule that is named
 
 -- by the two tests: H1 kept, and one of the two headers
-abbrev read_by : Bool → Bool → ExpeditedHeader → ExpeditedRead
-read_by h1 one f = cond (h1 && (not h1 || one)) (Good f) (Breaks (cond h1 H2 H1))
+abbrev read_by : Bool → Bool → ExpeditedHeader → Result ExpeditedHeader Rule
+read_by h1 one f = cond (h1 && (not h1 || one)) (Ok f) (Err (cond h1 H2 H1))
 
-named_h1 : (h1 one : Bool) (f : ExpeditedHeader) → read_by h1 one f ≡ Breaks H1 → h1 ≡ false
+named_h1 : (h1 one : Bool) (f : ExpeditedHeader) → read_by h1 one f ≡ Err H1 → h1 ≡ false
 named_h1 true true f e = absurd (let z : ◌≡◌ {A = ℕ} 0 1 = cc in omega arith)
 named_h1 true false f e = absurd (let z : ◌≡◌ {A = ℕ} 0 1 = cc in omega arith)
 named_h1 false one f e = refl
 
-named_h2 : (h1 one : Bool) (f : ExpeditedHeader) → read_by h1 one f ≡ Breaks H2 → not h1 || one ≡ false
+named_h2 : (h1 one : Bool) (f : ExpeditedHeader) → read_by h1 one f ≡ Err H2 → not h1 || one ≡ false
 named_h2 true true f e = absurd (let z : ◌≡◌ {A = ℕ} 0 1 = cc in omega arith)
 named_h2 true false f e = refl
 named_h2 false one f e = absurd (let z : ◌≡◌ {A = ℕ} 0 1 = cc in omega arith)
@@ -139,7 +138,7 @@ h1_bits : (x : ℕ) → x < 256 → bits_expedited_h1 (byte0 x) ≡ one_of x (0x
 h1_bits = at_byte (λ x. bits_expedited_h1 (byte0 x)) (λ x. one_of x (0x4B ∷ 0xCB ∷ [])) refl
 
 -- what is left of H2's list where byte 0 is one of the two
-one_row : (a c : Bool) (f : ExpeditedHeader) → cond (a && c) (Good f) (Breaks H2) ≡ read_by true (a && c || false) f
+one_row : (a c : Bool) (f : ExpeditedHeader) → cond (a && c) (Ok f) (Err H2) ≡ read_by true (a && c || false) f
 one_row true true f = refl
 one_row true false f = refl
 one_row false c f = refl
@@ -155,11 +154,11 @@ module _ (y z : ℕ) (hy : y < 256) (hz : z < 256) where
     (rw (unpaced true false false y hy, bracket false z hz) (one_row (eqb y 0x80) (eqb z 0x00) SignalResponse), tt),
   )
 
-no_kind : (x y z : ℕ) → one_of x (0x4B ∷ 0xCB ∷ []) ≡ false → Breaks H1 ≡ read_expedited (bytes x y z)
+no_kind : (x y z : ℕ) → one_of x (0x4B ∷ 0xCB ∷ []) ≡ false → Err H1 ≡ read_expedited (bytes x y z)
 unfolding read_expedited expedited_good broken_expedited
 no_kind x y z e = rw e
 
-no_bits : (x y z : ℕ) → bits_expedited_h1 (byte0 x) ≡ false → read_expedited_bits (bytes x y z) ≡ Breaks H1
+no_bits : (x y z : ℕ) → bits_expedited_h1 (byte0 x) ≡ false → read_expedited_bits (bytes x y z) ≡ Err H1
 unfolding read_expedited_bits
 no_bits x y z e = rw e
 

@@ -6,6 +6,7 @@ use Prim.Native.Nat.{ℕ}
 use native.Mathlib.Omega.{arith}
 use borrow.Author.Tests.{leb-true}
 use lib.Dec.{leb}
+use Rattle.std.specs.Prelude.{Ok, Err}
 use Rattle.bools.proofs.Tests.{left, right, or_right, not_true}
 use Rattle.bools.proofs.Finite.{Finite, pairs, bools, halves}
 use Rattle.header.specs.Rules.{keeps_h1, keeps_h2, keeps_h3, keeps_h4, keeps_h5, keeps_h6, keeps, breaks, rule_number, lowest, lowest_broken, header_good}
@@ -13,7 +14,6 @@ use Rattle.header.specs.Header.{fields_of, read_header}
 use Rattle.header.specs.HeaderClaims.{LowestNamed}
 use Rattle.header.specs.declared.HeaderBytes.{HeaderBytes}
 use Rattle.header.specs.declared.Header.{Header}
-use Rattle.header.specs.declared.HeaderRead.TheVariants.{Good, Breaks}
 use Rattle.header.specs.declared.Rule.{Rule}
 use Rattle.header.specs.declared.Rule.TheVariants.{H1, H2, H3, H4, H5, H6}
 
@@ -74,11 +74,11 @@ lowest_is : (h : HeaderBytes) → lowest_broken h ≡ lowest (broken (outcomes_o
 unfolding lowest_broken keeps
 lowest_is h = refl
 
-names : (ok : Bool) (f : Header) (l r : Rule) → cond ok (Good f) (Breaks l) ≡ Breaks r → (ok ≡ false) × (l ≡ r)
+names : (ok : Bool) (f : Header) (l r : Rule) → cond ok (Ok f) (Err l) ≡ Err r → (ok ≡ false) × (l ≡ r)
 names true f l r e = absurd (let z : ◌≡◌ {A = ℕ} 0 1 = cc in omega arith)
 names false f l r e = (refl, cc)
 
-module _ (h : HeaderBytes) (r : Rule) (e : read_header h ≡ Breaks r) where
+module _ (h : HeaderBytes) (r : Rule) (e : read_header h ≡ Err r) where
   abbrev p : Outcomes
   p = outcomes_of h
 

@@ -5,6 +5,7 @@ use mathlib.Core.Bool.{Bool, true, false, not, cond, ◌||◌}
 use Prim.Native.Nat.{ℕ, ◌+◌}
 use native.Mathlib.Omega.{arith}
 use lib.Dec.{leb}
+use Rattle.std.specs.Prelude.{Ok, Err}
 use Rattle.header.specs.Weights.{FIRST, LAST, DR1, DR2, EXCEPTION, PACING, BB, CD, CEB, on, bit}
 use Rattle.header.specs.Rules.{same_header, requests_confirmation, lowest_broken, header_good}
 use Rattle.header.specs.Header.{is_first, begins_bracket, is_last, confirms, follows_of, turns, ends_bracket, data_bytes, header_bytes, begin_of, follow_of, end_of, data_fields, fields_of, read_header}
@@ -20,7 +21,6 @@ use Rattle.header.specs.declared.Header.{Header}
 use Rattle.header.specs.declared.Header.TheVariants.{Data, Bid, ErrorDescription}
 use Rattle.header.specs.declared.Header.TheVariants.{PositiveBidResponse, NegativeBidResponse, Confirmation, NegativeConfirmation, PacingResponse}
 use Rattle.header.specs.declared.HeaderBytes.{HeaderBytes}
-use Rattle.header.specs.declared.HeaderRead.TheVariants.{Good, Breaks}
 use Rattle.header.specs.declared.Rule.{Rule}
 use Rattle.bools.proofs.Tests.{follows_from}
 use Rattle.header.proofs.FiniteHeader.{same_header_lem, data_headers}
@@ -135,7 +135,7 @@ read_bytes h g =
     same_header_lem (header_bytes (fields_of h)) h
     (follows_from (header_good h) (same_header (header_bytes (fields_of h)) h) (good_at rebuilt every_rebuilt h g) g)
 
-accepted : (ok : Bool) (f g : Header) (r : Rule) → cond ok (Good g) (Breaks r) ≡ Good f → (ok ≡ true) × (g ≡ f)
+accepted : (ok : Bool) (f g : Header) (r : Rule) → cond ok (Ok g) (Err r) ≡ Ok f → (ok ≡ true) × (g ≡ f)
 accepted true f g r e = (refl, cc)
 accepted false f g r e = absurd (let z : ◌≡◌ {A = ℕ} 0 1 = cc in omega arith)
 

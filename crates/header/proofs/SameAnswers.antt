@@ -6,6 +6,7 @@ use mathlib.Core.Bool.{Bool, true, false, not, cond, ◌&&◌, ◌||◌}
 use mathlib.Core.List.{[], ◌∷◌}
 use Prim.Native.Nat.{ℕ, ◌+◌, ◌<◌}
 use lib.Dec.{eqb}
+use Rattle.std.specs.Prelude.{Result, Ok, Err}
 use Rattle.bools.proofs.Cases.{split}
 use Rattle.bools.proofs.Finite.{Finite, pairs, bools}
 use Rattle.header.specs.Weights.{DR1, DR2, EXCEPTION, PACING, BB, on, bit}
@@ -18,8 +19,7 @@ use Rattle.header.specs.declared.DataHeader.{DataHeader}
 use Rattle.header.specs.declared.Header.{Header}
 use Rattle.header.specs.declared.Header.TheVariants.{Data, Bid, ErrorDescription}
 use Rattle.header.specs.declared.Header.TheVariants.{PositiveBidResponse, NegativeBidResponse, Confirmation, NegativeConfirmation, PacingResponse}
-use Rattle.header.specs.declared.HeaderRead.{HeaderRead}
-use Rattle.header.specs.declared.HeaderRead.TheVariants.{Good, Breaks}
+use Rattle.header.specs.declared.Rule.{Rule}
 use Rattle.header.specs.declared.Rule.TheVariants.{H1, H2, H3, H4, H5, H6}
 use Rattle.header.proofs.FiniteHeader.{All, at_member}
 use Rattle.header.proofs.Candidates.{heads}
@@ -44,7 +44,7 @@ dr2_bit = at_byte (λ y. data_h3 y && on DR2 y) requests_confirmation refl
 
 four : (k3 k4 k5 k6 : Bool) (d : DataHeader)
     → first_broken k3 k4 k5 k6 d
-    ≡ cond (k3 && (k4 && (k5 && k6))) (Good (Data d)) (Breaks (cond (not k3) H3 (cond (not k4) H4 (cond (not k5) H5 H6))))
+    ≡ cond (k3 && (k4 && (k5 && k6))) (Ok (Data d)) (Err (cond (not k3) H3 (cond (not k4) H4 (cond (not k5) H5 H6))))
 four false k4 k5 k6 d = refl
 four true false k5 k6 d = refl
 four true true false k6 d = refl
@@ -52,13 +52,13 @@ four true true true false d = refl
 four true true true true d = refl
 
 -- what H3 to H6 say of data
-abbrev by_rules : ℕ → ℕ → ℕ → HeaderRead
+abbrev by_rules : ℕ → ℕ → ℕ → Result Header Rule
 by_rules x y z =
-    cond (data_h3 y && (data_h4 x y && (data_h5 z && data_h6 x z))) (Good (Data (data_fields (bytes x y z))))
-    (Breaks (cond (not (data_h3 y)) H3 (cond (not (data_h4 x y)) H4 (cond (not (data_h5 z)) H5 H6))))
+    cond (data_h3 y && (data_h4 x y && (data_h5 z && data_h6 x z))) (Ok (Data (data_fields (bytes x y z))))
+    (Err (cond (not (data_h3 y)) H3 (cond (not (data_h4 x y)) H4 (cond (not (data_h5 z)) H5 H6))))
 
 -- the reader's answer where byte 1 says this of DR2, and of H3
-abbrev answered : ℕ → ℕ → ℕ → Bool → Bool → HeaderRead
+abbrev answered : ℕ → ℕ → ℕ → Bool → Bool → Result Header Rule
 answered x y z h3 dr2 =
     first_broken h3 (not dr2 || (byte0 x).last) (data_h5 z) (data_h6 x z)
     (record {
@@ -107,8 +107,8 @@ pub bracket : (bb : Bool) (z : ℕ) → z < 256 → bracket_is (byte2 z) bb ≡ 
 bracket = at_byte_and bools (λ bb z. bracket_is (byte2 z) bb) (λ bb z. eqb z (bit bb BB)) refl
 
 -- what H2 says where this is left of its list
-abbrev by_h2 : Bool → Header → HeaderRead
-by_h2 k f = cond (k && true) (Good f) (Breaks (cond (not k) H2 H6))
+abbrev by_h2 : Bool → Header → Result Header Rule
+by_h2 k f = cond (k && true) (Ok f) (Err (cond (not k) H2 H6))
 
 -- two rows of it, or one
 two_rows : (a b c : Bool) (f : Header) → fixed_read ((a || b) && c) f ≡ by_h2 (a && c || (b && c || false)) f
@@ -167,7 +167,7 @@ module _ (y z : ℕ) (hy : y < 256) (hz : z < 256) where
 
 -- ---- any other byte 0: H1
 
-no_kind : (x y z : ℕ) → keeps_h1 (bytes x y z) ≡ false → Breaks H1 ≡ read_header (bytes x y z)
+no_kind : (x y z : ℕ) → keeps_h1 (bytes x y z) ≡ false → Err H1 ≡ read_header (bytes x y z)
 unfolding read_header header_good lowest_broken keeps
 no_kind x y z e = rw e
 

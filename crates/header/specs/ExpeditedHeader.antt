@@ -1,7 +1,7 @@
 -- Headers on the expedited lines, by document 02's S-1: a signal is 4B 80 00, its answer CB 80 00. So what three bytes say is a function of the line: on the
 -- normal one 4B 80 00 breaks H2 and CB 80 00 is a grant.
 -- Assumes nothing.
-use Rattle.std.specs.Prelude.{◌+◌, Bool, true, false, not, cond, ◌&&◌, ◌||◌, List, [], ◌∷◌, eqb}
+use Rattle.std.specs.Prelude.{◌+◌, Bool, true, false, not, cond, ◌&&◌, ◌||◌, List, [], ◌∷◌, eqb, Result, Ok, Err}
 use Rattle.header.specs.Weights.{RESPONSE, FLOW_CONTROL, FORMAT, FIRST, LAST, DR1}
 use Rattle.header.specs.Rules.{bytes, one_of, one_of_headers}
 use Rattle.header.specs.declared.HeaderBytes.{HeaderBytes}
@@ -9,8 +9,6 @@ use Rattle.header.specs.declared.Rule.{Rule}
 use Rattle.header.specs.declared.Rule.TheVariants.{H1, H2}
 use Rattle.header.specs.declared.ExpeditedHeader.{ExpeditedHeader}
 use Rattle.header.specs.declared.ExpeditedHeader.TheVariants.{Signal, SignalResponse}
-use Rattle.header.specs.declared.ExpeditedRead.{ExpeditedRead}
-use Rattle.header.specs.declared.ExpeditedRead.TheVariants.{Good, Breaks}
 
 -- ---- the rules, of which these lines have two
 
@@ -49,5 +47,5 @@ expedited_fields h = cond (eqb h.b0 0x4B) Signal SignalResponse
 -- ---- reading
 
 -- what is read of three bytes on an expedited line
-unfoldable pub read_expedited : HeaderBytes → ExpeditedRead
-read_expedited h = cond (expedited_good h) (Good (expedited_fields h)) (Breaks (broken_expedited h))
+unfoldable pub read_expedited : HeaderBytes → Result ExpeditedHeader Rule
+read_expedited h = cond (expedited_good h) (Ok (expedited_fields h)) (Err (broken_expedited h))

@@ -1,6 +1,6 @@
 -- The fields of a header, and its bytes.
 -- Assumes nothing.
-use Rattle.std.specs.Prelude.{◌+◌, Bool, true, false, cond, eqb}
+use Rattle.std.specs.Prelude.{◌+◌, Bool, true, false, cond, eqb, Result, Ok, Err}
 use Rattle.header.specs.Weights.{RESPONSE, FLOW_CONTROL, FORMAT, SENSE, FIRST, LAST, DR1, DR2, EXCEPTION, PACING, BB, CD, CEB, on, bit}
 use Rattle.header.specs.Rules.{bytes, is_data, requests_confirmation, lowest_broken, header_good}
 use Rattle.header.specs.declared.HeaderBytes.{HeaderBytes}
@@ -12,10 +12,9 @@ use Rattle.header.specs.declared.ChainEnd.{ChainEnd}
 use Rattle.header.specs.declared.ChainEnd.TheVariants.{Continues, Last}
 use Rattle.header.specs.declared.DataHeader.{DataHeader}
 use Rattle.header.specs.declared.Header.{Header}
+use Rattle.header.specs.declared.Rule.{Rule}
 use Rattle.header.specs.declared.Header.TheVariants.{Data, Bid, ErrorDescription}
 use Rattle.header.specs.declared.Header.TheVariants.{PositiveBidResponse, NegativeBidResponse, Confirmation, NegativeConfirmation, PacingResponse}
-use Rattle.header.specs.declared.HeaderRead.{HeaderRead}
-use Rattle.header.specs.declared.HeaderRead.TheVariants as header_read
 
 -- ---- what a data header says
 
@@ -101,5 +100,5 @@ fields_of h =
 -- ---- reading
 
 -- what is read of three bytes: the fields of a good header, or the lowest rule that is broken
-unfoldable pub read_header : HeaderBytes → HeaderRead
-read_header h = cond (header_good h) (header_read.Good (fields_of h)) (header_read.Breaks (lowest_broken h))
+unfoldable pub read_header : HeaderBytes → Result Header Rule
+read_header h = cond (header_good h) (Ok (fields_of h)) (Err (lowest_broken h))

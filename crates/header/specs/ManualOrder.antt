@@ -1,11 +1,10 @@
 -- What is claimed of the reader's order, document 000's: no header gets another answer by it. Promised by the function
 -- `theorems::manual_order`.
 -- Assumes nothing.
-use Rattle.std.specs.Prelude.{◌≡◌, ℕ, ◌<◌}
+use Rattle.std.specs.Prelude.{◌≡◌, ℕ, ◌<◌, Err}
 use Rattle.header.specs.Rules.{bytes}
 use Rattle.header.specs.Header.{read_header}
 use Rattle.header.specs.HeaderSteps.{read_bits}
-use Rattle.header.specs.declared.HeaderRead.TheVariants.{Breaks}
 use Rattle.header.specs.declared.Rule.{Rule}
 use Rattle.header.specs.declared.Rule.TheVariants.{H1, H3, H5}
 
@@ -15,7 +14,7 @@ SameAnswers = (x y z : ℕ) → x < 256 → y < 256 → z < 256 → read_bits (b
 
 -- the reader's steps name this rule
 abbrev pub Names : ℕ → ℕ → ℕ → Rule → Type 0
-Names x y z r = read_bits (bytes x y z) ≡ Breaks r
+Names x y z r = read_bits (bytes x y z) ≡ Err r
 
 -- headers in which a bit breaks a rule and a later bit one of a lower number, or in which one bit alone would tell another kind
 pub record LaterBits : Type 0 where

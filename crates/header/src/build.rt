@@ -2,88 +2,12 @@
 ghost use Rattle.std.specs.Prelude.{◌≡◌, cond, ◌≤◌};
 ghost use Rattle.header.specs.Weights.{bit};
 ghost use Rattle.header.specs.Rules.{bytes};
-ghost use Rattle.header.specs.Header.{is_first, begins_bracket, is_last, confirms, follows_of, turns, ends_bracket, data_bytes, header_bytes};
+ghost use Rattle.header.specs.Header.{data_bytes, header_bytes};
 
 use crate::weights::{
     BB, CD, CEB, DR1, DR2, EXCEPTION, FIRST, FLOW_CONTROL, FORMAT, LAST, PACING, RESPONSE, SENSE,
 };
-use crate::{ChainBegin, ChainEnd, DataHeader, Follows, Header, HeaderBytes};
-
-pub fn is_first(b: ChainBegin) -> bool
-    ensures { result ≡ is_first b }
-{
-    match b {
-        ChainBegin::Continued => false,
-        ChainBegin::First => true,
-        ChainBegin::FirstWithBracket => true,
-    }
-}
-
-pub fn begins_bracket(b: ChainBegin) -> bool
-    ensures { result ≡ begins_bracket b }
-{
-    match b {
-        ChainBegin::Continued => false,
-        ChainBegin::First => false,
-        ChainBegin::FirstWithBracket => true,
-    }
-}
-
-pub fn is_last(e: ChainEnd) -> bool
-    ensures { result ≡ is_last e }
-{
-    match e {
-        ChainEnd::Continues => false,
-        ChainEnd::Last {
-            follows: _,
-            confirm: _,
-        } => true,
-    }
-}
-
-pub fn confirms(e: ChainEnd) -> bool
-    ensures { result ≡ confirms e }
-{
-    match e {
-        ChainEnd::Continues => false,
-        ChainEnd::Last {
-            follows: _,
-            confirm,
-        } => confirm,
-    }
-}
-
-pub fn follows_of(e: ChainEnd) -> Follows
-    ensures { result ≡ follows_of e }
-{
-    match e {
-        ChainEnd::Continues => Follows::Stay,
-        ChainEnd::Last {
-            follows,
-            confirm: _,
-        } => follows,
-    }
-}
-
-pub fn turns(f: Follows) -> bool
-    ensures { result ≡ turns f }
-{
-    match f {
-        Follows::Stay => false,
-        Follows::ChangeDirection => true,
-        Follows::EndBracket => false,
-    }
-}
-
-pub fn ends_bracket(f: Follows) -> bool
-    ensures { result ≡ ends_bracket f }
-{
-    match f {
-        Follows::Stay => false,
-        Follows::ChangeDirection => false,
-        Follows::EndBracket => true,
-    }
-}
+use crate::{DataHeader, Header, HeaderBytes};
 
 // The weight of a bit, or nothing.
 fn bit_of(b: bool, weight: u8) -> u8
@@ -104,15 +28,13 @@ fn response_bits(confirm: bool) -> u8
 fn build_data(d: DataHeader) -> HeaderBytes
     ensures { result ≡ data_bytes d }
 {
-    let begins = d.begins;
-    let ends = d.ends;
-    let follows = follows_of(ends);
+    let follows = d.ends.follows();
     HeaderBytes {
-        b0: bit_of(is_first(begins), FIRST) + bit_of(is_last(ends), LAST),
-        b1: response_bits(confirms(ends)) + bit_of(d.pacing, PACING),
-        b2: bit_of(begins_bracket(begins), BB)
-            + bit_of(turns(follows), CD)
-            + bit_of(ends_bracket(follows), CEB),
+        b0: bit_of(d.begins.is_first(), FIRST) + bit_of(d.ends.is_last(), LAST),
+        b1: response_bits(d.ends.confirms()) + bit_of(d.pacing, PACING),
+        b2: bit_of(d.begins.begins_bracket(), BB)
+            + bit_of(follows.turns(), CD)
+            + bit_of(follows.ends_bracket(), CEB),
     }
 }
 
@@ -138,21 +60,24 @@ fn bytes(b0: u8, b1: u8, b2: u8) -> HeaderBytes
 }
 
 // The three bytes of a header.
-pub fn build_header(h: Header) -> HeaderBytes
-    ensures { result ≡ header_bytes h }
-{
-    match h {
-        Header::Data(d) => build_data(d),
-        Header::Bid(pacing) => bytes(BID, DR1 + bit_of(pacing, PACING), BB),
-        Header::ErrorDescription(pacing) => bytes(
-            ERROR_DESCRIPTION,
-            EXCEPTION_RESPONSE + bit_of(pacing, PACING),
-            0,
-        ),
-        Header::PositiveBidResponse => bytes(POSITIVE_BID_RESPONSE, DR1, 0),
-        Header::NegativeBidResponse => bytes(NEGATIVE_BID_RESPONSE, EXCEPTION_RESPONSE, 0),
-        Header::Confirmation => bytes(DATA_RESPONSE, DR2, 0),
-        Header::NegativeConfirmation => bytes(NEGATIVE_CONFIRMATION, DR2 + EXCEPTION, 0),
-        Header::PacingResponse => bytes(DATA_RESPONSE, PACING, 0),
+impl From<Header> for HeaderBytes {
+    ghost from_gives = { λ h b. b ≡ header_bytes h };
+
+    #[tactic(auto, unfolding(crate::specs::Header::header_bytes))]
+    fn from(h: Header) -> HeaderBytes {
+        match h {
+            Header::Data(d) => build_data(d),
+            Header::Bid(pacing) => bytes(BID, DR1 + bit_of(pacing, PACING), BB),
+            Header::ErrorDescription(pacing) => bytes(
+                ERROR_DESCRIPTION,
+                EXCEPTION_RESPONSE + bit_of(pacing, PACING),
+                0,
+            ),
+            Header::PositiveBidResponse => bytes(POSITIVE_BID_RESPONSE, DR1, 0),
+            Header::NegativeBidResponse => bytes(NEGATIVE_BID_RESPONSE, EXCEPTION_RESPONSE, 0),
+            Header::Confirmation => bytes(DATA_RESPONSE, DR2, 0),
+            Header::NegativeConfirmation => bytes(NEGATIVE_CONFIRMATION, DR2 + EXCEPTION, 0),
+            Header::PacingResponse => bytes(DATA_RESPONSE, PACING, 0),
+        }
     }
 }

@@ -1,13 +1,13 @@
 // Headers on the expedited lines: a signal and its response, read and built. What three bytes say is a function of the line: 4B 80 00 is a
 // signal here and breaks H2 on the normal line; CB 80 00 is a signal's response here and a positive bid response there.
 ghost use Rattle.std.specs.Prelude.{◌≡◌};
-ghost use Rattle.header.specs.ExpeditedHeader.{is_signal, expedited_bytes, read_expedited};
+ghost use Rattle.header.specs.ExpeditedHeader.{expedited_bytes, read_expedited};
 ghost use Rattle.header.specs.ExpeditedSteps.{bits_expedited_h1, bits_expedited_h2};
 
-use crate::indicators::{Byte0, Byte1, Byte2, byte_0, byte_1, byte_2};
-use crate::read_header::{bracket_is, form_is};
+use crate::indicators::{Byte0, Byte1, Byte2};
+use crate::read_header::{bracket_is, form_is, keep};
 use crate::weights::{DR1, FIRST, FLOW_CONTROL, FORMAT, LAST, RESPONSE};
-use crate::{ExpeditedHeader, ExpeditedRead, HeaderBytes, Rule};
+use crate::{ExpeditedHeader, HeaderBytes, Rule};
 
 // H1, by figure D-1: flow control with format, without sense data, alone in its chain; a request or a response.
 fn keeps_h1(b: Byte0) -> bool
@@ -25,31 +25,22 @@ fn keeps_h2(b1: Byte1, b2: Byte2) -> bool
 }
 
 // What three bytes on an expedited line say. Byte 0, byte 1 and byte 2 are tested in this order, as on the normal line.
-pub fn read_expedited(h: HeaderBytes) -> ExpeditedRead
-    ensures { result ≡ read_expedited h }
-{
-    let b0 = byte_0(h.b0);
-    if !keeps_h1(b0) {
-        return ExpeditedRead::Breaks(Rule::H1);
-    }
-    let b1 = byte_1(h.b1);
-    let b2 = byte_2(h.b2);
-    if !keeps_h2(b1, b2) {
-        return ExpeditedRead::Breaks(Rule::H2);
-    }
-    if b0.response {
-        ExpeditedRead::Good(ExpeditedHeader::SignalResponse)
-    } else {
-        ExpeditedRead::Good(ExpeditedHeader::Signal)
-    }
-}
+impl TryFrom<HeaderBytes> for ExpeditedHeader {
+    type Error = Rule;
 
-pub fn is_signal(h: ExpeditedHeader) -> bool
-    ensures { result ≡ is_signal h }
-{
-    match h {
-        ExpeditedHeader::Signal => true,
-        ExpeditedHeader::SignalResponse => false,
+    ghost try_from_gives = { λ h r. r ≡ read_expedited h };
+
+    fn try_from(h: HeaderBytes) -> Result<ExpeditedHeader, Rule> {
+        let b0 = Byte0::from(h.b0);
+        keep(keeps_h1(b0), Rule::H1)?;
+        let b1 = Byte1::from(h.b1);
+        let b2 = Byte2::from(h.b2);
+        keep(keeps_h2(b1, b2), Rule::H2)?;
+        if b0.response {
+            Ok(ExpeditedHeader::SignalResponse)
+        } else {
+            Ok(ExpeditedHeader::Signal)
+        }
     }
 }
 
@@ -59,19 +50,22 @@ const SIGNAL: u8 = FLOW_CONTROL + FORMAT + FIRST + LAST;
 const SIGNAL_RESPONSE: u8 = RESPONSE + FLOW_CONTROL + FORMAT + FIRST + LAST;
 
 // The three bytes of a header on an expedited line.
-pub fn build_expedited(h: ExpeditedHeader) -> HeaderBytes
-    ensures { result ≡ expedited_bytes h }
-{
-    match h {
-        ExpeditedHeader::Signal => HeaderBytes {
-            b0: SIGNAL,
-            b1: DR1,
-            b2: 0,
-        },
-        ExpeditedHeader::SignalResponse => HeaderBytes {
-            b0: SIGNAL_RESPONSE,
-            b1: DR1,
-            b2: 0,
-        },
+impl From<ExpeditedHeader> for HeaderBytes {
+    ghost from_gives = { λ h b. b ≡ expedited_bytes h };
+
+    #[tactic(auto, unfolding(crate::specs::ExpeditedHeader::expedited_bytes))]
+    fn from(h: ExpeditedHeader) -> HeaderBytes {
+        match h {
+            ExpeditedHeader::Signal => HeaderBytes {
+                b0: SIGNAL,
+                b1: DR1,
+                b2: 0,
+            },
+            ExpeditedHeader::SignalResponse => HeaderBytes {
+                b0: SIGNAL_RESPONSE,
+                b1: DR1,
+                b2: 0,
+            },
+        }
     }
 }

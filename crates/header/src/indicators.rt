@@ -11,7 +11,7 @@ use crate::weights::{
 };
 
 // What byte 0 says: response or request, flow control or data, and so on; `other` is on if one of the bits is that no good header has on.
-#[derive(Clone, Copy)]
+#[derive(Clone, Copy, Debug, PartialEq, Eq)]
 pub struct Byte0 {
     pub response: bool,
     pub flow: bool,
@@ -23,7 +23,7 @@ pub struct Byte0 {
 }
 
 // What byte 1 says: the form of response, and pacing.
-#[derive(Clone, Copy)]
+#[derive(Clone, Copy, Debug, PartialEq, Eq)]
 pub struct Byte1 {
     pub dr1: bool,
     pub dr2: bool,
@@ -33,7 +33,7 @@ pub struct Byte1 {
 }
 
 // What byte 2 says: brackets, and change direction.
-#[derive(Clone, Copy)]
+#[derive(Clone, Copy, Debug, PartialEq, Eq)]
 pub struct Byte2 {
     pub bb: bool,
     pub cd: bool,
@@ -49,79 +49,85 @@ fn has(byte: u8, weight: u8) -> bool
     byte / weight % 2 == 1
 }
 
-pub fn byte_0(b: u8) -> Byte0
-    ensures { result ≡ byte0 b }
-{
-    // Bit 0, Request/Response indicator (RRI).
-    let response = has(b, RESPONSE);
-    // Bits 1 and 2, RU Category: 00 FM data, 10 data flow control, 01 network control, 11 session control.
-    let flow = has(b, FLOW_CONTROL);
-    let network = has(b, NETWORK_CONTROL);
-    // Bit 3, reserved.
-    let reserved = has(b, RESERVED_BIT_3);
-    // Bit 4, Format indicator (FI).
-    let format = has(b, FORMAT);
-    // Bit 5, Sense Data Included indicator (SDI).
-    let sense = has(b, SENSE);
-    // Bits 6 and 7, Chaining Control: Begin Chain indicator (BCI) and End Chain indicator (ECI).
-    let first = has(b, FIRST);
-    let last = has(b, LAST);
-    Byte0 {
-        response,
-        flow,
-        format,
-        sense,
-        first,
-        last,
-        other: network | reserved,
+impl From<u8> for Byte0 {
+    ghost from_gives = { λ b bits. bits ≡ byte0 b };
+
+    fn from(b: u8) -> Byte0 {
+        // Bit 0, Request/Response indicator (RRI).
+        let response = has(b, RESPONSE);
+        // Bits 1 and 2, RU Category: 00 FM data, 10 data flow control, 01 network control, 11 session control.
+        let flow = has(b, FLOW_CONTROL);
+        let network = has(b, NETWORK_CONTROL);
+        // Bit 3, reserved.
+        let reserved = has(b, RESERVED_BIT_3);
+        // Bit 4, Format indicator (FI).
+        let format = has(b, FORMAT);
+        // Bit 5, Sense Data Included indicator (SDI).
+        let sense = has(b, SENSE);
+        // Bits 6 and 7, Chaining Control: Begin Chain indicator (BCI) and End Chain indicator (ECI).
+        let first = has(b, FIRST);
+        let last = has(b, LAST);
+        Byte0 {
+            response,
+            flow,
+            format,
+            sense,
+            first,
+            last,
+            other: network | reserved,
+        }
     }
 }
 
-pub fn byte_1(b: u8) -> Byte1
-    ensures { result ≡ byte1 b }
-{
-    // Bits 0 to 3, Form of Response Requested: Definite Response 1 (DR1I), a reserved bit, Definite Response 2 (DR2I), Exception Response
-    // (ERI); in a response, where bit 3 is the Response Type indicator (RTI), the form of the response.
-    let dr1 = has(b, DR1);
-    let reserved_1 = has(b, RESERVED_BIT_1);
-    let dr2 = has(b, DR2);
-    let exception = has(b, EXCEPTION);
-    // Bits 4 and 5, reserved.
-    let reserved_4 = has(b, RESERVED_BIT_4);
-    let reserved_5 = has(b, RESERVED_BIT_5);
-    // Bit 6, Queued Response indicator (QRI).
-    let queued = has(b, QUEUED_RESPONSE);
-    // Bit 7, Pacing indicator (PI).
-    let pacing = has(b, PACING);
-    Byte1 {
-        dr1,
-        dr2,
-        exception,
-        pacing,
-        other: reserved_1 | (reserved_4 | (reserved_5 | queued)),
+impl From<u8> for Byte1 {
+    ghost from_gives = { λ b bits. bits ≡ byte1 b };
+
+    fn from(b: u8) -> Byte1 {
+        // Bits 0 to 3, Form of Response Requested: Definite Response 1 (DR1I), a reserved bit, Definite Response 2 (DR2I), Exception Response
+        // (ERI); in a response, where bit 3 is the Response Type indicator (RTI), the form of the response.
+        let dr1 = has(b, DR1);
+        let reserved_1 = has(b, RESERVED_BIT_1);
+        let dr2 = has(b, DR2);
+        let exception = has(b, EXCEPTION);
+        // Bits 4 and 5, reserved.
+        let reserved_4 = has(b, RESERVED_BIT_4);
+        let reserved_5 = has(b, RESERVED_BIT_5);
+        // Bit 6, Queued Response indicator (QRI).
+        let queued = has(b, QUEUED_RESPONSE);
+        // Bit 7, Pacing indicator (PI).
+        let pacing = has(b, PACING);
+        Byte1 {
+            dr1,
+            dr2,
+            exception,
+            pacing,
+            other: reserved_1 | (reserved_4 | (reserved_5 | queued)),
+        }
     }
 }
 
-pub fn byte_2(b: u8) -> Byte2
-    ensures { result ≡ byte2 b }
-{
-    // Bits 0 and 1, Bracket Control: Begin Bracket indicator (BBI), End Bracket indicator (EBI).
-    let bb = has(b, BB);
-    let eb = has(b, EB);
-    // Bit 2, Change Direction indicator (CDI).
-    let cd = has(b, CD);
-    // Bit 3, reserved.
-    let reserved = has(b, RESERVED_BIT_3);
-    // Bits 4 to 6: Code Selection (CSI), Enciphered Data (EDI), Padded Data (PDI) indicators.
-    let code = has(b, CODE_SELECTION);
-    let enciphered = has(b, ENCIPHERED);
-    let padded = has(b, PADDED);
-    // Bit 7, Bracket Control again: Conditional End Bracket indicator (CEBI).
-    let ceb = has(b, CEB);
-    Byte2 {
-        bb,
-        cd,
-        ceb,
-        other: eb | (reserved | (code | (enciphered | padded))),
+impl From<u8> for Byte2 {
+    ghost from_gives = { λ b bits. bits ≡ byte2 b };
+
+    fn from(b: u8) -> Byte2 {
+        // Bits 0 and 1, Bracket Control: Begin Bracket indicator (BBI), End Bracket indicator (EBI).
+        let bb = has(b, BB);
+        let eb = has(b, EB);
+        // Bit 2, Change Direction indicator (CDI).
+        let cd = has(b, CD);
+        // Bit 3, reserved.
+        let reserved = has(b, RESERVED_BIT_3);
+        // Bits 4 to 6: Code Selection (CSI), Enciphered Data (EDI), Padded Data (PDI) indicators.
+        let code = has(b, CODE_SELECTION);
+        let enciphered = has(b, ENCIPHERED);
+        let padded = has(b, PADDED);
+        // Bit 7, Bracket Control again: Conditional End Bracket indicator (CEBI).
+        let ceb = has(b, CEB);
+        Byte2 {
+            bb,
+            cd,
+            ceb,
+            other: eb | (reserved | (code | (enciphered | padded))),
+        }
     }
 }

@@ -1,12 +1,19 @@
 // A header read: bytes to fields, or the lowest rule that is broken. The bits are tested in document 000's order (header::indicators);
 // here the rules are asked of them. The quoted words head the paragraphs of document 000's appendix D.
-ghost use Rattle.std.specs.Prelude.{◌≡◌};
+ghost use Rattle.std.specs.Prelude.{◌≡◌, cond, Ok, Err};
 ghost use Rattle.header.specs.Header.{begin_of, follow_of, end_of, read_header};
 ghost use Rattle.header.specs.HeaderSteps.{bits_h1, form_is, bracket_is, fixed_read, request_read, response_read, positive_read};
-ghost use Rattle.header.specs.HeaderSteps.{bits_h3, bits_h4, bits_h5, bits_h6, fields_read, first_broken, data_read};
+ghost use Rattle.header.specs.HeaderSteps.{bits_h3, bits_h4, bits_h5, bits_h6, fields_read, data_read};
 
-use crate::indicators::{Byte0, Byte1, Byte2, byte_0, byte_1, byte_2};
-use crate::{ChainBegin, ChainEnd, DataHeader, Follows, Header, HeaderBytes, HeaderRead, Rule};
+use crate::indicators::{Byte0, Byte1, Byte2};
+use crate::{ChainBegin, ChainEnd, DataHeader, Follows, Header, HeaderBytes, Rule};
+
+// A rule that is kept, or that is named.
+pub(crate) fn keep(kept: bool, rule: Rule) -> Result<(), Rule>
+    ensures { result ≡ cond kept (Ok tt) (Err rule) }
+{
+    if kept { Ok(()) } else { Err(rule) }
+}
 
 // H1, by figure D-1's two formats. "RU Category": data or flow control, no other. "Format Indicator": a response has it in flow control
 // alone; a request has it in flow control, and in data where an FM header follows. "Sense Data Included Indicator": not in a request, as
@@ -39,18 +46,21 @@ pub(crate) fn bracket_is(b: Byte2, bb: bool) -> bool
 }
 
 // H2, of a fixed kind: its fields, where bytes 1 and 2 are as they must be.
-fn read_fixed(ok: bool, fields: Header) -> HeaderRead
+fn read_fixed(ok: bool, fields: Header) -> Result<Header, Rule>
     ensures { result ≡ fixed_read ok fields }
 {
-    if ok {
-        HeaderRead::Good(fields)
-    } else {
-        HeaderRead::Breaks(Rule::H2)
-    }
+    keep(ok, Rule::H2)?;
+    Ok(fields)
 }
 
 // A fixed request: an error description, RQE1 (1,0,1), or a bid, RQD1 (1,0,0) with BB. "Pacing": a request's pacing bit is free.
-fn read_request(b1: Byte1, b2: Byte2, exception: bool, bb: bool, fields: Header) -> HeaderRead
+fn read_request(
+    b1: Byte1,
+    b2: Byte2,
+    exception: bool,
+    bb: bool,
+    fields: Header,
+) -> Result<Header, Rule>
     ensures { result ≡ request_read b1 b2 exception bb fields }
 {
     let form = form_is(b1, true, false, exception);
@@ -65,7 +75,7 @@ fn read_response(
     dr2: bool,
     negative: bool,
     fields: Header,
-) -> HeaderRead
+) -> Result<Header, Rule>
     ensures { result ≡ response_read b1 b2 dr1 dr2 negative fields }
 {
     let form = form_is(b1, dr1, dr2, negative);
@@ -74,7 +84,7 @@ fn read_response(
 
 // A positive response to data: an isolated pacing response (IPR), of the form (0,0,0) with the pacing bit, or a confirmation, +RSP2
 // (0,1,0).
-fn read_positive(b1: Byte1, b2: Byte2) -> HeaderRead
+fn read_positive(b1: Byte1, b2: Byte2) -> Result<Header, Rule>
     ensures { result ≡ positive_read b1 b2 }
 {
     let pacing = b1.pacing;
@@ -119,14 +129,10 @@ fn keeps_h6(b0: Byte0, b2: Byte2) -> bool
 fn begin_of(first: bool, bb: bool) -> ChainBegin
     ensures { result ≡ begin_of first bb }
 {
-    if first {
-        if bb {
-            ChainBegin::FirstWithBracket
-        } else {
-            ChainBegin::First
-        }
-    } else {
-        ChainBegin::Continued
+    match (first, bb) {
+        (false, _) => ChainBegin::Continued,
+        (true, false) => ChainBegin::First,
+        (true, true) => ChainBegin::FirstWithBracket,
     }
 }
 
@@ -135,12 +141,10 @@ fn follow_of(cd: bool, ceb: bool) -> Follows
 {
     if cd {
         Follows::ChangeDirection
+    } else if ceb {
+        Follows::EndBracket
     } else {
-        if ceb {
-            Follows::EndBracket
-        } else {
-            Follows::Stay
-        }
+        Follows::Stay
     }
 }
 
@@ -167,57 +171,39 @@ fn data_fields(b0: Byte0, b1: Byte1, b2: Byte2) -> DataHeader
     }
 }
 
-// The lowest of the four rules that is not kept, or the fields.
-fn first_broken(h3: bool, h4: bool, h5: bool, h6: bool, fields: DataHeader) -> HeaderRead
-    ensures { result ≡ first_broken h3 h4 h5 h6 fields }
-{
-    if !h3 {
-        return HeaderRead::Breaks(Rule::H3);
-    }
-    if !h4 {
-        return HeaderRead::Breaks(Rule::H4);
-    }
-    if !h5 {
-        return HeaderRead::Breaks(Rule::H5);
-    }
-    if !h6 {
-        return HeaderRead::Breaks(Rule::H6);
-    }
-    HeaderRead::Good(Header::Data(fields))
-}
-
 // H3 to H6, of data. H4 and H6 look back at byte 0, and each waits for the whole of its own byte: in 00 90 88 BB, the first bit of byte 2,
 // breaks H6, but code selection, a later bit, breaks H5.
-fn read_data(b0: Byte0, b1: Byte1, b2: Byte2) -> HeaderRead
+fn read_data(b0: Byte0, b1: Byte1, b2: Byte2) -> Result<Header, Rule>
     ensures { result ≡ data_read b0 b1 b2 }
 {
-    let h3 = keeps_h3(b1);
-    let h4 = keeps_h4(b0, b1);
-    let h5 = keeps_h5(b2);
-    let h6 = keeps_h6(b0, b2);
-    let fields = data_fields(b0, b1, b2);
-    first_broken(h3, h4, h5, h6, fields)
+    keep(keeps_h3(b1), Rule::H3)?;
+    keep(keeps_h4(b0, b1), Rule::H4)?;
+    keep(keeps_h5(b2), Rule::H5)?;
+    keep(keeps_h6(b0, b2), Rule::H6)?;
+    Ok(Header::Data(data_fields(b0, b1, b2)))
 }
 
 // The fields of three bytes, or the lowest rule that they break. Byte 0, byte 1 and byte 2 are tested in this order; then the kind is
 // decided by byte 0, and the rules of that kind are asked. Of the bytes 0 that keep H1 the match leaves CF, a negative bid response.
-pub fn read_header(h: HeaderBytes) -> HeaderRead
-    ensures { result ≡ read_header h }
-{
-    let kind = h.b0;
-    let b0 = byte_0(kind);
-    if !keeps_h1(b0) {
-        return HeaderRead::Breaks(Rule::H1);
-    }
-    let b1 = byte_1(h.b1);
-    let b2 = byte_2(h.b2);
-    match kind {
-        0..=3 => read_data(b0, b1, b2),
-        0x0B => read_request(b1, b2, true, false, Header::ErrorDescription(b1.pacing)),
-        0x4B => read_request(b1, b2, false, true, Header::Bid(b1.pacing)),
-        0x83 => read_positive(b1, b2),
-        0x87 => read_response(b1, b2, false, true, true, Header::NegativeConfirmation),
-        0xCB => read_response(b1, b2, true, false, false, Header::PositiveBidResponse),
-        _ => read_response(b1, b2, true, false, true, Header::NegativeBidResponse),
+impl TryFrom<HeaderBytes> for Header {
+    type Error = Rule;
+
+    ghost try_from_gives = { λ h r. r ≡ read_header h };
+
+    fn try_from(h: HeaderBytes) -> Result<Header, Rule> {
+        let kind = h.b0;
+        let b0 = Byte0::from(kind);
+        keep(keeps_h1(b0), Rule::H1)?;
+        let b1 = Byte1::from(h.b1);
+        let b2 = Byte2::from(h.b2);
+        match kind {
+            0..=3 => read_data(b0, b1, b2),
+            0x0B => read_request(b1, b2, true, false, Header::ErrorDescription(b1.pacing)),
+            0x4B => read_request(b1, b2, false, true, Header::Bid(b1.pacing)),
+            0x83 => read_positive(b1, b2),
+            0x87 => read_response(b1, b2, false, true, true, Header::NegativeConfirmation),
+            0xCB => read_response(b1, b2, true, false, false, Header::PositiveBidResponse),
+            _ => read_response(b1, b2, true, false, true, Header::NegativeBidResponse),
+        }
     }
 }

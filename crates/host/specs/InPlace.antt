@@ -5,14 +5,12 @@ use Rattle.answers.specs.declared.ReadAnswer.{ReadAnswer}
 use Rattle.answers.specs.declared.ExpeditedAnswer.{ExpeditedAnswer}
 use Rattle.end.specs.declared.End.{End}
 use Rattle.end.specs.declared.Done.{Done}
-use Rattle.end.specs.declared.ReadDone.{ReadDone}
-use Rattle.end.specs.declared.ExpeditedDone.{ExpeditedDone}
 
-abbrev pub done_by : Answer → End → Done
+abbrev pub done_by : Answer → End → Done Answer
 done_by a e = record { answer = a; end = e }
 
-abbrev pub read_done_by : ReadAnswer → End → ReadDone
+abbrev pub read_done_by : ReadAnswer → End → Done ReadAnswer
 read_done_by a e = record { answer = a; end = e }
 
-abbrev pub expedited_done_by : ExpeditedAnswer → End → ExpeditedDone
+abbrev pub expedited_done_by : ExpeditedAnswer → End → Done ExpeditedAnswer
 expedited_done_by a e = record { answer = a; end = e }

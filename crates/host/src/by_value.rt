@@ -11,43 +11,38 @@ ghost use Rattle.end.specs.Results.{made_by, sent_by, taken_by, copied_by};
 use crate::in_place;
 use end::{Done, End, ReadDone};
 
-pub fn allocate(end: End, unit: &mut [u8]) -> Done
+pub fn allocate(mut end: End, unit: &mut [u8]) -> Done
     ensures { made_by result unit.new ≡ allocate end unit.old }
 {
-    let mut kept = end;
-    let answer = in_place::allocate(&mut kept, unit);
-    Done { answer, end: kept }
+    let answer = in_place::allocate(&mut end, unit);
+    Done { answer, end }
 }
 
-pub fn send_data(end: End, bytes: &[u8], send: &mut [u8], unit: &mut [u8]) -> Done
+pub fn send_data(mut end: End, bytes: &[u8], send: &mut [u8], unit: &mut [u8]) -> Done
     ensures { sent_by result send.new unit.new ≡ send_data end bytes.now send.old unit.old }
 {
-    let mut kept = end;
-    let answer = in_place::send_data(&mut kept, bytes, send, unit);
-    Done { answer, end: kept }
+    let answer = in_place::send_data(&mut end, bytes, send, unit);
+    Done { answer, end }
 }
 
-pub fn deallocate(end: End, confirm: bool, send: &[u8], unit: &mut [u8]) -> Done
+pub fn deallocate(mut end: End, confirm: bool, send: &[u8], unit: &mut [u8]) -> Done
     ensures { made_by result unit.new ≡ deallocate confirm end send.now unit.old }
 {
-    let mut kept = end;
-    let answer = in_place::deallocate(&mut kept, confirm, send, unit);
-    Done { answer, end: kept }
+    let answer = in_place::deallocate(&mut end, confirm, send, unit);
+    Done { answer, end }
 }
 
-pub fn receive_unit(end: End, taken: &[u8], inbox: &mut [u8], unit: &mut [u8]) -> Done
+pub fn receive_unit(mut end: End, taken: &[u8], inbox: &mut [u8], unit: &mut [u8]) -> Done
     ensures { taken_by result inbox.new unit.new
         ≡ receive_unit end taken.now inbox.old unit.old }
 {
-    let mut kept = end;
-    let answer = in_place::receive_unit(&mut kept, taken, inbox, unit);
-    Done { answer, end: kept }
+    let answer = in_place::receive_unit(&mut end, taken, inbox, unit);
+    Done { answer, end }
 }
 
-pub fn receive(end: End, inbox: &mut [u8], buffer: &mut [u8]) -> ReadDone
+pub fn receive(mut end: End, inbox: &mut [u8], buffer: &mut [u8]) -> ReadDone
     ensures { copied_by result inbox.new buffer.new ≡ receive end inbox.old buffer.old }
 {
-    let mut kept = end;
-    let answer = in_place::receive(&mut kept, inbox, buffer);
-    ReadDone { answer, end: kept }
+    let answer = in_place::receive(&mut end, inbox, buffer);
+    ReadDone { answer, end }
 }

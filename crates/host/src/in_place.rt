@@ -1,5 +1,6 @@
 // Document 01's ten calls, send error and the two calls of the expedited lines on a lent record: each calls the method and stores the
-// new record where the old one stood. Defer and withdraw, which are lent no buffer, have none here.
+// new record where the old one stood. The papers ask for each call on a lent record; each is three lines. Defer and withdraw, which are
+// lent no buffer, have none here.
 ghost use Rattle.std.specs.Prelude.{◌≡◌};
 ghost use Rattle.end.specs.Allocate.{allocate};
 ghost use Rattle.end.specs.SendData.{send_data};

@@ -17,54 +17,33 @@ fn session(role: u8) -> Session {
     }
 }
 
-// A unit that has gone out: its length, and the buffer at whose front it stands.
-#[derive(Clone, Copy)]
-struct Outgoing {
-    length: usize,
-    unit: [u8; 69],
-}
-
-// One record: LL, which counts itself, and four bytes of data.
-fn laboratory() -> Outgoing {
+// One record: LL, which counts itself, and four bytes of data. Answers the unit that goes out, which stands at the front of the
+// unit buffer.
+fn laboratory(unit: &mut [u8; 69]) -> &[u8] {
     let mut send = [0u8; 64];
-    let mut unit = [0u8; 69];
     let inbox = [0u8; 192];
-    let opened = open(session(0), &send, &unit, &inbox);
-    let begun = by_value::allocate(opened.end, &mut unit);
-    let given = by_value::send_data(begun.end, b"\x00\x06\x56\x34\x36\x0A", &mut send, &mut unit);
-    let done = by_value::deallocate(given.end, false, &send, &mut unit);
-    let answer = done.answer;
-    Outgoing {
-        length: answer.unit,
-        unit,
-    }
+    let opened = open(session(0), &send, unit, &inbox);
+    let begun = by_value::allocate(opened.end, unit);
+    let given = by_value::send_data(begun.end, b"\x00\x06\x56\x34\x36\x0A", &mut send, unit);
+    let done = by_value::deallocate(given.end, false, &send, unit);
+    unit.get(..done.answer.unit).unwrap_or(&[])
 }
 
-// Takes the unit at the front of `line` and reads into the buffer; answers the bytes copied.
-fn blender(line: &[u8], n: usize, buffer: &mut [u8]) -> usize {
-    if line.len() < n {
-        return 0;
-    }
+// Takes the unit and reads into the buffer; answers the bytes of the record.
+fn blender<'a>(line: &[u8], buffer: &'a mut [u8; 64]) -> &'a [u8] {
     let send = [0u8; 64];
     let mut unit = [0u8; 69];
     let mut inbox = [0u8; 192];
     let opened = open(session(1), &send, &unit, &inbox);
-    let done = by_value::receive_unit(opened.end, &line[..n], &mut inbox, &mut unit);
+    let done = by_value::receive_unit(opened.end, line, &mut inbox, &mut unit);
     let read = by_value::receive(done.end, &mut inbox, buffer);
-    let answer = read.answer;
-    answer.copied
+    buffer.get(..read.answer.copied).unwrap_or(&[])
 }
 
+// The data stand behind the two bytes of LL.
 fn main(rt: HostRuntime) -> io::Result<()> {
+    let mut unit = [0u8; 69];
     let mut buffer = [0u8; 64];
-    let sent = laboratory();
-    let unit = sent.unit;
-    let copied = blender(&unit, sent.length, &mut buffer);
-    if copied < 2 {
-        return Ok(());
-    }
-    if copied <= 64 {
-        rt.write_all(&buffer[2..copied])?;
-    }
-    Ok(())
+    let record = blender(laboratory(&mut unit), &mut buffer);
+    rt.write_all(record.get(2..).unwrap_or(&[]))
 }

@@ -10,7 +10,7 @@ use borrow.Author.Tests.{eqb-true}
 use Rattle.end.specs.declared.End.{End}
 use Rattle.image.specs.ImageParts.{byte_at, flag_byte, flag_at, flag_good, number_bytes, number_at, window_bytes, window_at, place_bytes, place_at, place_good, first_byte}
 use Rattle.image.specs.Image.{IMAGE, FORMAT, image_of, record_in, control_bytes, control_in, format_good, codes_good, flags_good, places_good, image_good, image_read}
-use Rattle.image.specs.declared.ImageRead.TheVariants.{Record}
+use Rattle.std.proofs.Common.{Ok}
 use Rattle.image.proofs.BackAndForth.{role_back, state_back, follows_back, mark_back, flag_back, number_back, place_back, role_good, state_good, follows_good, mark_good, flag_good_lem, place_good_lem, role_there, state_there, follows_there, mark_there, flag_there, number_there, place_there}
 use Rattle.image.proofs.OneByOne.{listed, listed_is, each}
 use Rattle.image.proofs.WhatIsRead.{record_known}
@@ -73,7 +73,7 @@ module _ (e : End) (g : first_byte e.sending.given < 256) (t : first_byte e.rece
   unfolding image_of
   image_length = refl
 
-  pub written_is_read : image_read (image_of e) ≡ Record e
+  pub written_is_read : image_read (image_of e) ≡ Ok e
   unfolding image_read
   written_is_read = rw (image_length, image_good_lem, record_back)
 
@@ -133,7 +133,7 @@ module _ (image : List ℕ) (bytes : (i : ℕ) → byte_at image i < 256) where
       let lines = beside (beside (flagged 43 (l 7)) (numbers 44)) (numbers 46) in
       beside (beside parts (flagged 42 (l 6))) lines
 
-  pub read_is_written : (e : End) → image_read image ≡ Record e → image_of e ≡ image
+  pub read_is_written : (e : End) → image_read image ≡ Ok e → image_of e ≡ image
   read_is_written e h =
       let k = record_known image e h in
       rw (← k.2) (whole k.1 ∙ ap (listed image 0) (sym k.0) ∙ listed_is image)

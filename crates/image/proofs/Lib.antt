@@ -1,6 +1,5 @@
 mod Writes
 mod OneByOne
-mod KindsFit
 mod BackAndForth
 mod WhatIsRefused
 pub mod WhatIsRead

@@ -4,7 +4,6 @@ use mathlib.Core.Path.{◌≡◌, refl, ap, ◌∙◌}
 use mathlib.Core.Bool.{Bool, true, false}
 use mathlib.Core.List.{List, [], ◌∷◌}
 use Prim.Native.Nat.{ℕ, zero, suc}
-use native.Mathlib.Omega.{arith}
 use lib.ListN.{length, get_or}
 use Rattle.answers.specs.FirstNo.{all_of}
 use Rattle.bools.proofs.Tests.{both}
@@ -31,9 +30,9 @@ each (a ∷ b ∷ bs) h (suc k) = each (b ∷ bs) (both a (all_of (b ∷ bs)) h)
 
 -- one that does not hold fails the row
 pub one_no : (bs : List Bool) (k : ℕ) → get_or bs k true ≡ false → all_of bs ≡ false
-one_no [] k h = absurd (let z : ◌≡◌ {A = ℕ} 0 1 = cc in omega arith)
+one_no [] k h = cc
 one_no (a ∷ []) zero h = h
-one_no (a ∷ []) (suc k) h = absurd (let z : ◌≡◌ {A = ℕ} 0 1 = cc in omega arith)
+one_no (a ∷ []) (suc k) h = cc
 one_no (a ∷ b ∷ bs) zero h = rw h
 one_no (true ∷ b ∷ bs) (suc k) h = one_no (b ∷ bs) k h
 one_no (false ∷ b ∷ bs) (suc k) h = refl

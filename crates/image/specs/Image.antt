@@ -1,9 +1,10 @@
 -- An end's record as an image of 48 bytes, with no padding; a host keeps it in memory of its own.
 -- Assumes nothing.
-use Rattle.std.specs.Prelude.{ℕ, Bool, cond, ◌&&◌, List, [], ◌∷◌, ◌++◌, eqb, leb, length}
+use Rattle.std.specs.Prelude.{ℕ, Bool, cond, ◌&&◌, List, [], ◌∷◌, ◌++◌, eqb, leb, length, Option, Some, None, Result, Ok, Err}
 use Rattle.control.specs.StateTests.{role_number, state_number, mark_number}
 use Rattle.control.specs.declared.Control.{Control}
-use Rattle.answers.specs.Answers.{BAD_BUFFER, BAD_RECORD}
+use Rattle.answers.specs.declared.refusals.Refusal.{Refusal}
+use Rattle.answers.specs.declared.refusals.Refusal.TheVariants.{BadBuffer, BadRecord}
 use Rattle.control.specs.StateTests.{role_of}
 use Rattle.expedited.specs.declared.Expedited.{Expedited}
 use Rattle.end.specs.declared.End.{End}
@@ -11,8 +12,6 @@ use Rattle.sending.specs.declared.Sending.{Sending}
 use Rattle.receiving.specs.declared.Receiving.{Receiving}
 use Rattle.image.specs.Codes.{state_of, follows_number, follows_of, mark_of}
 use Rattle.image.specs.ImageParts.{byte_at, flag_byte, flag_at, flag_good, number_bytes, number_at, window_bytes, window_at, place_bytes, place_at, place_good}
-use Rattle.image.specs.declared.ImageRead.{ImageRead}
-use Rattle.image.specs.declared.ImageRead.TheVariants.{Record, Refused}
 
 -- the length of an image
 abbrev pub IMAGE : ℕ
@@ -127,7 +126,10 @@ places_good image = place_good image 18 && (place_good image 32 && place_good im
 unfoldable pub image_good : List ℕ → Bool
 image_good image = format_good image && (codes_good image && (flags_good image && places_good image))
 
+abbrev pub good_record : List ℕ → Option End
+good_record image = cond (image_good image) (Some (record_in image)) None
+
 -- ---- what an image of any length and any bytes holds
 
-unfoldable pub image_read : List ℕ → ImageRead
-image_read image = cond (eqb (length image) IMAGE) (cond (image_good image) (Record (record_in image)) (Refused BAD_RECORD)) (Refused BAD_BUFFER)
+unfoldable pub image_read : List ℕ → Result End Refusal
+image_read image = cond (eqb (length image) IMAGE) (cond (image_good image) (Ok (record_in image)) (Err BadRecord)) (Err BadBuffer)

@@ -1,6 +1,6 @@
 -- The parts that occur more than once in an image: a flag, a number, a window, a record place. Each as its bytes, and read at the byte where it starts.
 -- Assumes nothing.
-use Rattle.std.specs.Prelude.{ℕ, ◌+◌, ◌/◌, ◌%◌, Bool, cond, List, [], ◌∷◌, eqb, leb, get_or}
+use Rattle.std.specs.Prelude.{ℕ, ◌+◌, ◌/◌, ◌%◌, Bool, cond, List, [], ◌∷◌, eqb, leb, get_or, Option, Some, None}
 use Rattle.unit.specs.Unit.{number_of}
 use Rattle.pacing.specs.declared.Window.{Window}
 use Rattle.logical_record.specs.declared.Position.{Position}
@@ -66,3 +66,7 @@ place_fits kind low high = cond (leb kind 1) (eqb (number_of high low) 0) (cond 
 
 abbrev pub place_good : List ℕ → ℕ → Bool
 place_good image at = place_fits (byte_at image at) (byte_at image (at + 1)) (byte_at image (at + 2))
+
+-- the place that three bytes hold, if they are one's
+abbrev pub place_read : List ℕ → ℕ → Option Position
+place_read image at = cond (place_good image at) (Some (place_at image at)) None

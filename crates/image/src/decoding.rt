@@ -1,36 +1,32 @@
 // An image read as a record. Any bytes may come in: first the length is asked, then the format, then every value that is a code, a
 // flag or a record place. Whether the record keeps document 01's rules is asked by each call, question 5.
-ghost use Rattle.std.specs.Prelude.{◌≡◌, length};
+ghost use Rattle.std.specs.Prelude.{◌≡◌};
 ghost use Rattle.image.specs.ImageParts.{place_at};
-ghost use Rattle.image.specs.Image.{IMAGE, format_good, codes_good, flags_good, sending_in, receiving_in, expedited_in, record_in, image_read};
+ghost use Rattle.image.specs.Image.{format_good, codes_good, flags_good, sending_in, receiving_in, expedited_in, record_in, good_record, image_read};
 
 use crate::codes::{follows_of, mark_of, state_of};
-use crate::image_parts::{number_at, place_at, place_good_at};
-use crate::{FORMAT, IMAGE, ImageRead};
-use answers::numbers::{BAD_BUFFER, BAD_RECORD};
-use control::Control;
-use control::state_tests::role_of;
+use crate::image_parts::{number_at, place_at};
+use crate::{FORMAT, IMAGE};
+use answers::refusals::Refusal;
+use control::{Control, Role};
 use end::{End, Receiving, Sending};
 use expedited::Expedited;
 use logical_record::Position;
 use pacing::Window;
 
-fn format_good(image: &[u8]) -> bool
-    requires { length image.now ≡ IMAGE }
+fn format_good(image: &[u8; IMAGE]) -> bool
     ensures { result ≡ format_good image.now }
 {
     image[0] == FORMAT
 }
 
-fn codes_good(image: &[u8]) -> bool
-    requires { length image.now ≡ IMAGE }
+fn codes_good(image: &[u8; IMAGE]) -> bool
     ensures { result ≡ codes_good image.now }
 {
     (image[1] <= 1) & ((image[2] <= 6) & ((image[3] <= 2) & (image[4] <= 6)))
 }
 
-fn flags_good(image: &[u8]) -> bool
-    requires { length image.now ≡ IMAGE }
+fn flags_good(image: &[u8; IMAGE]) -> bool
     ensures { result ≡ flags_good image.now }
 {
     (image[5] <= 1)
@@ -43,8 +39,8 @@ fn flags_good(image: &[u8]) -> bool
 
 // The record places are read first, by `read_image`: they are the parts whose reading branches. A window is written out, and not
 // read by a function of its own, so that its bytes are moved as they are.
-fn sending_in(image: &[u8], given: Position) -> Sending
-    requires { (length image.now ≡ IMAGE) × (given ≡ place_at image.now 18) }
+fn sending_in(image: &[u8; IMAGE], given: Position) -> Sending
+    requires { given ≡ place_at image.now 18 }
     ensures { result ≡ sending_in image.now }
 {
     Sending {
@@ -60,8 +56,8 @@ fn sending_in(image: &[u8], given: Position) -> Sending
     }
 }
 
-fn receiving_in(image: &[u8], taken: Position, read: Position) -> Receiving
-    requires { (length image.now ≡ IMAGE) × (taken ≡ place_at image.now 32) × (read ≡ place_at image.now 35) }
+fn receiving_in(image: &[u8; IMAGE], taken: Position, read: Position) -> Receiving
+    requires { (taken ≡ place_at image.now 32) × (read ≡ place_at image.now 35) }
     ensures { result ≡ receiving_in image.now }
 {
     Receiving {
@@ -79,8 +75,7 @@ fn receiving_in(image: &[u8], taken: Position, read: Position) -> Receiving
     }
 }
 
-fn expedited_in(image: &[u8]) -> Expedited
-    requires { length image.now ≡ IMAGE }
+fn expedited_in(image: &[u8; IMAGE]) -> Expedited
     ensures { result ≡ expedited_in image.now }
 {
     Expedited {
@@ -91,13 +86,13 @@ fn expedited_in(image: &[u8]) -> Expedited
 }
 
 // The control is written out here, and not by a function of its own, so that its first eight bytes are moved as they are.
-fn record_in(image: &[u8], given: Position, taken: Position, read: Position) -> End
-    requires { (length image.now ≡ IMAGE) × (given ≡ place_at image.now 18) × (taken ≡ place_at image.now 32) × (read ≡ place_at image.now 35) }
+fn record_in(image: &[u8; IMAGE], given: Position, taken: Position, read: Position) -> End
+    requires { (given ≡ place_at image.now 18) × (taken ≡ place_at image.now 32) × (read ≡ place_at image.now 35) }
     ensures { result ≡ record_in image.now }
 {
     End {
         control: Control {
-            role: role_of(image[1]),
+            role: Role::from(image[1]),
             state: state_of(image[2]),
             follows: follows_of(image[3]),
             mark: mark_of(image[4]),
@@ -115,28 +110,26 @@ fn record_in(image: &[u8], given: Position, taken: Position, read: Position) -> 
     }
 }
 
-// The record that the image holds, or the number that refuses it. Each record place is read right behind the question whether
-// it is one, so that its kind is asked once.
-pub fn read_image(image: &[u8]) -> ImageRead
+// The record, if every value is one that a record has.
+fn good_record(image: &[u8; IMAGE]) -> Option<End>
+    ensures { result ≡ good_record image.now }
+{
+    if !(format_good(image) & codes_good(image) & flags_good(image)) {
+        return None;
+    }
+    let given = place_at(image, 18)?;
+    let taken = place_at(image, 32)?;
+    let read = place_at(image, 35)?;
+    Some(record_in(image, given, taken, read))
+}
+
+// The record that the image holds. It is refused where the length is wrong, by 4, and where the format is another or a value is one
+// that no record has, by 5.
+pub fn read_image(image: &[u8]) -> Result<End, Refusal>
     ensures { result ≡ image_read image.now }
 {
-    if image.len() != IMAGE {
-        return ImageRead::Refused(BAD_BUFFER);
-    }
-    if format_good(image) & (codes_good(image) & flags_good(image)) {} else {
-        return ImageRead::Refused(BAD_RECORD);
-    }
-    if place_good_at(image, 18) {} else {
-        return ImageRead::Refused(BAD_RECORD);
-    }
-    let given = place_at(image, 18);
-    if place_good_at(image, 32) {} else {
-        return ImageRead::Refused(BAD_RECORD);
-    }
-    let taken = place_at(image, 32);
-    if place_good_at(image, 35) {} else {
-        return ImageRead::Refused(BAD_RECORD);
-    }
-    let read = place_at(image, 35);
-    ImageRead::Record(record_in(image, given, taken, read))
+    let Some(image) = image.as_array::<IMAGE>() else {
+        return Err(Refusal::BadBuffer);
+    };
+    good_record(image).ok_or(Refusal::BadRecord)
 }

@@ -3,44 +3,40 @@
 // of a record place are named, since its bytes go by them.
 ghost use Rattle.std.specs.Prelude.{◌≡◌, ◌+◌, ◌≤◌, ◌<◌, [], ◌∷◌, length};
 ghost use Rattle.cells.specs.Cells.{written};
-ghost use Rattle.unit.specs.Unit.{number_of};
+ghost use Rattle.image.specs.Image.{IMAGE};
 ghost use Rattle.image.specs.ImageParts.{flag_byte, number_bytes, number_at, window_bytes};
-ghost use Rattle.image.specs.ImageParts.{place_kind, place_value, place_bytes, place_at, place_good};
+ghost use Rattle.image.specs.ImageParts.{place_kind, place_value, place_bytes, place_read};
 
+use crate::IMAGE;
 use crate::codes::flag_code;
 use logical_record::Position;
 use pacing::Window;
 
-pub fn write_flag(image: &mut [u8], at: usize, on: bool)
-    requires { at < length image.old }
+pub fn write_flag(image: &mut [u8; IMAGE], at: usize, on: bool)
+    requires { at < IMAGE }
     ensures { image.new ≡ written at (flag_byte on ∷ []) image.old }
 {
     image[at] = flag_code(on);
 }
 
-fn number_of(low: u8, high: u8) -> u16
-    ensures { result ≡ number_of high low }
-{
-    (high as u16) * 256 + (low as u16)
-}
-
-pub fn number_at(image: &[u8], at: usize) -> u16
-    requires { at + 2 ≤ length image.now }
+pub fn number_at(image: &[u8; IMAGE], at: usize) -> u16
+    requires { at + 2 ≤ IMAGE }
     ensures { result ≡ number_at image.now at }
 {
-    number_of(image[at], image[at + 1])
+    u16::from_le_bytes([image[at], image[at + 1]])
 }
 
-pub fn write_number(image: &mut [u8], at: usize, n: u16)
-    requires { at + 2 ≤ length image.old }
+pub fn write_number(image: &mut [u8; IMAGE], at: usize, n: u16)
+    requires { at + 2 ≤ IMAGE }
     ensures { image.new ≡ written at (number_bytes n) image.old }
 {
-    image[at] = (n % 256) as u8;
-    image[at + 1] = (n / 256) as u8;
+    let [low, high] = n.to_le_bytes();
+    image[at] = low;
+    image[at + 1] = high;
 }
 
-pub fn write_window(image: &mut [u8], at: usize, w: Window)
-    requires { at + 3 ≤ length image.old }
+pub fn write_window(image: &mut [u8; IMAGE], at: usize, w: Window)
+    requires { at + 3 ≤ IMAGE }
     ensures { image.new ≡ written at (window_bytes w) image.old }
 {
     image[at] = w.size;
@@ -69,37 +65,31 @@ fn place_value(p: Position) -> u16
     }
 }
 
-pub fn place_at(image: &[u8], at: usize) -> Position
-    requires { at + 3 ≤ length image.now }
-    ensures { result ≡ place_at image.now at }
+// The record place at a byte, if its three bytes are one's. Between records the value is 0; after the first LL byte it is one byte.
+pub fn place_at(image: &[u8; IMAGE], at: usize) -> Option<Position>
+    requires { at + 3 ≤ IMAGE }
+    ensures { result ≡ place_read image.now at }
 {
     let kind = image[at];
-    if kind <= 1 {
-        return Position::Between(kind == 1);
+    let value = number_at(image, at + 1);
+    match kind {
+        0 | 1 => if value == 0 {
+            Some(Position::Between(kind == 1))
+        } else {
+            None
+        },
+        2 | 3 => Some(Position::Remaining(kind == 3, value)),
+        4 => if image[at + 2] == 0 {
+            Some(Position::AfterFirst(image[at + 1]))
+        } else {
+            None
+        },
+        _ => None,
     }
-    if kind == 4 {
-        return Position::AfterFirst(image[at + 1]);
-    }
-    Position::Remaining(kind == 3, number_at(image, at + 1))
 }
 
-// Between records the value is 0; after the first LL byte it is one byte.
-pub fn place_good_at(image: &[u8], at: usize) -> bool
-    requires { at + 3 ≤ length image.now }
-    ensures { result ≡ place_good image.now at }
-{
-    let kind = image[at];
-    if kind <= 1 {
-        return number_at(image, at + 1) == 0;
-    }
-    if kind == 4 {
-        return image[at + 2] == 0;
-    }
-    kind <= 3
-}
-
-pub fn write_place(image: &mut [u8], at: usize, p: Position)
-    requires { at + 3 ≤ length image.old }
+pub fn write_place(image: &mut [u8; IMAGE], at: usize, p: Position)
+    requires { at + 3 ≤ IMAGE }
     ensures { image.new ≡ written at (place_bytes p) image.old }
 {
     image[at] = place_kind(p);

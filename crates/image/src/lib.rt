@@ -54,11 +54,3 @@ pub const IMAGE: usize = 48;
 // older library refuses a state above 4. Format 4 has the error-due flag behind all that format 3 has, and format 5 behind that what is
 // kept of the expedited lines; an older library refuses each by its length. Images without a format began with the role, 0 or 1.
 pub const FORMAT: u8 = 5;
-
-// What an image holds: a record, or a refusal number: 4 where the length is wrong, 5 where the format is another or a value is one
-// that no record has.
-#[derive(Clone, Copy)]
-pub enum ImageRead {
-    Record(end::End),
-    Refused(u8),
-}

@@ -121,7 +121,7 @@ first_is : (k n : ℕ) (ks : List ℕ) → k ∷ ks ≡ n ∷ [] → (k ≡ n) �
 first_is k n ks e = (cc, cc)
 
 none_first : {X : Type 0} (k : ℕ) (ks : List ℕ) → k ∷ ks ≡ [] → X
-none_first k ks e = absurd (let z : ◌≡◌ {A = ℕ} 0 1 = cc in omega arith)
+none_first k ks e = cc
 
 pub record SignalTaken (y : Expedited) (taken k : ℕ) (ss rs : List ℕ) : Type 0 where
   pub next : k ≡ next_number taken

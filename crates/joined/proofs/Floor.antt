@@ -1,6 +1,6 @@
 -- The floor: whose turn it is, what is owed and what is waited for, as an automaton over the units that wait for an end.
 -- Assumes nothing.
-use Rattle.joined.proofs.JoinedWords.{ℕ, eq-eqb, eqb, Bool, true, false, not, cond, ◌&&◌, ◌||◌, List, ◌≡◌, refl, sym, arith, never, begins_bracket}
+use Rattle.joined.proofs.JoinedWords.{ℕ, eq-eqb, eqb, Bool, true, false, not, cond, ◌&&◌, ◌||◌, List, ◌≡◌, refl, sym, never, begins_bracket}
 use Rattle.joined.proofs.JoinedWords.{Continued, First, FirstWithBracket, ChainEnd, Continues, Last, Follows, Stay, ChangeDirection, EndBracket, Header}
 use Rattle.joined.proofs.JoinedWords.{is_first_speaker, is_bidder, is_reset, is_receive, is_confirm_awaited, is_nothing, holds_send, Role, FirstSpeaker, Bidder}
 use Rattle.joined.proofs.JoinedWords.{State}
@@ -347,11 +347,11 @@ holding_floor DeferEnd due f m owed sent e = refl
 -- ---- never both in send state
 
 pub not_both_send : (r : Role) (due due' : Bool) → Partners r (cond due send_bb send) (cond due' send_bb send) → ⊥
-not_both_send FirstSpeaker true true p = let z : ◌≡◌ {A = ℕ} 0 1 = cc in omega arith
-not_both_send FirstSpeaker true false p = let z : ◌≡◌ {A = ℕ} 0 1 = cc in omega arith
-not_both_send FirstSpeaker false true p = let z : ◌≡◌ {A = ℕ} 0 1 = cc in omega arith
-not_both_send FirstSpeaker false false p = let z : ◌≡◌ {A = ℕ} 0 1 = cc in omega arith
-not_both_send Bidder true true p = let z : ◌≡◌ {A = ℕ} 0 1 = cc in omega arith
-not_both_send Bidder true false p = let z : ◌≡◌ {A = ℕ} 0 1 = cc in omega arith
-not_both_send Bidder false true p = let z : ◌≡◌ {A = ℕ} 0 1 = cc in omega arith
-not_both_send Bidder false false p = let z : ◌≡◌ {A = ℕ} 0 1 = cc in omega arith
+not_both_send FirstSpeaker true true p = cc
+not_both_send FirstSpeaker true false p = cc
+not_both_send FirstSpeaker false true p = cc
+not_both_send FirstSpeaker false false p = cc
+not_both_send Bidder true true p = cc
+not_both_send Bidder true false p = cc
+not_both_send Bidder false true p = cc
+not_both_send Bidder false false p = cc

@@ -12,7 +12,8 @@ pub use mathlib.Core.Path.{◌≡◌, refl, sym, ap, ◌∙◌, subst, fun_ext}
 pub use native.Mathlib.Omega.{arith}
 pub use Rattle.bools.proofs.{Cases.never, Cases.cases, Cases.on, Tests.left, Tests.both, Tests.or_right}
 pub use Rattle.cells.specs.{Cells.front, Cells.written}
-pub use Rattle.logical_record.specs.{Positions.is_whole, Records.ended, Walk.walk, Walk.place_or, declared.Position.Position, declared.Walked.Walked}
+pub use Rattle.logical_record.specs.{Positions.is_whole, Records.ended, Walk.walk, Walk.place_or, declared.Position.Position, declared.BadLength.BadLength}
+pub use Rattle.std.specs.Prelude.{Result, Ok, Err}
 unfoldable pub use Rattle.logical_record.specs.{Walk.then_walk}
 pub use Rattle.logical_record.proofs.{Walks.walk_append, Walks.walk_prefix, Walks.Through, Walks.same_position}
 pub use Rattle.header.specs.{Header.is_first, Header.begins_bracket, Rules.header_good, declared.ChainBegin.TheVariants.Continued}

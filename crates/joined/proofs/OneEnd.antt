@@ -1,7 +1,8 @@
 -- What holds at one end by itself, whatever the other does: the places of the bytes given, taken and read, the credit count, and what reads say.
 -- Assumes nothing.
 use Rattle.joined.proofs.JoinedWords.{ℕ, ◌+◌, ◌*◌, ◌≤◌, ◌<◌, eqb, take, Bool, true, false, ◌&&◌, List, [], ◌∷◌, ◌++◌, append-nil, ◌≡◌, refl, sym, ap}
-use Rattle.joined.proofs.JoinedWords.{◌∙◌, arith, is_whole, ended, then_walk, walk, Position, Walked, walk_append, walk_prefix, Through, same_position}
+use Rattle.joined.proofs.JoinedWords.{◌∙◌, arith, is_whole, ended, then_walk, walk, Position, walk_append, walk_prefix, Through, same_position}
+use Rattle.joined.proofs.JoinedWords.{BadLength, Result, Ok}
 use Rattle.joined.proofs.JoinedWords.{credit, may_send, WhatReceived, read_refused, Station, Reply, Verb, count, is_pacing_response}
 use Rattle.joined.proofs.JoinedWords.{among, requests_among, Lane, normal, on_normal, Log, bytes_accepted, bytes_in_inbox, requests_made, pacing_responses_taken}
 use Rattle.joined.proofs.JoinedWords.{breaches, bad_reads, CompleteIsRight, MoreIsRight, NoneCrosses, is_breach, took, acted, Lines}
@@ -9,7 +10,6 @@ use native.Mathlib.Nat.{zero-add}
 use borrow.Author.Tests.{ne_eqb}
 use Rattle.logical_record.specs.Positions.{start, is_between, more_follows}
 use Rattle.logical_record.proofs.WholeRecords.{bit_remembered}
-use Rattle.logical_record.specs.declared.Walked.TheVariants.{At}
 use Rattle.control.specs.declared.WhatReceived.TheVariants as mark
 use Rattle.answers.specs.Answers.{refused, refused_naming, read_accepted}
 use Rattle.answers.specs.declared.Answer.{Answer}
@@ -47,10 +47,10 @@ values_of s =
     }
 
 pub record Local (v : Values) (xs : Log) : Type 0 where
-  pub given : walk start (bytes_accepted xs) ≡ At v.given
+  pub given : walk start (bytes_accepted xs) ≡ Ok v.given
   pub whole : v.sends ≡ false → is_whole v.given ≡ true
-  pub read : walk start (bytes_read xs) ≡ At v.inner.read
-  pub inbox : walk v.inner.read v.inner.inbox ≡ At v.inner.taken
+  pub read : walk start (bytes_read xs) ≡ Ok v.inner.read
+  pub inbox : walk v.inner.read v.inner.inbox ≡ Ok v.inner.taken
   pub counted : requests_made xs + v.credit ≡ v.inner.size * (1 + pacing_responses_taken xs)
   pub complete : CompleteIsRight xs
   pub more : MoreIsRight xs
@@ -58,8 +58,8 @@ pub record Local (v : Values) (xs : Log) : Type 0 where
   pub never_8 : bad_reads xs ≡ 0
   pub no_breach : breaches xs ≡ 0
 
-walk_more : (bs new : List ℕ) (p q : Position) → walk start bs ≡ At p → walk p new ≡ At q → walk start (bs ++ new) ≡ At q
-walk_more bs new p q e f = walk_append start bs new ∙ ap (λ (w : Walked). then_walk w new) e ∙ f
+walk_more : (bs new : List ℕ) (p q : Position) → walk start bs ≡ Ok p → walk p new ≡ Ok q → walk start (bs ++ new) ≡ Ok q
+walk_more bs new p q e f = walk_append start bs new ∙ ap (λ (w : Result Position BadLength). then_walk w new) e ∙ f
 
 -- ---- a call that copies no byte: bytes may be given, units made, a mark answered
 
@@ -69,7 +69,7 @@ reply a m buffer = record { answer = record { answer = a; copied = 0; complete =
 pub local_act :
     {v : Values} {xs : Log} (verb : Verb) (a : Answer) (m : WhatReceived) (buffer : List ℕ) (us : Lines Lane (List ℕ)) (w : Values)
     → Local v xs
-    → walk v.given (given verb a.refusal) ≡ At w.given
+    → walk v.given (given verb a.refusal) ≡ Ok w.given
     → (w.sends ≡ false → is_whole w.given ≡ true)
     → w.inner ≡ v.inner
     → requests_among (us normal) + w.credit ≡ v.credit
@@ -125,7 +125,7 @@ pub local_read :
     → 1 ≤ k
     → take k buffer ≡ first
     → v.inner.inbox ≡ first ++ rest
-    → walk v.inner.read first ≡ At w.inner.read
+    → walk v.inner.read first ≡ Ok w.inner.read
     → ((n : ℕ) → 0 < n → n < k → ended (walk v.inner.read (take n buffer)) ≡ false)
     → w.inner.inbox ≡ rest
     → w.sends ≡ v.sends
@@ -141,7 +141,7 @@ unfolding bytes_accepted bytes_read among requests_made pacing_responses_taken C
 local_read {v} {xs} asked k first rest buffer w l some f i r within b d g t z c =
     let p = v.inner.read in
     let q = w.inner.read in
-    let read' : walk start (bytes_read xs ++ take k buffer) ≡ At q = rw f (walk_more (bytes_read xs) first p q l.read r) in
+    let read' : walk start (bytes_read xs ++ take k buffer) ≡ Ok q = rw f (walk_more (bytes_read xs) first p q l.read r) in
     let through : Through p first rest v.inner.taken = walk_prefix p v.inner.taken first rest (rw i at l.inbox) in
     record {
       given = rw (append-nil (bytes_accepted xs), g) l.given;
@@ -156,7 +156,7 @@ local_read {v} {xs} asked k first rest buffer w l some f i r within b d g t z c 
       );
       more = (bit_remembered (bytes_read xs ++ take k buffer) q read', l.more);
       apart = (
-        λ n x y. ap ended (walk_append start (bytes_read xs) (take n buffer) ∙ ap (λ (w : Walked). then_walk w (take n buffer)) l.read) ∙ within n x y,
+        λ n x y. ap ended (walk_append start (bytes_read xs) (take n buffer) ∙ ap (λ (w : Result Position BadLength). then_walk w (take n buffer)) l.read) ∙ within n x y,
         l.apart,
       );
       never_8 = zero-add (bad_reads xs) ∙ l.never_8;
@@ -177,7 +177,7 @@ pub local_took :
     → w.given ≡ v.given
     → (w.sends ≡ false → is_whole w.given ≡ true)
     → w.inner.read ≡ v.inner.read
-    → walk w.inner.read w.inner.inbox ≡ At w.inner.taken
+    → walk w.inner.read w.inner.inbox ≡ Ok w.inner.taken
     → w.inner.size ≡ v.inner.size
     → requests_among (us normal) + w.credit ≡ v.credit + v.inner.size * count b
     → Local w (took normal u (plain a) us ∷ xs)

@@ -1,7 +1,8 @@
 -- Every call keeps what holds at its end by itself.
 -- Assumes nothing.
 use Rattle.joined.proofs.JoinedWords.{ℕ, ◌+◌, ◌*◌, ◌≤◌, ◌<◌, eqb, length, take, drop, take-take, length-take-le, Bool, true, false, List, [], ◌∷◌, ◌≡◌}
-use Rattle.joined.proofs.JoinedWords.{refl, sym, ap, ◌∙◌, arith, front, ended, then_walk, walk, place_or, Position, Walked, walk_append, walk_prefix}
+use Rattle.joined.proofs.JoinedWords.{refl, sym, ap, ◌∙◌, arith, front, ended, then_walk, walk, place_or, Position, walk_append, walk_prefix}
+use Rattle.joined.proofs.JoinedWords.{BadLength, Result, Ok, Err}
 use Rattle.joined.proofs.JoinedWords.{Through, Continues, Last, Follows, fixed_ru, bid_ru, RU_START, unit_of, number_in, paced, advanced, answered, credit}
 use Rattle.joined.proofs.JoinedWords.{bid_answer, spilled, data_received, read_refused, accepted, request_received, request_made, next_number, rest_bytes}
 use Rattle.joined.proofs.JoinedWords.{bid_made, closing, deferred, withdrawn, defer_cases, withdraw_cases, bytes_read, record_rest, copy_count}
@@ -14,9 +15,6 @@ use Rattle.joined.proofs.JoinedWords.{on_normal, Log, bytes_in_inbox, is_breach,
 use borrow.Author.Tests.{leb-true}
 use Rattle.logical_record.proofs.RecordEnds.{Inside}
 use Rattle.logical_record.proofs.Rests.{rest_some, rest_walks, rest_inside, RestIs}
-use Rattle.logical_record.specs.declared.Walked.TheVariants.{At, BadLength}
-use Rattle.logical_record.specs.declared.Rest.{Rest}
-use Rattle.logical_record.specs.declared.Rest.TheVariants as rest_is
 use Rattle.header.specs.declared.Header.TheVariants.{Bid, ErrorDescription, Confirmation, NegativeConfirmation, PacingResponse}
 use Rattle.joined.proofs.JoinedWords.{error_made, error_marked, send_error_cases, request_cases, on_expedited, error_ru, negative_confirmation_ru}
 use Rattle.control.specs.declared.WhatReceived.TheVariants as mark
@@ -44,7 +42,7 @@ module _ (s : Station) (xs : Log) (l : Local (values_of s) xs) where
   abbrev After : Verb → Acted Lane Station Reply (List ℕ) → Type 0
   After v m = Local (values_of m.end) (acted v m.answer m.sent ∷ xs)
 
-  here : walk s.end.sending.given [] ≡ At s.end.sending.given
+  here : walk s.end.sending.given [] ≡ Ok s.end.sending.given
   unfolding then_walk
   here = refl
 
@@ -72,7 +70,7 @@ module _ (s : Station) (xs : Log) (l : Local (values_of s) xs) where
       local_act v (accepted (RU_START + length ru)) mark.Nothing [] (on_normal (u ∷ [])) _ l here (closed_whole x c s.end.control _ n.clear a.whole) refl
       (request_made_lem s (next_number s.end.sending.number) h ru (data_asks s (Last x c)) a.good k) refl)
 
-  at_place : (g p : Position) (w : Walked) → w ≡ At p → w ≡ At (place_or g w)
+  at_place : (g p : Position) (w : Result Position BadLength) → w ≡ Ok p → w ≡ Ok (place_or g w)
   at_place g p w e = rw e
 
   -- ---- a read
@@ -87,9 +85,9 @@ module _ (s : Station) (xs : Log) (l : Local (values_of s) xs) where
   unfolding receive_refusal
   never_refused buffer q e = rw e (not_first (receive_questions s.end s.inbox (length buffer)) 8 refl (rw rest_is_lem))
 
-  bytes_of : (r : Rest) → rest_good r ≡ true → r ≡ rest_is.Bytes (rest_bytes r)
-  bytes_of (rest_is.Bytes n) e = refl
-  bytes_of rest_is.BadLength e = absurd (never (sym e))
+  bytes_of : (r : Result ℕ BadLength) → rest_good r ≡ true → r ≡ Ok (rest_bytes r)
+  bytes_of (Ok n) e = refl
+  bytes_of (Err bad) e = absurd (never (sym e))
 
   -- at least one byte is copied
   some_copied : (buffer : List ℕ) → ReadAsked s buffer → some_held s.end ≡ true → 1 ≤ read_count s buffer
@@ -223,7 +221,7 @@ module _ (s : Station) (xs : Log) (u : List ℕ) (l : Local (values_of s) xs) wh
       local_took u (accepted 0) (on_normal []) false _ l (counts_pacing _ e a) refl refl
       (λ m. l.whole (rw (not_holding s.end.control.state k.away))) refl
       (ap (walk r.read) (written_bytes r.held ru s.inbox (inbox_room s a.inbox a.good))
-      ∙ walk_append r.read (bytes_in_inbox s) ru ∙ ap (λ (x : Walked). then_walk x ru) l.inbox ∙ k.walked) refl same)
+      ∙ walk_append r.read (bytes_in_inbox s) ru ∙ ap (λ (x : Result Position BadLength). then_walk x ru) l.inbox ∙ k.walked) refl same)
       (λ p a e k m.
       local_took u (accepted (RU_START + length (fixed_ru h))) (on_normal (unit_of (number_in u) h (fixed_ru h) ∷ [])) false _ l
       (counts_pacing _ e a) refl refl

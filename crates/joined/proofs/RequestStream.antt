@@ -2,11 +2,11 @@
 -- taken, led on by the units on the line, is what the sending end has made.
 -- Assumes nothing.
 use Rattle.joined.proofs.JoinedWords.{ℕ, le-leb, eq-eqb, eqb, leb, length, Bool, true, false, not, cond, ◌&&◌, ◌||◌, List, [], ◌∷◌, ◌++◌, ◌≡◌, refl, sym}
-use Rattle.joined.proofs.JoinedWords.{ap, ◌∙◌, subst, arith, never, is_whole, then_walk, walk, place_or, Position, Walked, walk_append, walk_prefix, same_position}
+use Rattle.joined.proofs.JoinedWords.{ap, ◌∙◌, subst, arith, never, is_whole, then_walk, walk, place_or, Position, walk_append, walk_prefix, same_position}
+use Rattle.joined.proofs.JoinedWords.{BadLength, Result, Ok}
 use Rattle.joined.proofs.JoinedWords.{Through, is_first, header_good, ChainEnd, DataHeader, Header, marks, fixed_ru, ru_good, RU_START, unit_of, number_in}
 use Rattle.joined.proofs.JoinedWords.{header_in, unit_number, agree, next_number, header_received, ru_received, Station, Sort, sort_of, is_asking}
 use Rattle.joined.proofs.JoinedWords.{taken_header, bytes_in_send_buffer}
-use Rattle.logical_record.specs.declared.Walked.TheVariants.{At}
 use Rattle.header.specs.Header.{is_last}
 use Rattle.cells.specs.Equal.{same_bytes}
 use Rattle.header.specs.declared.Header.TheVariants.{Data, Bid, ErrorDescription}
@@ -134,7 +134,7 @@ pub record Stream (o : Outside) (i : Inside) (line : List (List ℕ)) : Type 0 w
   pub max : o.max ≡ i.max
   pub place : Position
   pub leads : Leads (stream_step i.window i.max) i.books line (books_out o place)
-  pub held : walk place o.held ≡ At o.given
+  pub held : walk place o.held ≡ Ok o.given
 
 -- ---- at the sending end
 
@@ -144,18 +144,18 @@ holding o h p =
 
 -- more bytes are held
 pub stream_keep : {o : Outside} {i : Inside} {line : List (List ℕ)} (new : List ℕ) (p : Position)
-    → Stream o i line → walk o.given new ≡ At p → Stream (holding o (o.held ++ new) p) i line
+    → Stream o i line → walk o.given new ≡ Ok p → Stream (holding o (o.held ++ new) p) i line
 stream_keep {o} new p s e =
     record {
       window = s.window;
       max = s.max;
       place = s.place;
       leads = s.leads;
-      held = walk_append s.place o.held new ∙ ap (λ (w : Walked). then_walk w new) s.held ∙ e;
+      held = walk_append s.place o.held new ∙ ap (λ (w : Result Position BadLength). then_walk w new) s.held ∙ e;
     }
 
 -- a data unit is whole at a mark
-marked : (ends : ChainEnd) (w : Walked) (p : Position) → w ≡ At p → not (marks ends) || is_whole p ≡ true → records_fit ends w ≡ true
+marked : (ends : ChainEnd) (w : Result Position BadLength) (p : Position) → w ≡ Ok p → not (marks ends) || is_whole p ≡ true → records_fit ends w ≡ true
 marked ends w p e h = rw e h
 
 -- the sending end after a request
@@ -178,7 +178,7 @@ pub stream_data : {o : Outside} {i : Inside} {line : List (List ℕ)} (d : DataH
     → ru_good o.max (Data d) ru ≡ true
     → d.pacing ≡ eqb o.position 0
     → is_first d.begins ≡ not o.chain
-    → ((x : Position) → walk x rest ≡ At o.given → not (marks d.ends) || is_whole x ≡ true)
+    → ((x : Position) → walk x rest ≡ Ok o.given → not (marks d.ends) || is_whole x ≡ true)
     → Stream (request_out o (not (is_last d.ends)) rest) i (line ++ (unit_of (next_number o.number) (Data d) ru ∷ []))
 stream_data {o} {i} {line} d ru rest s parts good pacing first whole =
     let t : Through s.place ru rest o.given =
@@ -236,7 +236,7 @@ stream_error {o} {i} {line} p s pacing chain none whole =
     let h = ErrorDescription p in
     let b : Books = books_out o s.place in
     let n = next_number o.number in
-    let still : walk s.place [] ≡ At o.given = rw none at s.held in
+    let still : walk s.place [] ≡ Ok o.given = rw none at s.held in
     let place : s.place ≡ o.given = same_position s.place o.given still in
     let f : fits i.max b h n (fixed_ru h) ≡ true = rw (agree_same _ _ pacing, eq-eqb n n refl, chain, place) whole in
     let e : next i.window b (tells p) (fixed_ru h) ≡ books_out (request_out o o.chain []) s.place = rw s.window in

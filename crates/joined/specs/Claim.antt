@@ -1,10 +1,9 @@
 -- Demand 3: what is claimed of two joined ends after every list of calls.
 -- Assumes nothing.
-use Rattle.std.specs.Prelude.{ℕ, ◌+◌, ◌*◌, ◌≡◌, true, false, List, [], ◌∷◌, ◌++◌}
+use Rattle.std.specs.Prelude.{ℕ, ◌+◌, ◌*◌, ◌≡◌, true, false, List, [], ◌∷◌, ◌++◌, Ok}
 use Rattle.logical_record.specs.Positions.{start, is_whole}
 use Rattle.logical_record.specs.Walk.{walk}
 use Rattle.logical_record.specs.Records.{whole_records, whole_tables}
-use Rattle.logical_record.specs.declared.Walked.TheVariants as walked
 use Rattle.control.specs.StateTests.{holds_send}
 use Rattle.control.specs.Questions.{may_send}
 use Rattle.answers.specs.Answers.{BAD_RECORD}
@@ -84,10 +83,10 @@ pub record TablesArrive (x y : JoinedEnd) : Type 0 where
 -- What reads hand out is cut exactly at record ends; and the places that the end keeps are those of the bytes given and read.
 pub record ReadsRight (x : JoinedEnd) : Type 0 where
   -- the bytes accepted so far walk to the given place
-  pub given : walk start (bytes_accepted x.log) ≡ walked.At x.end.end.sending.given
+  pub given : walk start (bytes_accepted x.log) ≡ Ok x.end.end.sending.given
   -- the bytes read so far walk to the read place, and the inbox walks from there to the taken place
-  pub read : walk start (bytes_read x.log) ≡ walked.At x.end.end.receiving.read
-  pub inbox : walk x.end.end.receiving.read (bytes_in_inbox x.end) ≡ walked.At x.end.end.receiving.taken
+  pub read : walk start (bytes_read x.log) ≡ Ok x.end.end.receiving.read
+  pub inbox : walk x.end.end.receiving.read (bytes_in_inbox x.end) ≡ Ok x.end.end.receiving.taken
   -- 'complete' is said exactly when the bytes read so far are whole records
   pub complete : CompleteIsRight x.log
   -- 'more' beside it exactly when the record completed says that another part follows

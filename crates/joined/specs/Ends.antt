@@ -2,7 +2,6 @@
 -- a lane.
 -- Assumes nothing.
 use Rattle.std.specs.Prelude.{ℕ, List, [], ◌≡◌, eqb, length}
-use mathlib.Core.HLevel.{Discrete}
 use Rattle.session.specs.Opening as O
 use Rattle.session.specs.declared.Session.{Session}
 use Rattle.calls.specs.Calls.{Station, Verb, Reply, refusal_in, Called, called, taken, taken_expedited}

@@ -1,31 +1,33 @@
 -- What a good LL bounds, and the record places that a number of bytes left gives.
 -- Assumes nothing.
-use mathlib.Core.Path.{◌≡◌, refl}
+use mathlib.Core.Path.{◌≡◌, refl, ap}
 use mathlib.Core.Bool.{Bool, true, false, cond}
 use Prim.Native.Nat.{ℕ, ◌+◌, ◌*◌, ◌-◌, ◌%◌, ◌≤◌, ◌<◌}
 use native.Mathlib.Nat.{mod-lt}
 use native.Mathlib.Omega.{arith}
 use lib.Dec.{leb, eqb}
 use borrow.Author.Tests.{le-leb, leb-true, eqb-true, eqb-false, eq-eqb, ne_eqb}
-use Rattle.logical_record.specs.Length.{more_bit, length_of}
+use Rattle.logical_record.specs.Length.{more_bit, part, bad_length, length_of}
 use Rattle.logical_record.specs.Positions.{remaining, is_position, is_between}
-use Rattle.logical_record.specs.declared.Length.TheVariants.{Part, Bad}
+use Rattle.std.specs.Prelude.{Ok, Err}
+use Rattle.logical_record.specs.declared.Length.{Length}
 use Rattle.logical_record.specs.declared.Position.TheVariants.{Remaining}
 
 -- 15 bits are below 32,768
 length_bounds' :
     (t : Bool) (ll n : ℕ) (more : Bool)
     → leb 2 (ll % more_bit) ≡ t
-    → cond t (Part (ll % more_bit) (leb more_bit ll)) Bad ≡ Part n more
+    → cond t (Ok (part (ll % more_bit) (leb more_bit ll))) (Err bad_length) ≡ Ok (part n more)
     → (2 ≤ n) × (n ≤ 32767)
 length_bounds' true ll n more g e =
-    let f : ll % more_bit ≡ n = cc in
+    let p : part (ll % more_bit) (leb more_bit ll) ≡ part n more = cc in
+    let f = ap (λ (l : Length). l.bytes) p in
     let l = leb-true 2 (ll % more_bit) g in
     let h : ll % more_bit < 32768 = mod-lt ll (omega arith) in
     (omega arith, omega arith)
-length_bounds' false ll n more g e = absurd (let z : ◌≡◌ {A = ℕ} 0 1 = cc in omega arith)
+length_bounds' false ll n more g e = cc
 
-pub length_bounds : (high low n : ℕ) (more : Bool) → length_of high low ≡ Part n more → (2 ≤ n) × (n ≤ 32767)
+pub length_bounds : (high low n : ℕ) (more : Bool) → length_of high low ≡ Ok (part n more) → (2 ≤ n) × (n ≤ 32767)
 length_bounds high low n more e = length_bounds' (leb 2 ((high * 256 + low) % more_bit)) (high * 256 + low) n more refl e
 
 pub remaining_some : (n : ℕ) (more : Bool) → 0 < n → remaining n more ≡ Remaining more n

@@ -10,16 +10,15 @@ use native.Mathlib.Omega.{arith}
 use lib.Dec.{leb}
 use lib.ListN.{length, get_or}
 use borrow.Author.Tests.{leb-false}
-use Rattle.logical_record.specs.Length.{more_bit, length_of}
+use Rattle.logical_record.specs.Length.{more_bit, bad_length, length_of}
 use Rattle.logical_record.specs.Positions.{remaining}
 use Rattle.logical_record.specs.Walk.{then_walk, walk}
 use Rattle.logical_record.specs.RecordClaims.{CanEnd}
+use Rattle.std.specs.Prelude.{Result, Ok, Err}
+use Rattle.logical_record.specs.declared.BadLength.{BadLength}
 use Rattle.logical_record.specs.declared.Length.{Length}
-use Rattle.logical_record.specs.declared.Length.TheVariants.{Part, Bad}
 use Rattle.logical_record.specs.declared.Position.{Position}
 use Rattle.logical_record.specs.declared.Position.TheVariants.{Between, AfterFirst, Remaining}
-use Rattle.logical_record.specs.declared.Walked.{Walked}
-use Rattle.logical_record.specs.declared.Walked.TheVariants.{At}
 use Rattle.logical_record.proofs.BytesLeft.{length_bounds, remaining_some}
 use Rattle.logical_record.proofs.Walks.{walk_append}
 use Rattle.logical_record.proofs.RecordEnds.{walk_data, walk_after_first}
@@ -55,33 +54,33 @@ last_bytes (suc zero) = omega arith
 last_bytes (suc (suc k)) = omega arith
 
 -- these bytes, then the last part
-ends_behind : (p : Position) (a : List ℕ) (more : Bool) → AreBytes a → walk p a ≡ At (Between more) → CanEnd p
+ends_behind : (p : Position) (a : List ℕ) (more : Bool) → AreBytes a → walk p a ≡ Ok (Between more) → CanEnd p
 unfolding then_walk
 ends_behind p a more f e =
     record {
       bytes = a ++ last_part;
       are_bytes = bytes_append a last_part f last_bytes;
       place = Between false;
-      reached = walk_append p a last_part ∙ ap (λ (w : Walked). then_walk w last_part) e;
+      reached = walk_append p a last_part ∙ ap (λ (w : Result Position BadLength). then_walk w last_part) e;
       whole = refl;
     }
 
 -- LL of which the second byte is 02 is good whatever the first is
-second_two : (l : Length) (high : ℕ) → length_of high 2 ≡ l → CanEnd (AfterFirst high)
-second_two (Part n more) high e =
-    let z = length_zeros (n - 2) in
-    let b = length_bounds high 2 n more e in
-    ends_behind (AfterFirst high) (2 ∷ zeros (n - 2)) more (bytes_append (2 ∷ []) (zeros (n - 2)) two (zeros_bytes (n - 2)))
-    (walk_after_first high 2 n more (zeros (n - 2)) e (omega arith)
-    ∙ ap (λ (m : ℕ). At (remaining m more)) (let f : n - 2 - length (zeros (n - 2)) ≡ 0 = omega arith in f))
+second_two : (l : Result Length BadLength) (high : ℕ) → length_of high 2 ≡ l → CanEnd (AfterFirst high)
+second_two (Ok l) high e =
+    let z = length_zeros (l.bytes - 2) in
+    let b = length_bounds high 2 l.bytes l.more e in
+    ends_behind (AfterFirst high) (2 ∷ zeros (l.bytes - 2)) l.more (bytes_append (2 ∷ []) (zeros (l.bytes - 2)) two (zeros_bytes (l.bytes - 2)))
+    (walk_after_first high 2 l.bytes l.more (zeros (l.bytes - 2)) e (omega arith)
+    ∙ ap (λ (m : ℕ). Ok (remaining m l.more)) (let f : l.bytes - 2 - length (zeros (l.bytes - 2)) ≡ 0 = omega arith in f))
   where
     two : AreBytes (2 ∷ [])
     two zero = omega arith
     two (suc k) = omega arith
-second_two Bad high e = absurd (bad (leb 2 ((high * 256 + 2) % more_bit)) refl e)
+second_two (Err x) high e = absurd (bad (leb 2 ((high * 256 + 2) % more_bit)) refl e)
   where
-    bad : (t : Bool) → leb 2 ((high * 256 + 2) % more_bit) ≡ t → length_of high 2 ≡ Bad → ⊥
-    bad true f e = let z : ◌≡◌ {A = ℕ} 0 1 = cc in omega arith
+    bad : (t : Bool) → leb 2 ((high * 256 + 2) % more_bit) ≡ t → length_of high 2 ≡ Err bad_length → ⊥
+    bad true f e = cc
     bad false f e =
         let r = leb-false 2 ((high * 256 + 2) % more_bit) f in
         let d = div-add-mod' (high * 256 + 2) more_bit in
@@ -96,4 +95,4 @@ every_place_can_end (Remaining more (suc n)) =
     let z = length_zeros (suc n) in
     ends_behind (Remaining more (suc n)) (zeros (suc n)) more (zeros_bytes (suc n))
     (rw (← remaining_some (suc n) more (omega arith)) (walk_data (suc n) more (zeros (suc n)) (omega arith))
-    ∙ ap (λ (m : ℕ). At (remaining m more)) (let f : suc n - length (zeros (suc n)) ≡ 0 = omega arith in f))
+    ∙ ap (λ (m : ℕ). Ok (remaining m more)) (let f : suc n - length (zeros (suc n)) ≡ 0 = omega arith in f))

@@ -1,5 +1,5 @@
 mod BytesLeft
-mod ReadAtIndex
+mod BytesAhead
 mod Groups
 mod CanEnd
 pub mod Walks

@@ -9,18 +9,15 @@ use lib.ListN.{length, take}
 use lib.Seq.{length-take-le}
 use lib.Dec.{eqb, leb}
 use borrow.Author.Tests.{ne_eqb, leb-true}
-use Rattle.logical_record.specs.Length.{length_of}
+use Rattle.logical_record.specs.Length.{part, bad_length, length_of}
 use Rattle.logical_record.specs.Positions.{remaining, most_remaining, is_position, is_between}
 use Rattle.logical_record.specs.Walk.{passed, then_walk, walk}
 use Rattle.logical_record.specs.RestOfRecord.{rest, rest_past, length_met}
+use Rattle.std.specs.Prelude.{Result, Ok, Err}
+use Rattle.logical_record.specs.declared.BadLength.{BadLength}
 use Rattle.logical_record.specs.declared.Length.{Length}
-use Rattle.logical_record.specs.declared.Length.TheVariants.{Part, Bad}
 use Rattle.logical_record.specs.declared.Position.{Position}
 use Rattle.logical_record.specs.declared.Position.TheVariants.{Between, AfterFirst, Remaining}
-use Rattle.logical_record.specs.declared.Walked.TheVariants.{At}
-use Rattle.logical_record.specs.declared.Walked.TheVariants as walked
-use Rattle.logical_record.specs.declared.Rest.{Rest}
-use Rattle.logical_record.specs.declared.Rest.TheVariants.{Bytes, BadLength}
 use Rattle.logical_record.proofs.BytesLeft.{length_bounds, remaining_some, between_remaining, eqb_none}
 use Rattle.logical_record.proofs.Walks.{walk_bad, at_not_bad}
 use Rattle.logical_record.proofs.RecordEnds.{Inside, walk_data, walk_after_first, walk_front}
@@ -30,20 +27,20 @@ use Rattle.bools.proofs.Tests.{both}
 record LengthIs (high low k n : ℕ) : Type 0 where
   whole : ℕ
   more : Bool
-  says : length_of high low ≡ Part whole more
+  says : length_of high low ≡ Ok (part whole more)
   left : whole - k ≡ n
 
-rest_is_good' : (l : Length) (high low k n : ℕ) → length_of high low ≡ l → rest_past k l ≡ Bytes n → LengthIs high low k n
-rest_is_good' (Part m more) high low k n g e = record { whole = m; more = more; says = g; left = cc }
-rest_is_good' Bad high low k n g e = absurd (let z : ◌≡◌ {A = ℕ} 0 1 = cc in omega arith)
+rest_is_good' : (l : Result Length BadLength) (high low k n : ℕ) → length_of high low ≡ l → rest_past k l ≡ Ok n → LengthIs high low k n
+rest_is_good' (Ok l) high low k n g e = record { whole = l.bytes; more = l.more; says = g; left = cc }
+rest_is_good' (Err bad) high low k n g e = cc
 
-rest_is_good : (high low k n : ℕ) → rest_past k (length_of high low) ≡ Bytes n → LengthIs high low k n
+rest_is_good : (high low k n : ℕ) → rest_past k (length_of high low) ≡ Ok n → LengthIs high low k n
 rest_is_good high low k n e = rest_is_good' (length_of high low) high low k n refl e
 
 -- where a read of k of the n bytes of the rest leads
 pub record ReadTo (p : Position) (held : List ℕ) (n k : ℕ) : Type 0 where
   pub position : Position
-  pub reached : walk p (take k held) ≡ At position
+  pub reached : walk p (take k held) ≡ Ok position
   pub between : is_between position ≡ (eqb k n && length_met p held)
 
 -- with m left after LL, of which j are read
@@ -53,7 +50,7 @@ read_data m j k n more e h =
     ∙ (ap (λ (i : ℕ). eqb i 0) (sym e) ∙ (eqb_none k n h ∙ sym (and-true (eqb k n))))
 
 pub read_to :
-    (p : Position) (held : List ℕ) (n k : ℕ) → rest p held ≡ Bytes n → 0 < k → k ≤ n → k ≤ length held → ReadTo p held n k
+    (p : Position) (held : List ℕ) (n k : ℕ) → rest p held ≡ Ok n → 0 < k → k ≤ n → k ≤ length held → ReadTo p held n k
 unfolding then_walk
 read_to (Between before) [] n k e some h l = absurd (omega arith)
 read_to (Between before) (high ∷ []) n zero e some h l = absurd (omega arith)
@@ -99,7 +96,7 @@ read_to (Remaining more m) held n k e some h l =
 -- with fewer bytes read than the rest has, the record does not end
 pub rest_inside :
     (p : Position) (held : List ℕ) (n k : ℕ)
-    → rest p held ≡ Bytes n
+    → rest p held ≡ Ok n
     → 0 < k
     → k < n
     → k ≤ length held
@@ -112,7 +109,7 @@ rest_inside p held n k e some h l =
 
 -- with a byte held, there is something to read
 pub rest_some :
-    (p : Position) (held : List ℕ) (n : ℕ) → is_position p ≡ true → 0 < length held → rest p held ≡ Bytes n → 0 < n
+    (p : Position) (held : List ℕ) (n : ℕ) → is_position p ≡ true → 0 < length held → rest p held ≡ Ok n → 0 < n
 rest_some (Between before) [] n v h e = absurd (omega arith)
 rest_some (Between before) (high ∷ []) n v h e = let f : 1 ≡ n = cc in omega arith
 rest_some (Between before) (high ∷ low ∷ bs) n v h e =
@@ -133,26 +130,26 @@ rest_some (Remaining more m) held n v h e =
 
 -- ---- bytes that walk have a rest
 
-rest_bad' : (l : Length) (k : ℕ) → rest_past k l ≡ BadLength → passed l ≡ walked.BadLength
-rest_bad' (Part n more) k e = absurd (let z : ◌≡◌ {A = ℕ} 0 1 = cc in omega arith)
-rest_bad' Bad k e = refl
+rest_bad' : (l : Result Length BadLength) (k : ℕ) → rest_past k l ≡ Err bad_length → passed l ≡ Err bad_length
+rest_bad' (Ok l) k e = cc
+rest_bad' (Err bad) k e = refl
 
-pub rest_bad : (p : Position) (held : List ℕ) → rest p held ≡ BadLength → walk p held ≡ walked.BadLength
+pub rest_bad : (p : Position) (held : List ℕ) → rest p held ≡ Err bad_length → walk p held ≡ Err bad_length
 unfolding then_walk
-rest_bad (Between before) [] e = absurd (let z : ◌≡◌ {A = ℕ} 0 1 = cc in omega arith)
-rest_bad (Between before) (high ∷ []) e = absurd (let z : ◌≡◌ {A = ℕ} 0 1 = cc in omega arith)
+rest_bad (Between before) [] e = cc
+rest_bad (Between before) (high ∷ []) e = cc
 rest_bad (Between before) (high ∷ low ∷ bs) e = rw (rest_bad' (length_of high low) 0 e) (walk_bad bs)
-rest_bad (AfterFirst high) [] e = absurd (let z : ◌≡◌ {A = ℕ} 0 1 = cc in omega arith)
+rest_bad (AfterFirst high) [] e = cc
 rest_bad (AfterFirst high) (low ∷ bs) e = rw (rest_bad' (length_of high low) 1 e) (walk_bad bs)
-rest_bad (Remaining more n) held e = absurd (let z : ◌≡◌ {A = ℕ} 0 1 = cc in omega arith)
+rest_bad (Remaining more n) held e = cc
 
 pub record RestIs (p : Position) (held : List ℕ) : Type 0 where
   pub bytes : ℕ
-  pub is : rest p held ≡ Bytes bytes
+  pub is : rest p held ≡ Ok bytes
 
-rest_is_lem : (p q : Position) (held : List ℕ) (r : Rest) → rest p held ≡ r → walk p held ≡ At q → RestIs p held
-rest_is_lem p q held (Bytes n) e f = record { bytes = n; is = e }
-rest_is_lem p q held BadLength e f = absurd (at_not_bad q (sym f ∙ rest_bad p held e))
+rest_is_lem : (p q : Position) (held : List ℕ) (r : Result ℕ BadLength) → rest p held ≡ r → walk p held ≡ Ok q → RestIs p held
+rest_is_lem p q held (Ok n) e f = record { bytes = n; is = e }
+rest_is_lem p q held (Err bad) e f = absurd (at_not_bad q (sym f ∙ rest_bad p held e))
 
-pub rest_walks : (p q : Position) (held : List ℕ) → walk p held ≡ At q → RestIs p held
+pub rest_walks : (p q : Position) (held : List ℕ) → walk p held ≡ Ok q → RestIs p held
 rest_walks p q held f = rest_is_lem p q held (rest p held) refl f

@@ -8,39 +8,38 @@ use native.Mathlib.Omega.{arith}
 use lib.ListN.{length, get_or, drop}
 use lib.Dec.{leb}
 use borrow.Author.Tests.{le-leb, leb-true}
-use Rattle.logical_record.specs.Length.{length_of}
+use Rattle.logical_record.specs.Length.{bad_length, length_of}
 use Rattle.logical_record.specs.Positions.{remaining, after_length, is_position}
 use Rattle.logical_record.specs.Walk.{passed, step, then_walk, walk}
+use Rattle.std.specs.Prelude.{Result, Ok, Err}
+use Rattle.logical_record.specs.declared.BadLength.{BadLength}
 use Rattle.logical_record.specs.declared.Length.{Length}
-use Rattle.logical_record.specs.declared.Length.TheVariants.{Part, Bad}
 use Rattle.logical_record.specs.declared.Position.{Position}
 use Rattle.logical_record.specs.declared.Position.TheVariants.{Between, AfterFirst, Remaining}
-use Rattle.logical_record.specs.declared.Walked.{Walked}
-use Rattle.logical_record.specs.declared.Walked.TheVariants.{At, BadLength}
 use Rattle.logical_record.proofs.BytesLeft.{length_bounds, remaining_some, remaining_position}
 use Rattle.bools.proofs.Tests.{both}
 
 -- ---- two lists, one after the other
 
-pub walk_bad : (bs : List ℕ) → then_walk BadLength bs ≡ BadLength
+pub walk_bad : (bs : List ℕ) → then_walk (Err bad_length) bs ≡ Err bad_length
 unfolding then_walk
 walk_bad [] = refl
 walk_bad (b ∷ bs) = refl
 
-pub then_walk_append : (w : Walked) (a b : List ℕ) → then_walk w (a ++ b) ≡ then_walk (then_walk w a) b
+pub then_walk_append : (w : Result Position BadLength) (a b : List ℕ) → then_walk w (a ++ b) ≡ then_walk (then_walk w a) b
 unfolding then_walk
 then_walk_append w [] b = refl
-then_walk_append (At p) (x ∷ a) b = then_walk_append (step p x) a b
-then_walk_append BadLength (x ∷ a) b = sym (walk_bad b)
+then_walk_append (Ok p) (x ∷ a) b = then_walk_append (step p x) a b
+then_walk_append (Err bad) (x ∷ a) b = sym (walk_bad b)
 
 pub walk_append : (p : Position) (a b : List ℕ) → walk p (a ++ b) ≡ then_walk (walk p a) b
-walk_append p a b = then_walk_append (At p) a b
+walk_append p a b = then_walk_append (Ok p) a b
 
 -- the answer is one of the two, and not both
-pub at_not_bad : (p : Position) → At p ≡ BadLength → ⊥
-at_not_bad p e = let z : ◌≡◌ {A = ℕ} 0 1 = cc in omega arith
+pub at_not_bad : (p : Position) → Ok p ≡ Err bad_length → ⊥
+at_not_bad p e = cc
 
-pub same_position : (p q : Position) → At p ≡ At q → p ≡ q
+pub same_position : (p q : Position) → ◌≡◌ {A = Result Position BadLength} (Ok p) (Ok q) → p ≡ q
 same_position p q e = cc
 
 -- ---- a part of what walks
@@ -48,14 +47,14 @@ same_position p q e = cc
 -- a walk over a, then b, passes a record place between them
 pub record Through (p : Position) (a b : List ℕ) (q : Position) : Type 0 where
   pub middle : Position
-  pub first : walk p a ≡ At middle
-  pub second : walk middle b ≡ At q
+  pub first : walk p a ≡ Ok middle
+  pub second : walk middle b ≡ Ok q
 
-through : (w : Walked) (p : Position) (a b : List ℕ) (q : Position) → walk p a ≡ w → then_walk w b ≡ At q → Through p a b q
-through (At m) p a b q e f = record { middle = m; first = e; second = f }
-through BadLength p a b q e f = absurd (at_not_bad q (sym f ∙ walk_bad b))
+through : (w : Result Position BadLength) (p : Position) (a b : List ℕ) (q : Position) → walk p a ≡ w → then_walk w b ≡ Ok q → Through p a b q
+through (Ok m) p a b q e f = record { middle = m; first = e; second = f }
+through (Err bad) p a b q e f = absurd (at_not_bad q (sym f ∙ walk_bad b))
 
-pub walk_prefix : (p q : Position) (a b : List ℕ) → walk p (a ++ b) ≡ At q → Through p a b q
+pub walk_prefix : (p q : Position) (a b : List ℕ) → walk p (a ++ b) ≡ Ok q → Through p a b q
 walk_prefix p q a b h = through (walk p a) p a b q refl (sym (walk_append p a b) ∙ h)
 
 -- ---- the data of a record, at once
@@ -91,13 +90,13 @@ walk_skip_forged (suc k) n more (b ∷ bs) one h l =
 
 -- ---- where walks lead
 
-passed_position : (l : Length) (high b : ℕ) (q : Position) → length_of high b ≡ l → passed l ≡ At q → is_position q ≡ true
-passed_position (Part n more) high b q g e =
-    rw (← same_position (after_length n more) q e)
-    (remaining_position (n - 2) more (let t = length_bounds high b n more g in omega arith))
-passed_position Bad high b q g e = absurd (at_not_bad q (sym e))
+passed_position : (l : Result Length BadLength) (high b : ℕ) (q : Position) → length_of high b ≡ l → passed l ≡ Ok q → is_position q ≡ true
+passed_position (Ok l) high b q g e =
+    rw (← same_position (after_length l.bytes l.more) q e)
+    (remaining_position (l.bytes - 2) l.more (let t = length_bounds high b l.bytes l.more g in omega arith))
+passed_position (Err bad) high b q g e = absurd (at_not_bad q (sym e))
 
-step_position : (p q : Position) (b : ℕ) → is_position p ≡ true → b < 256 → step p b ≡ At q → is_position q ≡ true
+step_position : (p q : Position) (b : ℕ) → is_position p ≡ true → b < 256 → step p b ≡ Ok q → is_position q ≡ true
 step_position (Between more) q b v l e = rw (← same_position (AfterFirst b) q e) (le-leb b 255 (omega arith))
 step_position (AfterFirst high) q b v l e = passed_position (length_of high b) high b q refl e
 step_position (Remaining more n) q b v l e =
@@ -108,7 +107,7 @@ pub walk_position :
     (p q : Position) (bs : List ℕ)
     → is_position p ≡ true
     → ((k : ℕ) → get_or bs k 0 < 256)
-    → walk p bs ≡ At q
+    → walk p bs ≡ Ok q
     → is_position q ≡ true
 unfolding then_walk
 walk_position p q [] v f e = rw (← same_position p q e) v

@@ -4,7 +4,6 @@ use mathlib.Core.Path.{◌≡◌, refl, ◌∙◌}
 use mathlib.Core.Bool.{Bool, true, false, not, cond, ◌&&◌}
 use mathlib.Core.List.{List, [], ◌∷◌, ◌++◌, append_assoc}
 use Prim.Native.Nat.{ℕ}
-use native.Mathlib.Omega.{arith}
 use Rattle.logical_record.specs.Groups.{known, groups_from, joined}
 use Rattle.logical_record.specs.Records.{is_record, are_records, whole_records, part_more, is_table, are_tables, last_more, tables_from, whole_tables, parts_left}
 use Rattle.logical_record.proofs.Groups.{groups_append, groups_items, left_none}
@@ -72,7 +71,7 @@ whole_tables_are bs = tables_are false [] (whole_records bs) refl (whole_records
 -- its last part ends it
 table_alone : (bit : Bool) (met t : List (List ℕ)) → is_table t ≡ true → groups_from last_more not bit met t ≡ (met ++ t) ∷ []
 unfolding groups_from
-table_alone bit met [] h = absurd (let z : ◌≡◌ {A = ℕ} 0 1 = cc in omega arith)
+table_alone bit met [] h = cc
 table_alone bit met (r ∷ []) h = rw (not_true (part_more r) (both (is_record r) (not (part_more r)) h).1)
 table_alone bit met (r ∷ s ∷ rs) h =
     let t = both (is_record r && part_more r) (is_table (s ∷ rs)) h in
@@ -80,7 +79,7 @@ table_alone bit met (r ∷ s ∷ rs) h =
     (table_alone true (met ++ (r ∷ [])) (s ∷ rs) t.1 ∙ rw (append_assoc met (r ∷ []) (s ∷ rs)))
 
 last_off : (bit : Bool) (t : List (List ℕ)) → is_table t ≡ true → not (known last_more bit t) ≡ true
-last_off bit [] h = absurd (let z : ◌≡◌ {A = ℕ} 0 1 = cc in omega arith)
+last_off bit [] h = cc
 last_off bit (r ∷ []) h = (both (is_record r) (not (part_more r)) h).1
 last_off bit (r ∷ s ∷ rs) h = last_off (part_more r) (s ∷ rs) (both (is_record r && part_more r) (is_table (s ∷ rs)) h).1
 

@@ -1,13 +1,12 @@
 -- What is claimed of the whole records and tables of a stream, and of record places. Proved in proofs/, and promised by the functions of
 -- `theorems`.
 -- Assumes nothing.
-use Rattle.std.specs.Prelude.{ℕ, ◌<◌, ◌≡◌, true, ◌&&◌, List, ◌++◌, get_or}
+use Rattle.std.specs.Prelude.{ℕ, ◌<◌, ◌≡◌, true, ◌&&◌, List, ◌++◌, get_or, Ok}
 use Rattle.logical_record.specs.Positions.{start, is_between, more_follows, is_whole}
 use Rattle.logical_record.specs.Walk.{walk}
 use Rattle.logical_record.specs.Groups.{joined}
 use Rattle.logical_record.specs.Records.{are_records, whole_records, pending, last_bit, are_tables, whole_tables, parts_left}
 use Rattle.logical_record.specs.declared.Position.{Position}
-use Rattle.logical_record.specs.declared.Walked.TheVariants.{At}
 
 -- ---- records
 
@@ -41,14 +40,14 @@ NoRecordLost = (bs : List ℕ) → joined (whole_tables bs) ++ parts_left (whole
 
 -- more is said exactly where a record has ended, and is what that record says: the place remembers it
 abbrev pub BitRemembered : Type 0
-BitRemembered = (bs : List ℕ) (p : Position) → walk start bs ≡ At p → more_follows p ≡ (is_between p && last_bit (whole_records bs))
+BitRemembered = (bs : List ℕ) (p : Position) → walk start bs ≡ Ok p → more_follows p ≡ (is_between p && last_bit (whole_records bs))
 
 -- some bytes lead from here to where nothing is unfinished
 pub record CanEnd (p : Position) : Type 0 where
   pub bytes : List ℕ
   pub are_bytes : (k : ℕ) → get_or bytes k 0 < 256
   pub place : Position
-  pub reached : walk p bytes ≡ At place
+  pub reached : walk p bytes ≡ Ok place
   pub whole : is_whole place ≡ true
 
 -- whatever has been given, also a first LL byte alone, some bytes complete record and table

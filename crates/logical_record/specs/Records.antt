@@ -1,21 +1,20 @@
 -- The whole logical records of a stream of bytes, and the whole tables.
 -- Assumes nothing.
-use Rattle.std.specs.Prelude.{ℕ, Bool, true, false, not, ◌&&◌, List, [], ◌∷◌, eqb, length}
+use Rattle.std.specs.Prelude.{ℕ, Bool, true, false, not, ◌&&◌, List, [], ◌∷◌, eqb, length, Result, Ok, Err}
 use Rattle.logical_record.specs.Length.{length_of, says_more}
 use Rattle.logical_record.specs.Positions.{start, is_between}
 use Rattle.logical_record.specs.Walk.{step}
 use Rattle.logical_record.specs.Groups.{known, groups_from, left_from}
+use Rattle.logical_record.specs.declared.BadLength.{BadLength}
 use Rattle.logical_record.specs.declared.Length.{Length}
-use Rattle.logical_record.specs.declared.Length.TheVariants.{Part, Bad}
-use Rattle.logical_record.specs.declared.Walked.{Walked}
-use Rattle.logical_record.specs.declared.Walked.TheVariants.{At, BadLength}
+use Rattle.logical_record.specs.declared.Position.{Position}
 
 -- ---- records
 
 -- a good LL, and it says this length
-abbrev pub says_length : ℕ → Length → Bool
-says_length k (Part n more) = eqb k n
-says_length k Bad = false
+abbrev pub says_length : ℕ → Result Length BadLength → Bool
+says_length k (Ok l) = eqb k l.bytes
+says_length k (Err bad) = false
 
 -- one whole record: as long as its good LL says
 abbrev pub is_record : List ℕ → Bool
@@ -28,25 +27,25 @@ are_records [] = true
 are_records (r ∷ rs) = is_record r && are_records rs
 
 -- a record ends here
-abbrev pub ended : Walked → Bool
-ended (At p) = is_between p
-ended BadLength = false
+abbrev pub ended : Result Position BadLength → Bool
+ended (Ok p) = is_between p
+ended (Err bad) = false
 
 -- the walk one byte further
-abbrev pub further : Walked → ℕ → Walked
-further (At p) b = step p b
-further BadLength b = BadLength
+abbrev pub further : Result Position BadLength → ℕ → Result Position BadLength
+further (Ok p) b = step p b
+further (Err bad) b = Err bad
 
 -- the whole records at the front of a stream, in order; they stop at a bad LL
-abbrev pub records_from : Walked → List ℕ → List ℕ → List (List ℕ)
+abbrev pub records_from : Result Position BadLength → List ℕ → List ℕ → List (List ℕ)
 records_from w met bs = groups_from further ended w met bs
 
 abbrev pub whole_records : List ℕ → List (List ℕ)
-whole_records bs = records_from (At start) [] bs
+whole_records bs = records_from (Ok start) [] bs
 
 -- the bytes that are in none of these records
 abbrev pub pending : List ℕ → List ℕ
-pending bs = left_from further ended (At start) [] bs
+pending bs = left_from further ended (Ok start) [] bs
 
 -- ---- tables: records up to one that says that no other part follows
 

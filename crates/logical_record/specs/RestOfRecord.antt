@@ -1,27 +1,25 @@
 -- How much of the current record a read may copy.
 -- Assumes nothing.
-use Rattle.std.specs.Prelude.{ℕ, ◌-◌, Bool, true, false, List, [], ◌∷◌}
+use Rattle.std.specs.Prelude.{ℕ, ◌-◌, Bool, true, false, List, [], ◌∷◌, Result, Ok, Err}
 use Rattle.logical_record.specs.Length.{length_of}
+use Rattle.logical_record.specs.declared.BadLength.{BadLength}
 use Rattle.logical_record.specs.declared.Length.{Length}
-use Rattle.logical_record.specs.declared.Length.TheVariants.{Part, Bad}
 use Rattle.logical_record.specs.declared.Position.{Position}
 use Rattle.logical_record.specs.declared.Position.TheVariants.{Between, AfterFirst, Remaining}
-use Rattle.logical_record.specs.declared.Rest.{Rest}
-use Rattle.logical_record.specs.declared.Rest.TheVariants.{Bytes, BadLength}
 
 -- of a record with this LL, all but the k bytes that have been read
-abbrev pub rest_past : ℕ → Length → Rest
-rest_past k (Part n more) = Bytes (n - k)
-rest_past k Bad = BadLength
+abbrev pub rest_past : ℕ → Result Length BadLength → Result ℕ BadLength
+rest_past k (Ok l) = Ok (l.bytes - k)
+rest_past k (Err bad) = Err bad
 
 -- the bytes of the current record that are still to be read, LL included, by the bytes held; with one LL byte held, that byte
-abbrev pub rest : Position → List ℕ → Rest
-rest (Between more) [] = Bytes 0
-rest (Between more) (high ∷ []) = Bytes 1
+abbrev pub rest : Position → List ℕ → Result ℕ BadLength
+rest (Between more) [] = Ok 0
+rest (Between more) (high ∷ []) = Ok 1
 rest (Between more) (high ∷ low ∷ bs) = rest_past 0 (length_of high low)
-rest (AfterFirst high) [] = Bytes 0
+rest (AfterFirst high) [] = Ok 0
 rest (AfterFirst high) (low ∷ bs) = rest_past 1 (length_of high low)
-rest (Remaining more n) bs = Bytes n
+rest (Remaining more n) bs = Ok n
 
 -- the LL of the current record is passed, or its second byte is held
 abbrev pub length_met : Position → List ℕ → Bool

@@ -2,7 +2,7 @@
 ghost use Rattle.std.specs.Prelude.{◌≡◌};
 ghost use Rattle.logical_record.specs.Length.{length_in, length_of};
 
-use crate::Length;
+use crate::{BadLength, Length};
 
 // LL alone, a record with no data.
 const LEAST_LENGTH: u16 = 2;
@@ -12,19 +12,26 @@ const MORE_BIT: u16 = 32768;
 
 pub(crate) const GREATEST_LENGTH: u16 = MORE_BIT - 1;
 
-fn length_in(ll: u16) -> Length
-    ensures { result ≡ length_in ll }
-{
-    let n = ll % MORE_BIT;
-    if LEAST_LENGTH <= n {
-        Length::Part(n, MORE_BIT <= ll)
-    } else {
-        Length::Bad
+impl TryFrom<u16> for Length {
+    type Error = BadLength;
+
+    ghost try_from_gives = { λ ll result. result ≡ length_in ll };
+
+    fn try_from(ll: u16) -> Result<Length, BadLength> {
+        let bytes = ll % MORE_BIT;
+        if LEAST_LENGTH <= bytes {
+            Ok(Length {
+                bytes,
+                more: MORE_BIT <= ll,
+            })
+        } else {
+            Err(BadLength)
+        }
     }
 }
 
-pub(crate) fn length_of(high: u8, low: u8) -> Length
+pub(crate) fn length_of(high: u8, low: u8) -> Result<Length, BadLength>
     ensures { result ≡ length_of high low }
 {
-    length_in((high as u16) * 256 + (low as u16))
+    Length::try_from(u16::from_be_bytes([high, low]))
 }

@@ -6,23 +6,26 @@ mod length_field;
 pub mod positions;
 pub mod rest_of_record;
 pub mod theorems;
-mod total;
 pub mod walk;
 
-// What LL says.
-#[derive(Clone, Copy)]
-pub enum Length {
-    // The length of the record, 2 to 32,767, and whether another part follows.
-    Part(u16, bool),
-    // A length under 2.
-    Bad,
+// What a good LL says.
+#[derive(Clone, Copy, Debug, PartialEq, Eq)]
+pub struct Length {
+    // The length of the record, 2 to 32,767.
+    pub bytes: u16,
+    // Whether another part follows.
+    pub more: bool,
 }
+
+// An LL with a length under 2.
+#[derive(Clone, Copy, Debug, PartialEq, Eq)]
+pub struct BadLength;
 
 // A record place: where a stream of logical records stands after its bytes so far.
 // Any value may come in, also one that no stream leads to: `is_position` tells the paper's record places from those.
 // Other crates go by this one's functions and definitions and not by the variants, so that a record place may come to hold more;
 // only `image`, which lays a record out in bytes, names them, and examples.
-#[derive(Clone, Copy)]
+#[derive(Clone, Copy, Debug, PartialEq, Eq)]
 pub enum Position {
     // Between records: whether the last record says that another part follows.
     Between(bool),
@@ -30,18 +33,4 @@ pub enum Position {
     AfterFirst(u8),
     // Past LL: whether it says that another part follows, and the number of bytes left, 1 to 32,765. In this order a place has four bytes.
     Remaining(bool, u16),
-}
-
-// What a walk over bytes finds: the record place after them, or a bad LL.
-#[derive(Clone, Copy)]
-pub enum Walked {
-    At(Position),
-    BadLength,
-}
-
-// The rest of the current record, for a read: the number of its bytes not yet read, or a bad LL.
-#[derive(Clone, Copy)]
-pub enum Rest {
-    Bytes(u16),
-    BadLength,
 }

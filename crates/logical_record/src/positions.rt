@@ -4,7 +4,6 @@ ghost use Rattle.logical_record.specs.Positions.{start, remaining, after_length,
 
 use crate::Position;
 use crate::length_field::GREATEST_LENGTH;
-use crate::total::less;
 
 // What is left of the longest record past its LL.
 const MOST_REMAINING: u16 = GREATEST_LENGTH - 2;
@@ -31,7 +30,7 @@ pub(crate) fn remaining(n: u16, more: bool) -> Position
 pub(crate) fn after_length(n: u16, more: bool) -> Position
     ensures { result ≡ after_length n more }
 {
-    remaining(less(n, 2), more)
+    remaining(n.saturating_sub(2), more)
 }
 
 // Is this one of the paper's record places? Any byte may be the first of LL; it is bound so that the proof knows it for a u8.
@@ -49,11 +48,7 @@ pub fn is_position(p: Position) -> bool
 pub fn is_between(p: Position) -> bool
     ensures { result ≡ is_between p }
 {
-    match p {
-        Position::Between(_) => true,
-        Position::AfterFirst(_) => false,
-        Position::Remaining(_, _) => false,
-    }
+    matches!(p, Position::Between(_))
 }
 
 // Does the record just completed say that another part follows? No unless one is complete.

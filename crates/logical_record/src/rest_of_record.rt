@@ -1,41 +1,24 @@
 // What a read may copy of the current record.
 ghost use Rattle.std.specs.Prelude.{◌≡◌};
-ghost use Rattle.logical_record.specs.RestOfRecord.{rest, rest_past};
+ghost use Rattle.logical_record.specs.RestOfRecord.{rest};
 
 use crate::length_field::length_of;
-use crate::total::less;
-use crate::{Length, Position, Rest};
-
-// Of a record with this LL, all but the k bytes that have been read.
-fn rest_past(k: u16, length: Length) -> Rest
-    ensures { result ≡ rest_past k length }
-{
-    match length {
-        Length::Part(n, _) => Rest::Bytes(less(n, k)),
-        Length::Bad => Rest::BadLength,
-    }
-}
+use crate::{BadLength, Position};
 
 // The rest of the current record, LL included, by the bytes held. Only the current record's LL is met.
-pub fn rest_of_record(position: Position, held: &[u8]) -> Rest
+pub fn rest_of_record(position: Position, held: &[u8]) -> Result<u16, BadLength>
     ensures { result ≡ rest position held.now }
 {
-    match position {
-        Position::Between(_) => {
-            if 2 <= held.len() {
-                rest_past(0, length_of(held[0], held[1]))
-            } else {
-                // One LL byte, or nothing.
-                Rest::Bytes(held.len() as u16)
-            }
+    match (position, held) {
+        (Position::Between(_), [high, low, ..]) => Ok(length_of(*high, *low)?.bytes),
+        // One LL byte, or nothing.
+        (Position::Between(_), _) => Ok(held.len() as u16),
+        // The first LL byte is read already.
+        (Position::AfterFirst(high), [low, ..]) => {
+            let length = length_of(high, *low)?;
+            Ok(length.bytes.saturating_sub(1))
         }
-        Position::AfterFirst(high) => {
-            if 1 <= held.len() {
-                rest_past(1, length_of(high, held[0]))
-            } else {
-                Rest::Bytes(0)
-            }
-        }
-        Position::Remaining(_, n) => Rest::Bytes(n),
+        (Position::AfterFirst(_), []) => Ok(0),
+        (Position::Remaining(_, n), _) => Ok(n),
     }
 }

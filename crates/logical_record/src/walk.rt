@@ -1,45 +1,26 @@
 // The walk over the bytes of a stream, from one record place to another.
 ghost use Rattle.std.specs.Prelude.{◌≡◌, true, ◌<◌, min, max};
-ghost use Rattle.logical_record.specs.Walk.{passed, step, walk, is_good, place_or};
+ghost use Rattle.logical_record.specs.Length.{length_of};
+ghost use Rattle.logical_record.specs.Walk.{passed, walk, is_good, place_or};
 ghost use Rattle.logical_record.specs.DataAtOnce.{all_data, past_data};
 
 use crate::length_field::length_of;
-use crate::positions::{after_length, is_between, remaining};
-use crate::total::less;
-use crate::{Length, Position, Walked};
+use crate::positions::{after_length, remaining};
+use crate::{BadLength, Position};
 
-// Past the two bytes of LL.
-fn passed(length: Length) -> Walked
-    ensures { result ≡ passed length }
+// Past the two bytes of LL, which is met, and checked, with its second byte. A record forgets what the one before it said of more parts.
+fn passed(high: u8, low: u8) -> Result<Position, BadLength>
+    ensures { result ≡ passed (length_of high low) }
 {
-    match length {
-        Length::Part(n, more) => Walked::At(after_length(n, more)),
-        Length::Bad => Walked::BadLength,
-    }
+    let length = length_of(high, low)?;
+    Ok(after_length(length.bytes, length.more))
 }
 
-// One byte. LL is met, and checked, with its second byte. A record forgets what the one before it said of more parts.
-fn step(from: Position, byte: u8) -> Walked
-    ensures { result ≡ step from byte }
-{
-    match from {
-        Position::Between(_) => Walked::At(Position::AfterFirst(byte)),
-        Position::AfterFirst(high) => passed(length_of(high, byte)),
-        Position::Remaining(more, n) => Walked::At(remaining(less(n, 1), more)),
-    }
-}
-
-// How many of `left` bytes belong to a record with n of its bytes left. One byte ends a forged record with none left,
-// as `step` has it.
+// How many of `left` bytes belong to a record with n of its bytes left. One byte ends a forged record with none left.
 fn data_passed(n: u16, left: usize) -> u16
     ensures { result ≡ min (max 1 n) left }
 {
-    let most = if n == 0 { 1 } else { n };
-    if most as usize <= left {
-        most
-    } else {
-        left as u16
-    }
+    left.min(n.max(1) as usize) as u16
 }
 
 // Do so many bytes all belong to the record that is begun?
@@ -47,78 +28,63 @@ fn all_data(from: Position, count: usize) -> bool
     ensures test { result ≡ all_data from count }
     ensures few { result ≡ true → count < 65536 }
 {
-    match from {
-        Position::Between(_) => false,
-        Position::AfterFirst(_) => false,
-        Position::Remaining(_, n) => (1 <= n) & (count <= n as usize),
-    }
+    matches!(from, Position::Remaining(_, n) if 1 <= n && count <= n as usize)
 }
 
 // Past so many bytes of the record's data.
 fn past_data(from: Position, count: u16) -> Position
     ensures { result ≡ past_data from count }
 {
-    match from {
-        Position::Between(_) => from,
-        Position::AfterFirst(_) => from,
-        Position::Remaining(more, n) => remaining(less(n, count), more),
+    if let Position::Remaining(more, n) = from {
+        remaining(n.saturating_sub(count), more)
+    } else {
+        from
     }
 }
 
 // All bytes. The data of a record is passed at once, so the work grows with the number of records; so is an LL of which both bytes are
 // there. Most units of a long record lie within it, and meet nothing.
-pub fn walk_over(from: Position, bytes: &[u8]) -> Walked
+pub fn walk_over(from: Position, bytes: &[u8]) -> Result<Position, BadLength>
     ensures { result ≡ walk from bytes.now }
 {
     if all_data(from, bytes.len()) {
-        return Walked::At(past_data(from, bytes.len() as u16));
+        return Ok(past_data(from, bytes.len() as u16));
     }
     let mut position = from;
-    let mut i = 0;
-    while i < bytes.len() {
-        if let Position::Remaining(more, n) = position {
-            let k = data_passed(n, bytes.len() - i);
-            position = remaining(less(n, k), more);
-            i += k as usize;
-        } else if is_between(position) & (2 <= bytes.len() - i) {
-            let past = passed(length_of(bytes[i], bytes[i + 1]));
-            match past {
-                Walked::At(p) => {
-                    position = p;
-                    i += 2;
-                }
-                Walked::BadLength => return Walked::BadLength,
+    let mut left = bytes;
+    while let [first, after @ ..] = left {
+        match position {
+            Position::Between(_) => {
+                let [low, data @ ..] = after else {
+                    return Ok(Position::AfterFirst(*first));
+                };
+                position = passed(*first, *low)?;
+                left = data;
             }
-        } else {
-            let next = step(position, bytes[i]);
-            match next {
-                Walked::At(p) => {
-                    position = p;
-                    i += 1;
-                }
-                Walked::BadLength => return Walked::BadLength,
+            Position::AfterFirst(high) => {
+                position = passed(high, *first)?;
+                left = after;
+            }
+            Position::Remaining(more, n) => {
+                let k = data_passed(n, left.len());
+                position = remaining(n.saturating_sub(k), more);
+                left = &left[k as usize..];
             }
         }
     }
-    Walked::At(position)
+    Ok(position)
 }
 
 // Every LL met is good.
-pub fn is_good(walked: Walked) -> bool
+pub fn is_good(walked: Result<Position, BadLength>) -> bool
     ensures { result ≡ is_good walked }
 {
-    match walked {
-        Walked::At(_) => true,
-        Walked::BadLength => false,
-    }
+    walked.is_ok()
 }
 
 // The record place walked to; where an LL is bad, the place before.
-pub fn place_or(before: Position, walked: Walked) -> Position
+pub fn place_or(before: Position, walked: Result<Position, BadLength>) -> Position
     ensures { result ≡ place_or before walked }
 {
-    match walked {
-        Walked::At(after) => after,
-        Walked::BadLength => before,
-    }
+    walked.unwrap_or(before)
 }

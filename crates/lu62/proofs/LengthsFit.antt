@@ -23,6 +23,7 @@ use Rattle.end.specs.ReceiveExpedited.{receive_expedited}
 use Rattle.end.specs.Receive.{bytes_read, mark_read, receive}
 use Rattle.end.specs.declared.End.{End}
 use Rattle.end.specs.declared.Done.{Done}
+use Rattle.answers.specs.declared.Answer.{Answer}
 use Rattle.calls.specs.Calls.{Station, Verb, Called, called, taken, taken_expedited}
 use Rattle.calls.proofs.CallCases.{read_cases}
 use Rattle.calls.proofs.CallBytes.{count_held}
@@ -43,7 +44,7 @@ pub opened_small : (s : Session) (send unit inbox : ℕ) → (opened s send unit
 unfolding opened
 opened_small s send unit inbox = by (eqb (opening_refusal s send unit inbox) 0) _ _ (omega arith) (omega arith)
   where
-    by : (b : Bool) (x y : Done) → x.answer.unit < WORD → y.answer.unit < WORD → (cond b x y).answer.unit < WORD
+    by : (b : Bool) (x y : Done Answer) → x.answer.unit < WORD → y.answer.unit < WORD → (cond b x y).answer.unit < WORD
     by true x y p q = p
     by false x y p q = q
 

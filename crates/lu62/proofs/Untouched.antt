@@ -6,7 +6,6 @@ use mathlib.Core.Bool.{Bool, true, false}
 use mathlib.Core.List.{List, []}
 use Rattle.header.specs.declared.Follows.{Follows}
 use Rattle.header.specs.declared.Follows.TheVariants.{Stay, ChangeDirection, EndBracket}
-use Rattle.control.specs.declared.Deferred.{Deferred}
 use Rattle.end.specs.Outcome.{Made}
 use Rattle.end.specs.Allocate.{allocate}
 use Rattle.end.specs.SendData.{send_data}
@@ -21,11 +20,12 @@ use Rattle.end.specs.ReceiveExpedited.{receive_expedited}
 use Rattle.end.specs.Receive.{receive}
 use Rattle.end.specs.declared.End.{End}
 use Rattle.end.specs.declared.Done.{Done}
+use Rattle.answers.specs.declared.Answer.{Answer}
 use Rattle.calls.specs.Calls.{Station, Verb, hands, makes, called, taken, taken_expedited}
 use Rattle.calls.proofs.Refusals.{refused_nothing, refused_buffer, refused_take_nothing, refused_expedited_nothing}
 use Rattle.image.specs.Image.{image_of, image_read}
-use Rattle.image.specs.declared.ImageRead.{ImageRead}
-use Rattle.image.specs.declared.ImageRead.TheVariants.{Record, Refused}
+use Rattle.std.proofs.Common.{Result, Ok, Err}
+use Rattle.answers.specs.declared.refusals.Refusal.{Refusal}
 use Rattle.image.proofs.ImageRoundTrip.{read_is_written}
 use Rattle.lu62.specs.Handing.{Handed, Left, left, by_reading, on_image, on_image_alone}
 use Rattle.lu62.specs.Exported.{done_out, made_out, sent_out, taken_out, expedited_out, copied_out, close_on}
@@ -36,9 +36,9 @@ on_image_lem : {Cells : Type 0} (image : List ℕ) (cells : Cells) (call : End �
     → ((e : End) → Untouched (image_of e) cells (call e)) → Untouched image cells (on_image image cells call)
 on_image_lem {Cells} image cells call b f = by (image_read image) refl
   where
-    by : (r : ImageRead) → image_read image ≡ r → Untouched image cells (by_reading image cells call r)
-    by (Record e) h n = let t = f e n in (t.0 ∙ read_is_written image b e h, t.1)
-    by (Refused q) h n = (refl, refl)
+    by : (r : Result End Refusal) → image_read image ≡ r → Untouched image cells (by_reading image cells call r)
+    by (Ok e) h n = let t = f e n in (t.0 ∙ read_is_written image b e h, t.1)
+    by (Err why) h n = (refl, refl)
 
 on_image_alone_lem : (image : List ℕ) (call : End → Handed) → Bytes image → ((e : End) → ImageUntouched (image_of e) (call e))
     → ImageUntouched image (on_image_alone image call)
@@ -54,7 +54,7 @@ module _ (e : End) where
       (ap (λ (s : Station). image_of s.end) h, ap (λ (s : Station). s.unit) h)
 
   -- a call that is lent nothing
-  done_refused : (v : Verb) (d : Done) → called (at e [] [] []) v ≡ hands (at e [] [] []) d → ImageUntouched (image_of e) (done_out d)
+  done_refused : (v : Verb) (d : Done Answer) → called (at e [] [] []) v ≡ hands (at e [] [] []) d → ImageUntouched (image_of e) (done_out d)
   done_refused v d p n =
       let h = rw p at (refused_nothing (at e [] [] []) v (rw p n)).0 in
       ap (λ (s : Station). image_of s.end) h

@@ -23,12 +23,13 @@ use Rattle.end.specs.Receive.{receive}
 use Rattle.session.specs.declared.Session.{Session}
 use Rattle.session.specs.declared.bind_opening.SessionBytes.{SessionBytes}
 use Rattle.end.specs.declared.Done.{Done}
+use Rattle.answers.specs.declared.Answer.{Answer}
 use Rattle.image.specs.Image.{IMAGE}
 use Rattle.lu62.specs.Handing.{answer_numbers, read_numbers, expedited_numbers, Handed, handed_out, handed_back, Left, left, on_image, on_image_alone}
 
 -- ---- what each kind of call leaves, with its cells
 
-abbrev pub done_out : Done → Handed
+abbrev pub done_out : Done Answer → Handed
 done_out d = handed_out (answer_numbers d.answer) d.end
 
 abbrev pub made_out : Made → Left (List ℕ)
@@ -58,7 +59,7 @@ session role outwindow inwindow outmax inmax =
 
 -- of the image opening asks the length alone, and leaves one of a wrong length as it was; refused for anything else, it leaves the image
 -- of a record of zeros
-unfoldable pub opening_out : Done → List ℕ → Handed
+unfoldable pub opening_out : Done Answer → List ℕ → Handed
 opening_out d image = cond (eqb (length image) IMAGE) (done_out d) (handed_back BAD_BUFFER image)
 
 abbrev pub opened_on : Session → ℕ → ℕ → ℕ → List ℕ → Handed

@@ -1,6 +1,6 @@
 -- What an exported call hands out: the value returned, the answer's nine numbers, the image and the cells lent, as they are when it returns.
 -- Assumes nothing.
-use Rattle.std.specs.Prelude.{ℕ, List, [], ◌∷◌, get_or}
+use Rattle.std.specs.Prelude.{ℕ, List, [], ◌∷◌, get_or, Result, Ok, Err}
 use Rattle.control.specs.StateTests.{mark_number}
 use Rattle.answers.specs.declared.Answer.{Answer}
 use Rattle.answers.specs.declared.ReadAnswer.{ReadAnswer}
@@ -8,8 +8,8 @@ use Rattle.answers.specs.declared.ExpeditedAnswer.{ExpeditedAnswer}
 use Rattle.end.specs.declared.End.{End}
 use Rattle.image.specs.ImageParts.{flag_byte}
 use Rattle.image.specs.Image.{image_of, image_read}
-use Rattle.image.specs.declared.ImageRead.{ImageRead}
-use Rattle.image.specs.declared.ImageRead.TheVariants.{Record, Refused}
+use Rattle.answers.specs.Refusals.{refusal_number}
+use Rattle.answers.specs.declared.refusals.Refusal.{Refusal}
 
 -- ---- the nine numbers: refusal, sense, rule, length of the unit made, bytes copied, complete, more, mark, signalled
 
@@ -57,9 +57,9 @@ left out cells = record { out = out; cells = cells }
 
 -- ---- a call on an image: made on the record that the image holds; where it holds none, nothing is changed
 
-abbrev pub by_reading : {Cells : Type 0} → List ℕ → Cells → (End → Left Cells) → ImageRead → Left Cells
-by_reading image cells call (Record e) = call e
-by_reading image cells call (Refused q) = left (handed_back q image) cells
+abbrev pub by_reading : {Cells : Type 0} → List ℕ → Cells → (End → Left Cells) → Result End Refusal → Left Cells
+by_reading image cells call (Ok e) = call e
+by_reading image cells call (Err why) = left (handed_back (refusal_number why) image) cells
 
 abbrev pub on_image : {Cells : Type 0} → List ℕ → Cells → (End → Left Cells) → Left Cells
 on_image image cells call = by_reading image cells call (image_read image)

@@ -5,7 +5,6 @@ ghost use Rattle.lu62.specs.Exported.{close_on, flush_on, confirm_on, prepare_to
 
 use crate::handing::{hand_out, refuse_image};
 use header::Follows;
-use image::ImageRead;
 use image::decoding::read_image;
 
 // The closing call on an image, of which the four below are names.
@@ -20,10 +19,9 @@ fn close_on(
     ensures { left (handed result answer.new image.new) unit.new
         ≡ close_on follows confirm send.now image.old unit.old }
 {
-    let read = read_image(image);
-    match read {
-        ImageRead::Record(end) => hand_out(end.close(follows, confirm, send, unit), image, answer),
-        ImageRead::Refused(number) => refuse_image(number, answer),
+    match read_image(image) {
+        Ok(end) => hand_out(end.close(follows, confirm, send, unit), image, answer),
+        Err(why) => refuse_image(why.into(), answer),
     }
 }
 

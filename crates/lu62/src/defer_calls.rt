@@ -7,17 +7,15 @@ ghost use Rattle.lu62.specs.Exported.{defer_on, withdraw_on};
 
 use crate::handing::{hand_out, refuse_image};
 use control::Deferred;
-use image::ImageRead;
 use image::decoding::read_image;
 
 // Prepare on an image, of which the two below are names.
 fn defer_on(image: &mut [u8], what: Deferred, answer: &mut [u32; 9]) -> u32
     ensures { handed result answer.new image.new ≡ defer_on what image.old }
 {
-    let read = read_image(image);
-    match read {
-        ImageRead::Record(end) => hand_out(end.defer(what), image, answer),
-        ImageRead::Refused(number) => refuse_image(number, answer),
+    match read_image(image) {
+        Ok(end) => hand_out(end.defer(what), image, answer),
+        Err(why) => refuse_image(why.into(), answer),
     }
 }
 
@@ -42,9 +40,8 @@ pub extern "C" fn lu62_defer_end(image: &mut [u8], answer: &mut [u32; 9]) -> u32
 pub extern "C" fn lu62_withdraw(image: &mut [u8], answer: &mut [u32; 9]) -> u32
     ensures { handed result answer.new image.new ≡ withdraw_on image.old }
 {
-    let read = read_image(image);
-    match read {
-        ImageRead::Record(end) => hand_out(end.withdraw(), image, answer),
-        ImageRead::Refused(number) => refuse_image(number, answer),
+    match read_image(image) {
+        Ok(end) => hand_out(end.withdraw(), image, answer),
+        Err(why) => refuse_image(why.into(), answer),
     }
 }

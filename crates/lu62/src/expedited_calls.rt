@@ -4,8 +4,7 @@ ghost use Rattle.std.specs.Prelude.{◌≡◌};
 ghost use Rattle.lu62.specs.Handing.{handed, left};
 ghost use Rattle.lu62.specs.Exported.{request_to_send_on, receive_expedited_on};
 
-use crate::handing::{hand_out, hand_out_expedited, refuse_image};
-use image::ImageRead;
+use crate::handing::{hand_out, refuse_image};
 use image::decoding::read_image;
 
 // Makes a signal.
@@ -18,10 +17,9 @@ pub extern "C" fn lu62_request_to_send(
     ensures { left (handed result answer.new image.new) unit.new
         ≡ request_to_send_on image.old unit.old }
 {
-    let read = read_image(image);
-    match read {
-        ImageRead::Record(end) => hand_out(end.request_to_send(unit), image, answer),
-        ImageRead::Refused(number) => refuse_image(number, answer),
+    match read_image(image) {
+        Ok(end) => hand_out(end.request_to_send(unit), image, answer),
+        Err(why) => refuse_image(why.into(), answer),
     }
 }
 
@@ -36,13 +34,8 @@ pub extern "C" fn lu62_receive_expedited(
     ensures { left (handed result answer.new image.new) unit.new
         ≡ receive_expedited_on taken.now image.old unit.old }
 {
-    let read = read_image(image);
-    match read {
-        ImageRead::Record(end) => hand_out_expedited(
-            end.receive_expedited(taken, unit),
-            image,
-            answer,
-        ),
-        ImageRead::Refused(number) => refuse_image(number, answer),
+    match read_image(image) {
+        Ok(end) => hand_out(end.receive_expedited(taken, unit), image, answer),
+        Err(why) => refuse_image(why.into(), answer),
     }
 }

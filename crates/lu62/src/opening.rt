@@ -4,7 +4,6 @@ ghost use Rattle.lu62.specs.Handing.{handed, left};
 ghost use Rattle.lu62.specs.Exported.{session, opened_on, allocate_on};
 
 use crate::handing::{hand_opened, hand_out, refuse_image};
-use image::ImageRead;
 use image::decoding::read_image;
 use session::{Session, open_session};
 
@@ -44,9 +43,8 @@ pub extern "C" fn lu62_open(
 pub extern "C" fn lu62_allocate(image: &mut [u8], unit: &mut [u8], answer: &mut [u32; 9]) -> u32
     ensures { left (handed result answer.new image.new) unit.new ≡ allocate_on image.old unit.old }
 {
-    let read = read_image(image);
-    match read {
-        ImageRead::Record(end) => hand_out(end.allocate(unit), image, answer),
-        ImageRead::Refused(number) => refuse_image(number, answer),
+    match read_image(image) {
+        Ok(end) => hand_out(end.allocate(unit), image, answer),
+        Err(why) => refuse_image(why.into(), answer),
     }
 }

@@ -3,8 +3,7 @@ ghost use Rattle.std.specs.Prelude.{◌≡◌};
 ghost use Rattle.lu62.specs.Handing.{handed, left};
 ghost use Rattle.lu62.specs.Exported.{receive_unit_on, receive_on};
 
-use crate::handing::{hand_out, hand_out_read, refuse_image};
-use image::ImageRead;
+use crate::handing::{hand_out, refuse_image};
 use image::decoding::read_image;
 
 // Takes one unit from the partner (document 01: take). The answer to a bid is the unit made.
@@ -19,10 +18,9 @@ pub extern "C" fn lu62_receive_unit(
     ensures { left (handed result answer.new image.new) (inbox.new, unit.new)
         ≡ receive_unit_on taken.now image.old inbox.old unit.old }
 {
-    let read = read_image(image);
-    match read {
-        ImageRead::Record(end) => hand_out(end.receive_unit(taken, inbox, unit), image, answer),
-        ImageRead::Refused(number) => refuse_image(number, answer),
+    match read_image(image) {
+        Ok(end) => hand_out(end.receive_unit(taken, inbox, unit), image, answer),
+        Err(why) => refuse_image(why.into(), answer),
     }
 }
 
@@ -37,9 +35,8 @@ pub extern "C" fn lu62_receive(
     ensures { left (handed result answer.new image.new) (inbox.new, buffer.new)
         ≡ receive_on image.old inbox.old buffer.old }
 {
-    let read = read_image(image);
-    match read {
-        ImageRead::Record(end) => hand_out_read(end.receive(inbox, buffer), image, answer),
-        ImageRead::Refused(number) => refuse_image(number, answer),
+    match read_image(image) {
+        Ok(end) => hand_out(end.receive(inbox, buffer), image, answer),
+        Err(why) => refuse_image(why.into(), answer),
     }
 }

@@ -4,7 +4,6 @@ ghost use Rattle.lu62.specs.Handing.{handed, left};
 ghost use Rattle.lu62.specs.Exported.{send_data_on, confirmed_on, send_error_on, send_pacing_response_on};
 
 use crate::handing::{hand_out, refuse_image};
-use image::ImageRead;
 use image::decoding::read_image;
 
 // Gives bytes to the conversation. They are kept in the send buffer until more than M are held; then one unit goes.
@@ -19,10 +18,9 @@ pub extern "C" fn lu62_send_data(
     ensures { left (handed result answer.new image.new) (send.new, unit.new)
         ≡ send_data_on bytes.now image.old send.old unit.old }
 {
-    let read = read_image(image);
-    match read {
-        ImageRead::Record(end) => hand_out(end.send_data(bytes, send, unit), image, answer),
-        ImageRead::Refused(number) => refuse_image(number, answer),
+    match read_image(image) {
+        Ok(end) => hand_out(end.send_data(bytes, send, unit), image, answer),
+        Err(why) => refuse_image(why.into(), answer),
     }
 }
 
@@ -31,10 +29,9 @@ pub extern "C" fn lu62_send_data(
 pub extern "C" fn lu62_confirmed(image: &mut [u8], unit: &mut [u8], answer: &mut [u32; 9]) -> u32
     ensures { left (handed result answer.new image.new) unit.new ≡ confirmed_on image.old unit.old }
 {
-    let read = read_image(image);
-    match read {
-        ImageRead::Record(end) => hand_out(end.confirmed(unit), image, answer),
-        ImageRead::Refused(number) => refuse_image(number, answer),
+    match read_image(image) {
+        Ok(end) => hand_out(end.confirmed(unit), image, answer),
+        Err(why) => refuse_image(why.into(), answer),
     }
 }
 
@@ -43,10 +40,9 @@ pub extern "C" fn lu62_confirmed(image: &mut [u8], unit: &mut [u8], answer: &mut
 pub extern "C" fn lu62_send_error(image: &mut [u8], unit: &mut [u8], answer: &mut [u32; 9]) -> u32
     ensures { left (handed result answer.new image.new) unit.new ≡ send_error_on image.old unit.old }
 {
-    let read = read_image(image);
-    match read {
-        ImageRead::Record(end) => hand_out(end.send_error(unit), image, answer),
-        ImageRead::Refused(number) => refuse_image(number, answer),
+    match read_image(image) {
+        Ok(end) => hand_out(end.send_error(unit), image, answer),
+        Err(why) => refuse_image(why.into(), answer),
     }
 }
 
@@ -60,9 +56,8 @@ pub extern "C" fn lu62_send_pacing_response(
     ensures { left (handed result answer.new image.new) unit.new
         ≡ send_pacing_response_on image.old unit.old }
 {
-    let read = read_image(image);
-    match read {
-        ImageRead::Record(end) => hand_out(end.send_pacing_response(unit), image, answer),
-        ImageRead::Refused(number) => refuse_image(number, answer),
+    match read_image(image) {
+        Ok(end) => hand_out(end.send_pacing_response(unit), image, answer),
+        Err(why) => refuse_image(why.into(), answer),
     }
 }

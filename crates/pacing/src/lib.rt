@@ -23,10 +23,11 @@ impl Window {
     pub fn window_good(self) -> bool
         ensures { result ≡ window_good self }
     {
-        (LEAST_WINDOW <= self.size) & ((self.size <= GREATEST_WINDOW) & (self.position < self.size))
+        size_good(self.size) & (self.position < self.size)
     }
 
     // The requests that may go before the next pacing response; document 01's credit, and its open.
+    #[tactic(auto, unfolding(crate::specs::Pacing::credit))]
     pub fn credit(self) -> u16
         ensures { (result ≡ credit self) × (result ≤ 510) }
     {
@@ -47,25 +48,22 @@ impl Window {
     }
 
     // The window after a request.
-    pub fn advanced(self) -> Window
+    #[tactic(auto, unfolding(crate::specs::Pacing::advanced))]
+    pub fn advanced(mut self) -> Window
         ensures { result ≡ advanced self }
     {
-        Window {
-            size: self.size,
-            position: next_position(self.position, self.size),
-            pending: self.pending | (self.position == 0),
-        }
+        self.pending |= self.paced();
+        self.position = next_position(self.position, self.size);
+        self
     }
 
     // The window after a pacing response.
-    pub fn answered(self) -> Window
+    #[tactic(auto, unfolding(crate::specs::Pacing::answered))]
+    pub fn answered(mut self) -> Window
         ensures { result ≡ answered self }
     {
-        Window {
-            size: self.size,
-            position: self.position,
-            pending: false,
-        }
+        self.pending = false;
+        self
     }
 }
 
@@ -81,12 +79,9 @@ fn left(position: u8, size: u8) -> u16
     ensures { (result ≡ left position size) × (result ≤ 255) }
 {
     if position == 0 {
-        return 0;
-    }
-    if position <= size {
-        (size - position) as u16
-    } else {
         0
+    } else {
+        size.saturating_sub(position) as u16
     }
 }
 
@@ -94,14 +89,8 @@ fn left(position: u8, size: u8) -> u16
 fn next_position(position: u8, size: u8) -> u8
     ensures { result ≡ next_position position size }
 {
-    if size <= position {
-        return 0;
-    }
-    if size - position <= 1 {
-        0
-    } else {
-        position + 1
-    }
+    let next = position.saturating_add(1);
+    if next < size { next } else { 0 }
 }
 
 pub fn size_good(window: u8) -> bool

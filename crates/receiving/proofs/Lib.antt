@@ -1,2 +1,1 @@
 pub mod ReceivingGood
-mod TakeAtMost

@@ -1,19 +1,18 @@
 -- What a read copies of the current record, and what it leaves of the receiving side.
 -- Assumes nothing.
-use Rattle.std.specs.Prelude.{ℕ, ◌-◌, Bool, true, false}
+use Rattle.std.specs.Prelude.{ℕ, ◌-◌, Bool, true, false, Result, Ok, Err}
+use Rattle.logical_record.specs.declared.BadLength.{BadLength}
 use Rattle.logical_record.specs.declared.Position.{Position}
-use Rattle.logical_record.specs.declared.Rest.{Rest}
-use Rattle.logical_record.specs.declared.Rest.TheVariants.{Bytes, BadLength}
 use Rattle.receiving.specs.declared.Receiving.{Receiving}
 
 -- the LL of the current record is good, or not met
-abbrev pub rest_good : Rest → Bool
-rest_good (Bytes n) = true
-rest_good BadLength = false
+abbrev pub rest_good : Result ℕ BadLength → Bool
+rest_good (Ok n) = true
+rest_good (Err bad) = false
 
-abbrev pub rest_bytes : Rest → ℕ
-rest_bytes (Bytes n) = n
-rest_bytes BadLength = 0
+abbrev pub rest_bytes : Result ℕ BadLength → ℕ
+rest_bytes (Ok n) = n
+rest_bytes (Err bad) = 0
 
 -- k of the bytes held are gone, and the place read is then this
 abbrev pub bytes_gone : ℕ → Position → Receiving → Receiving

@@ -1,11 +1,9 @@
 -- The receiving side: what the paper allows of it, what it asks of a unit, and what it is as opened, after a request taken and after a pacing answer.
 -- Assumes nothing.
-use Rattle.std.specs.Prelude.{ℕ, ◌+◌, ◌*◌, Bool, ◌&&◌, ◌||◌, false, not, leb, eqb}
+use Rattle.std.specs.Prelude.{ℕ, ◌+◌, ◌*◌, Bool, ◌&&◌, ◌||◌, false, not, leb, eqb, Result, Ok, Err}
 use Rattle.logical_record.specs.Positions.{is_position, is_whole, start}
+use Rattle.logical_record.specs.declared.BadLength.{BadLength}
 use Rattle.logical_record.specs.declared.Position.{Position}
-use Rattle.logical_record.specs.declared.Walked.{Walked}
-use Rattle.logical_record.specs.declared.Walked.TheVariants.{At, BadLength}
-use Rattle.logical_record.specs.declared.Rest.TheVariants.{BadLength}
 use Rattle.unit.specs.Ru.{marks}
 use Rattle.header.specs.declared.ChainEnd.{ChainEnd}
 use Rattle.pacing.specs.Pacing.{window_good, credit, advanced, has_credit, paced, answered, fresh_window}
@@ -43,9 +41,9 @@ abbrev pub is_next : Receiving → ℕ → Bool
 is_next r n = eqb n (next_number r.number)
 
 -- 29: is every LL good, and at a mark nothing unfinished, neither a record nor a table?
-abbrev pub records_fit : ChainEnd → Walked → Bool
-records_fit ends (At p) = not (marks ends) || is_whole p
-records_fit ends BadLength = false
+abbrev pub records_fit : ChainEnd → Result Position BadLength → Bool
+records_fit ends (Ok p) = not (marks ends) || is_whole p
+records_fit ends (Err bad) = false
 
 -- is an answer owed, and is held + (open+W)×M within the inbox?
 abbrev pub may_answer_pacing : Receiving → Bool

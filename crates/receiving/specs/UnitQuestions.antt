@@ -1,11 +1,10 @@
 -- A unit that is taken: the walk over it, and what is asked of it by its kind, its number and its RU.
 -- Assumes nothing.
-use Rattle.std.specs.Prelude.{ℕ, Bool, true, false, List, [], ◌∷◌, eqb}
+use Rattle.std.specs.Prelude.{ℕ, Bool, true, false, List, [], ◌∷◌, eqb, Result, Ok}
 use Rattle.logical_record.specs.Positions.{is_whole}
 use Rattle.logical_record.specs.Walk.{walk}
+use Rattle.logical_record.specs.declared.BadLength.{BadLength}
 use Rattle.logical_record.specs.declared.Position.{Position}
-use Rattle.logical_record.specs.declared.Walked.{Walked}
-use Rattle.logical_record.specs.declared.Walked.TheVariants.{At}
 use Rattle.header.specs.Header.{is_first, begins_bracket}
 use Rattle.unit.specs.Ru.{ru_good}
 use Rattle.header.specs.declared.DataHeader.{DataHeader}
@@ -19,15 +18,15 @@ use Rattle.receiving.specs.Receiving.{pacing_fits, is_next, records_fit}
 use Rattle.receiving.specs.declared.Receiving.{Receiving}
 
 -- data alone is walked over
-abbrev pub walked_for : Header → Position → List ℕ → Walked
+abbrev pub walked_for : Header → Position → List ℕ → Result Position BadLength
 walked_for (Data d) p ru = walk p ru
-walked_for (Bid b) p ru = At p
-walked_for (ErrorDescription b) p ru = At p
-walked_for PositiveBidResponse p ru = At p
-walked_for NegativeBidResponse p ru = At p
-walked_for Confirmation p ru = At p
-walked_for NegativeConfirmation p ru = At p
-walked_for PacingResponse p ru = At p
+walked_for (Bid b) p ru = Ok p
+walked_for (ErrorDescription b) p ru = Ok p
+walked_for PositiveBidResponse p ru = Ok p
+walked_for NegativeBidResponse p ru = Ok p
+walked_for Confirmation p ru = Ok p
+walked_for NegativeConfirmation p ru = Ok p
+walked_for PacingResponse p ru = Ok p
 
 -- of data
 abbrev pub data_questions : Control → Receiving → DataHeader → ℕ → List ℕ → List (Bool × ℕ)

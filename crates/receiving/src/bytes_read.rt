@@ -9,41 +9,22 @@ use crate::Receiving;
 use cells::{copy, move_to_front};
 use logical_record::rest_of_record::rest_of_record;
 use logical_record::walk::{place_or, walk_over};
-use logical_record::{Position, Rest};
-
-fn least(a: usize, b: usize) -> usize
-    ensures { result ≡ min a b }
-{
-    if a <= b { a } else { b }
-}
+use logical_record::{BadLength, Position};
 
 // The record's LL is good, or not met.
-pub fn rest_good(rest: Rest) -> bool
+pub fn rest_good(rest: Result<u16, BadLength>) -> bool
     ensures { result ≡ rest_good rest }
 {
-    match rest {
-        Rest::Bytes(_) => true,
-        Rest::BadLength => false,
-    }
-}
-
-fn rest_bytes(rest: Rest) -> u16
-    ensures { result ≡ rest_bytes rest }
-{
-    match rest {
-        Rest::Bytes(n) => n,
-        Rest::BadLength => 0,
-    }
+    rest.is_ok()
 }
 
 // The rest of the current record by the bytes held. It is asked of any record, also one that claims to hold more than the
 // inbox has.
-pub fn record_rest(r: Receiving, inbox: &[u8]) -> Rest
+pub fn record_rest(r: Receiving, inbox: &[u8]) -> Result<u16, BadLength>
     ensures { result ≡ rest r.read (take r.held inbox.now) }
 {
-    let place = r.read;
-    let n = least(r.held as usize, inbox.len());
-    rest_of_record(place, &inbox[..n])
+    let n = inbox.len().min(r.held as usize);
+    rest_of_record(r.read, &inbox[..n])
 }
 
 pub fn some_held(held: u16) -> bool
@@ -53,12 +34,11 @@ pub fn some_held(held: u16) -> bool
 }
 
 // The least of the caller's buffer, the bytes held and the rest of the current record.
-pub fn copy_count(buffer: usize, held: u16, rest: Rest) -> usize
+pub fn copy_count(buffer: usize, held: u16, rest: Result<u16, BadLength>) -> usize
     ensures { result ≡ min buffer (min held (rest_bytes rest)) }
 {
-    let left = rest_bytes(rest) as usize;
-    let most = least(held as usize, left);
-    least(buffer, most)
+    let most = held.min(rest.unwrap_or(0));
+    buffer.min(most as usize)
 }
 
 // The first k of the bytes held go to the front of the caller's buffer, and the others to the front of the inbox. Cells past
@@ -77,16 +57,10 @@ fn read_on(r: Receiving, k: u16, place: Position) -> Receiving
     requires { k ≤ r.held }
     ensures { result ≡ bytes_gone k place r }
 {
-    let window = r.window;
-    let taken = r.taken;
     Receiving {
-        window,
-        max: r.max,
-        inbox: r.inbox,
         held: r.held - k,
-        number: r.number,
-        taken,
         read: place,
+        ..r
     }
 }
 
@@ -95,7 +69,6 @@ pub fn after_read(r: Receiving, k: usize, inbox: &[u8]) -> Receiving
     requires { (k ≤ r.held) × (r.held ≤ length inbox.now) }
     ensures { result ≡ bytes_gone k (place_or r.read (walk r.read (take k inbox.now))) r }
 {
-    let before = r.read;
-    let place = place_or(before, walk_over(before, &inbox[..k]));
+    let place = place_or(r.read, walk_over(r.read, &inbox[..k]));
     read_on(r, k as u16, place)
 }

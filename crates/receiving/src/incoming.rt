@@ -21,29 +21,18 @@ fn filled(held: u16, requests: u16, max: u16) -> u32
 fn inbox_good(r: Receiving) -> bool
     ensures { result ≡ inbox_good r }
 {
-    let window = r.window;
-    filled(r.held, window.credit(), r.max) <= r.inbox as u32
+    filled(r.held, r.window.credit(), r.max) <= r.inbox as u32
 }
 
+#[tactic(auto, unfolding(crate::specs::Receiving::receiving_good))]
 pub fn receiving_good(r: Receiving) -> bool
     ensures { result ≡ receiving_good r }
 {
-    let window = r.window;
-    let taken = r.taken;
-    let read = r.read;
-    if !window.window_good() {
-        return false;
-    }
-    if !max_good(r.max as u32) {
-        return false;
-    }
-    if !inbox_good(r) {
-        return false;
-    }
-    if !is_position(taken) {
-        return false;
-    }
-    is_position(read)
+    r.window.window_good()
+        && max_good(r.max as u32)
+        && inbox_good(r)
+        && is_position(r.taken)
+        && is_position(r.read)
 }
 
 pub fn fresh_receiving(window: u8, max: u16, inbox: u16) -> Receiving
@@ -61,20 +50,16 @@ pub fn fresh_receiving(window: u8, max: u16, inbox: u16) -> Receiving
 }
 
 // A request has been taken: its number, one less open. The bytes held and the record place taken are then these.
+#[tactic(auto, unfolding(crate::specs::Receiving::request_received))]
 pub fn request_received(r: Receiving, held: u16, taken: Position) -> Receiving
     ensures { result ≡ request_received held taken r }
 {
-    let before = r.window;
-    let window = before.advanced();
-    let read = r.read;
     Receiving {
-        window,
-        max: r.max,
-        inbox: r.inbox,
+        window: r.window.advanced(),
         held,
         number: next_number(r.number),
         taken,
-        read,
+        ..r
     }
 }
 
@@ -82,25 +67,22 @@ pub fn request_received(r: Receiving, held: u16, taken: Position) -> Receiving
 pub fn request_counted(r: Receiving) -> Receiving
     ensures { result ≡ request_received r.held r.taken r }
 {
-    let taken = r.taken;
-    request_received(r, r.held, taken)
+    request_received(r, r.held, r.taken)
 }
 
 // An answer is owed, and the inbox has room for what it opens besides what is open.
 pub fn may_answer_pacing(r: Receiving) -> bool
     ensures { result ≡ may_answer_pacing r }
 {
-    let window = r.window;
-    let opened = window.credit() + (window.size as u16);
-    window.pending & (filled(r.held, opened, r.max) <= r.inbox as u32)
+    let opened = r.window.credit() + r.window.size as u16;
+    r.window.pending && filled(r.held, opened, r.max) <= r.inbox as u32
 }
 
 pub fn window_answered(r: Receiving) -> Receiving
     ensures { result ≡ window_answered r }
 {
-    let before = r.window;
-    let window = before.answered();
-    let mut next = r;
-    next.window = window;
-    next
+    Receiving {
+        window: r.window.answered(),
+        ..r
+    }
 }

@@ -1,3 +1,4 @@
 mod MostBytes
 mod CallLineRows
 mod PartsFound
+mod Prefixes

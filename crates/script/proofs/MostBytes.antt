@@ -3,7 +3,7 @@
 use mathlib.Core.Path.{◌≡◌, refl}
 use mathlib.Core.Bool.{Bool, true, false, ◌&&◌}
 use mathlib.Core.List.{List}
-use mathlib.Core.Option.{none}
+use Rattle.std.specs.Prelude.{None}
 use Prim.Native.Nat.{ℕ, ◌≤◌, ◌<◌, min}
 use native.Mathlib.Omega.{arith}
 use lib.Dec.{leb}
@@ -34,6 +34,6 @@ long true s m e h =
     rw (le-leb 1 (length (bytes_of s)) (omega arith), lt-leb (length (bytes_of s)) (min 2048 m) (omega arith))
 long false s m e h = refl
 
-pub hex_long : (s : List ℕ) (m : ℕ) → 4096 < length s → bytes_read s (min 2048 m) ≡ none
+pub hex_long : (s : List ℕ) (m : ℕ) → 4096 < length s → bytes_read s (min 2048 m) ≡ None
 unfolding bytes_read
 hex_long s m h = rw (long (are_pairs s) s m refl h)

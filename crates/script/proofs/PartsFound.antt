@@ -1,14 +1,15 @@
 -- Parts of a text.
 -- Assumes nothing.
-use mathlib.Core.Path.{◌≡◌, sym, ◌∙◌}
-use mathlib.Core.List.{List}
-use Prim.Native.Nat.{ℕ, ◌+◌, ◌-◌, ◌<◌}
+use mathlib.Core.Path.{◌≡◌, sym, ap, ◌∙◌}
+use mathlib.Core.List.{List, []}
+use mathlib.Core.Logic.{◌⊎◌, inl, inr}
+use Prim.Native.Nat.{ℕ, ◌+◌, ◌-◌, ◌<◌, ◌≤◌}
 use native.Mathlib.Nat.{zero-add}
 use native.Mathlib.Omega.{arith}
 use lib.ListN.{length, drop, drop_of_length-le}
-use lib.Seq.{take-length, drop-length}
-use borrow.Rule.Slice.PartMut.{mid_of}
-use Rattle.std.specs.Prelude.{slice_range}
+use lib.Seq.{take-length}
+use denote.Bor.{Bor}
+use Rattle.std.specs.Prelude.{slice_range, Option, Some, None, unwrap_or, MatchOption}
 use Rattle.cells.specs.Found.{index_of}
 use Rattle.cells.proofs.PartLent.{part_is}
 
@@ -18,6 +19,17 @@ found_in_all b text =
     let e : length text - 0 ≡ length text = omega arith in
     rw (zero-add, e, take-length)
 
--- nothing stands behind the end
-pub past_end : (n : ℕ) (text : List ℕ) → length text < n → mid_of (length text) (length text - length text) text ≡ drop n text
-past_end n text h = part_is (length text) text ∙ (drop-length text ∙ sym (drop_of_length-le text {i = n} (omega arith)))
+-- what stands behind a place, as `get` gives it; nothing stands behind the end
+got : (r : Option (Bor (List ℕ))) (none : Bor (List ℕ)) (n : ℕ) (text : List ℕ)
+    → MatchOption r ((length text < n) ⊎ (length text < length text))
+    (λ x. (n ≤ length text) × (length text ≤ length text) × (x.now ≡ slice_range text n (length text)) × (length x.now + n ≡ length text))
+    → none.now ≡ [] → (unwrap_or r none).now ≡ drop n text
+got None none n text (inl h) e = e ∙ sym (drop_of_length-le text {i = n} (omega arith))
+got None none n text (inr h) e = absurd (omega arith)
+got (Some x) none n text h e = h.2 ∙ part_is n text
+
+pub behind_place : {out : Bor (List ℕ)} (r : Option (Bor (List ℕ))) (none : Bor (List ℕ)) → out ≡ unwrap_or r none → (n : ℕ) (text : List ℕ)
+    → MatchOption r ((length text < n) ⊎ (length text < length text))
+    (λ x. (n ≤ length text) × (length text ≤ length text) × (x.now ≡ slice_range text n (length text)) × (length x.now + n ≡ length text))
+    → none.now ≡ [] → out.now ≡ drop n text
+behind_place r none h n text l e = ap (λ (b : Bor (List ℕ)). b.now) h ∙ got r none n text l e

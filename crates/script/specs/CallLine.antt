@@ -1,13 +1,12 @@
 -- A line that asks for a call: the end, a blank, and the words.
 -- Assumes nothing.
-use Rattle.std.specs.Prelude.{ℕ, Bool, true, false, cond, List, [], ◌∷◌, length, drop}
+use Rattle.std.specs.Prelude.{ℕ, Bool, true, false, cond, List, [], ◌∷◌, length, drop, Option, None}
 use Rattle.script.specs.TextParts.{begins}
 use Rattle.script.specs.WordsAsked.{Reading, no_bytes, word_rows, row_of, given_of, take_of, read_of}
 use Rattle.cells.specs.Cells.{front}
 use Rattle.script.specs.declared.Verb.TheVariants.{SendData}
 use Rattle.script.specs.declared.Request.TheVariants.{Call}
-use Rattle.script.specs.declared.Parsed.{Parsed}
-use Rattle.script.specs.declared.Parsed.TheVariants as parsed
+use Rattle.script.specs.declared.Asked.{Asked}
 
 -- the words before bytes and numbers, each with its blank: `send `, `take `, `read `
 abbrev pub send_word : List ℕ
@@ -38,9 +37,9 @@ unfoldable pub call_of : List ℕ → ℕ → Reading
 call_of line cells =
     cond (begins line first_end) (request_of false (drop 2 line) cells)
     (cond (begins line second_end) (request_of true (drop 2 line) cells)
-    (no_bytes parsed.Bad))
+    (no_bytes None))
 
-abbrev pub parsed_of : List ℕ → ℕ → Parsed
+abbrev pub parsed_of : List ℕ → ℕ → Option Asked
 parsed_of line cells = (call_of line cells).parsed
 
 -- the cells lent, with the bytes that the line gives at their front

@@ -1,37 +1,26 @@
 -- The first line: the word `ends` and six numbers, each behind one blank.
 -- Assumes nothing.
-use Rattle.std.specs.Prelude.{ℕ, Bool, true, false, cond, ◌&&◌, List, [], ◌∷◌, drop}
+use Rattle.std.specs.Prelude.{ℕ, cond, ◌&&◌, List, [], ◌∷◌, drop, Option, Some, None, is_some, unwrap_or}
 use Rattle.script.specs.TextParts.{begins, word_of, behind_word}
 use Rattle.digits.specs.DecimalRead.{number_of}
-use Rattle.digits.specs.declared.Number.{Number}
-use Rattle.digits.specs.declared.Number.TheVariants as number
-use Rattle.script.specs.declared.FirstLine.{FirstLine}
-use Rattle.script.specs.declared.FirstLine.TheVariants.{Ends, Bad}
-
-abbrev pub is_number : Number → Bool
-is_number (number.Is n) = true
-is_number number.Bad = false
-
-abbrev pub value_of : Number → ℕ
-value_of (number.Is n) = n
-value_of number.Bad = 0
+use Rattle.script.specs.declared.Sizes.{Sizes}
 
 -- all six are numbers
-abbrev pub six_of : Number → Number → Number → Number → Number → Number → FirstLine
+abbrev pub six_of : Option ℕ → Option ℕ → Option ℕ → Option ℕ → Option ℕ → Option ℕ → Option Sizes
 six_of a b c d e f =
-    cond (is_number a && is_number b && is_number c && is_number d && is_number e && is_number f)
-    (Ends (record {
-      window12 = value_of a;
-      max12 = value_of b;
-      window21 = value_of c;
-      max21 = value_of d;
-      inbox1 = value_of e;
-      inbox2 = value_of f;
+    cond (is_some a && is_some b && is_some c && is_some d && is_some e && is_some f)
+    (Some (record {
+      window12 = unwrap_or a 0;
+      max12 = unwrap_or b 0;
+      window21 = unwrap_or c 0;
+      max21 = unwrap_or d 0;
+      inbox1 = unwrap_or e 0;
+      inbox2 = unwrap_or f 0;
     }))
-    Bad
+    None
 
 -- each number ends at the next blank, the sixth with the text; where a blank is missing nothing stands behind it, which is no number
-unfoldable pub sizes_of : List ℕ → FirstLine
+unfoldable pub sizes_of : List ℕ → Option Sizes
 sizes_of text =
     let text2 = behind_word text in
     let text3 = behind_word text2 in
@@ -45,5 +34,5 @@ sizes_of text =
 abbrev pub ends_word : List ℕ
 ends_word = 0x65 ∷ 0x6E ∷ 0x64 ∷ 0x73 ∷ 0x20 ∷ []
 
-unfoldable pub first_line_of : List ℕ → FirstLine
-first_line_of line = cond (begins line ends_word) (sizes_of (drop 5 line)) Bad
+unfoldable pub first_line_of : List ℕ → Option Sizes
+first_line_of line = cond (begins line ends_word) (sizes_of (drop 5 line)) None

@@ -1,15 +1,10 @@
 -- What the words of a line ask, behind the end that it names.
 -- Assumes nothing.
-use Rattle.std.specs.Prelude.{ℕ, min, Bool, true, false, cond, List, [], ◌∷◌, leb, drop}
-use Rattle.std.proofs.Math.Option.{Option}
+use Rattle.std.specs.Prelude.{ℕ, min, Bool, true, false, cond, List, [], ◌∷◌, leb, drop, Option, Some, None}
 use Rattle.cells.specs.Cells.{front}
 use Rattle.cells.specs.Equal.{same_bytes}
 use Rattle.digits.specs.DecimalRead.{number_of}
 use Rattle.digits.specs.HexadecimalRead.{bytes_read, hex_answer, hex_bytes}
-use Rattle.digits.specs.declared.Number.{Number}
-use Rattle.digits.specs.declared.Number.TheVariants as number
-use Rattle.digits.specs.declared.Hex.{Hex}
-use Rattle.digits.specs.declared.Hex.TheVariants as hex
 use Rattle.control.specs.declared.Deferred.TheVariants.{Turn, End}
 use Rattle.script.specs.declared.Verb.TheVariants.{Allocate, Confirmed, SendError, RequestToSend, SendPacingResponse, SendData, Defer, Withdraw, Receive}
 use Rattle.script.specs.TextParts.{begins}
@@ -18,24 +13,23 @@ use Rattle.script.specs.declared.Flow.{Flow}
 use Rattle.script.specs.declared.Flow.TheVariants.{Normal, Expedited}
 use Rattle.script.specs.declared.Request.{Request}
 use Rattle.script.specs.declared.Request.TheVariants.{Call, Take, Offer}
-use Rattle.script.specs.declared.Parsed.{Parsed}
-use Rattle.script.specs.declared.Parsed.TheVariants as parsed
+use Rattle.script.specs.declared.Asked.{Asked}
 
 -- what a line asks, and the bytes that it gives
 pub record Reading : Type 0 where
-  pub parsed : Parsed
+  pub parsed : Option Asked
   pub given : List ℕ
 
 -- no byte is given
-abbrev pub no_bytes : Parsed → Reading
+abbrev pub no_bytes : Option Asked → Reading
 no_bytes p = record { parsed = p; given = [] }
 
 -- what is handed back, and the cells lent, with the bytes given at their front
-abbrev pub handed_back : Reading → List ℕ → Parsed × List ℕ
+abbrev pub handed_back : Reading → List ℕ → Option Asked × List ℕ
 handed_back x cells = (x.parsed, front x.given cells)
 
-abbrev pub plain : Bool → Request → ℕ → Parsed
-plain second request count = parsed.Call (record { second = second; request = request; count = count })
+abbrev pub plain : Bool → Request → ℕ → Option Asked
+plain second request count = Some (record { second = second; request = request; count = count })
 
 -- ---- words that stand alone
 
@@ -77,15 +71,15 @@ word_rows =
     ∷ []
 
 -- the first row that has these words
-abbrev pub row_of : Bool → List ℕ → List (List ℕ × Request) → Parsed
-row_of second words [] = parsed.Bad
+abbrev pub row_of : Bool → List ℕ → List (List ℕ × Request) → Option Asked
+row_of second words [] = None
 row_of second words (row ∷ rows) = cond (same_bytes words row.0) (plain second row.1 0) (row_of second words rows)
 
 -- ---- bytes, a unit, a number
 
-abbrev pub counted : Bool → Request → Hex → Parsed
-counted second request (hex.Bytes n) = plain second request n
-counted second request hex.Bad = parsed.Bad
+abbrev pub counted : Bool → Request → Option ℕ → Option Asked
+counted second request (Some n) = plain second request n
+counted second request None = None
 
 -- 1 to 2,048 bytes, for which there are cells
 unfoldable pub given_of : Bool → Request → List ℕ → ℕ → Reading
@@ -115,9 +109,9 @@ take_of second text cells =
     (offer_of second Normal text cells))
 
 -- a buffer of 0 to 2,048 cells
-abbrev pub read_into : Bool → Number → Parsed
-read_into second (number.Is n) = cond (leb n 2048) (plain second (Call Receive) n) parsed.Bad
-read_into second number.Bad = parsed.Bad
+abbrev pub read_into : Bool → Option ℕ → Option Asked
+read_into second (Some n) = cond (leb n 2048) (plain second (Call Receive) n) None
+read_into second None = None
 
-unfoldable pub read_of : Bool → List ℕ → Parsed
+unfoldable pub read_of : Bool → List ℕ → Option Asked
 read_of second text = read_into second (number_of text)

@@ -54,12 +54,6 @@ pub struct Asked {
     pub count: usize,
 }
 
-#[derive(Clone, Copy)]
-pub enum Parsed {
-    Call(Asked),
-    Bad,
-}
-
 // The first line: window and maximum RU from end 1 to end 2, then from 2 to 1, then the two inbox lengths.
 #[derive(Clone, Copy)]
 pub struct Sizes {
@@ -69,10 +63,4 @@ pub struct Sizes {
     pub max21: u16,
     pub inbox1: u16,
     pub inbox2: u16,
-}
-
-#[derive(Clone, Copy)]
-pub enum FirstLine {
-    Ends(Sizes),
-    Bad,
 }

@@ -32,22 +32,12 @@ pub fn line_end(text: &[u8], from: usize) -> usize
 pub fn text_length(line: &[u8]) -> usize
     ensures { (result ≡ text_length line.now) × (result ≤ length line.now) }
 {
-    let n = line.len();
-    if n == 0 {
-        return 0;
-    }
-    if line[n - 1] == b'\r' {
-        return n - 1;
-    }
-    n
+    line.strip_suffix(b"\r").unwrap_or(line).len()
 }
 
 // Whether a line with this text asks for nothing: it is empty, or a comment.
 pub fn passed_over(text: &[u8]) -> bool
     ensures { result ≡ passed_over text.now }
 {
-    if text.len() == 0 {
-        return true;
-    }
-    text[0] == b'#'
+    text.is_empty() || text.starts_with(b"#")
 }

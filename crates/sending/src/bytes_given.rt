@@ -8,8 +8,8 @@ ghost use Rattle.sending.specs.Sending.{keeps, bytes_added};
 use crate::Sending;
 use cells::copy;
 use header::Header;
-use logical_record::Walked;
 use logical_record::walk::{place_or, walk_over};
+use logical_record::{BadLength, Position};
 use unit::write::write_unit;
 
 // The bytes are 1 to M.
@@ -28,28 +28,21 @@ pub fn keeps(s: Sending, n: usize) -> bool
 }
 
 // The walk over new bytes, from where those given before stand.
-pub fn walk_given(s: Sending, bytes: &[u8]) -> Walked
+pub fn walk_given(s: Sending, bytes: &[u8]) -> Result<Position, BadLength>
     ensures { result ≡ walk s.given bytes.now }
 {
-    let given = s.given;
-    walk_over(given, bytes)
+    walk_over(s.given, bytes)
 }
 
 // The side once n more bytes are kept; `walked` is what the walk over them found.
-pub fn kept(s: Sending, n: usize, walked: Walked) -> Sending
+pub fn kept(s: Sending, n: usize, walked: Result<Position, BadLength>) -> Sending
     requires { s.held + n ≤ s.max }
     ensures { result ≡ bytes_added n (place_or s.given walked) s }
 {
-    let held = s.held + n as u16;
-    let window = s.window;
-    let before = s.given;
-    let given = place_or(before, walked);
     Sending {
-        window,
-        max: s.max,
-        held,
-        number: s.number,
-        given,
+        held: s.held + n as u16,
+        given: place_or(s.given, walked),
+        ..s
     }
 }
 
@@ -58,8 +51,7 @@ pub fn keep(held: u16, bytes: &[u8], send: &mut [u8])
     requires { held + length bytes.now ≤ length send.old }
     ensures { send.new ≡ written held bytes.now send.old }
 {
-    let from = held as usize;
-    copy(bytes, &mut send[from..]);
+    copy(bytes, &mut send[held as usize..]);
 }
 
 // Makes the unit of the bytes held.
@@ -67,8 +59,7 @@ pub fn send_held(number: u16, header: Header, held: u16, send: &[u8], unit: &mut
     requires { (held ≤ length send.now) × (5 + held ≤ length unit.old) }
     ensures { unit.new ≡ front (unit_of number header (take held send.now)) unit.old }
 {
-    let n = held as usize;
-    write_unit(unit, number, header, &send[..n], b"");
+    write_unit(unit, number, header, &send[..held as usize], b"");
 }
 
 // Makes the unit of the bytes held and the first of the new ones, `gone` of them. The rest is kept, at the front of the send

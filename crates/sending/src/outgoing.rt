@@ -11,7 +11,7 @@ use control::Control;
 use header::ChainEnd;
 use logical_record::positions::{is_position, is_whole, start};
 use logical_record::walk::place_or;
-use logical_record::{Position, Walked};
+use logical_record::{BadLength, Position};
 use pacing::fresh_window;
 use unit::maximum::max_good;
 use unit::ru::marks;
@@ -24,21 +24,11 @@ fn held_good(c: Control, s: Sending) -> bool
     (s.held <= s.max) & ((!c.outchain | (1 <= s.held)) & (c.may_hold() | (s.held == 0)))
 }
 
+#[tactic(auto, unfolding(crate::specs::Sending::sending_good))]
 pub fn sending_good(c: Control, s: Sending) -> bool
     ensures { result ≡ sending_good c s }
 {
-    let window = s.window;
-    let given = s.given;
-    if !window.window_good() {
-        return false;
-    }
-    if !max_good(s.max as u32) {
-        return false;
-    }
-    if !held_good(c, s) {
-        return false;
-    }
-    is_position(given)
+    s.window.window_good() && max_good(s.max as u32) && held_good(c, s) && is_position(s.given)
 }
 
 pub fn fresh_sending(window: u8, max: u16) -> Sending
@@ -57,8 +47,7 @@ pub fn fresh_sending(window: u8, max: u16) -> Sending
 pub fn given_whole(s: Sending) -> bool
     ensures { result ≡ is_whole s.given }
 {
-    let given = s.given;
-    is_whole(given)
+    is_whole(s.given)
 }
 
 // A unit that says nothing to follow goes only to carry bytes or the error that is due: any other flush of none makes no unit.
@@ -69,17 +58,16 @@ pub fn nothing_goes(held: u16, error: bool, ends: ChainEnd) -> bool
 }
 
 // A request has gone out: the next number, one credit less. The bytes held and the record place given are then these.
+#[tactic(auto, unfolding(crate::specs::Sending::request_made))]
 fn request_made(s: Sending, held: u16, given: Position) -> Sending
     ensures { result ≡ request_made held given s }
 {
-    let before = s.window;
-    let window = before.advanced();
     Sending {
-        window,
-        max: s.max,
+        window: s.window.advanced(),
         held,
         number: next_number(s.number),
         given,
+        ..s
     }
 }
 
@@ -87,25 +75,22 @@ fn request_made(s: Sending, held: u16, given: Position) -> Sending
 pub fn request_sent(s: Sending, held: u16) -> Sending
     ensures { result ≡ request_made held s.given s }
 {
-    let given = s.given;
-    request_made(s, held, given)
+    request_made(s, held, s.given)
 }
 
 // A request has gone out, and new bytes were given; `walked` is what the walk over them found.
-pub fn bytes_sent(s: Sending, held: u16, walked: Walked) -> Sending
+pub fn bytes_sent(s: Sending, held: u16, walked: Result<Position, BadLength>) -> Sending
     ensures { result ≡ request_made held (place_or s.given walked) s }
 {
-    let before = s.given;
-    request_made(s, held, place_or(before, walked))
+    request_made(s, held, place_or(s.given, walked))
 }
 
 // The pacing request is answered: a window more may go, besides what is left of the one in hand.
 pub fn credit_answered(s: Sending) -> Sending
     ensures { result ≡ credit_answered s }
 {
-    let before = s.window;
-    let window = before.answered();
-    let mut next = s;
-    next.window = window;
-    next
+    Sending {
+        window: s.window.answered(),
+        ..s
+    }
 }

@@ -6,6 +6,7 @@ use Rattle.session.specs.Opening.{opened}
 use Rattle.session.specs.declared.Session.{Session}
 use Rattle.session.specs.declared.bind_opening.SessionBytes.{SessionBytes}
 use Rattle.end.specs.declared.Done.{Done}
+use Rattle.answers.specs.declared.Answer.{Answer}
 
 -- the numbers that the bytes mean; a size byte that means no maximum has 0, which question 3 refuses
 abbrev pub meant : SessionBytes → Session
@@ -19,5 +20,5 @@ meant b =
     }
 
 -- the opening with the numbers meant
-unfoldable pub opened_by_bytes : SessionBytes → ℕ → ℕ → ℕ → Done
+unfoldable pub opened_by_bytes : SessionBytes → ℕ → ℕ → ℕ → Done Answer
 opened_by_bytes b send unit inbox = opened (meant b) send unit inbox

@@ -13,6 +13,7 @@ use Rattle.receiving.specs.Receiving.{fresh_receiving}
 use Rattle.session.specs.declared.Session.{Session}
 use Rattle.end.specs.declared.End.{End}
 use Rattle.end.specs.declared.Done.{Done}
+use Rattle.answers.specs.declared.Answer.{Answer}
 
 -- Reset, stay, no mark, chains closed, record places between records with no other part to follow, counts and numbers 0, credit and
 -- open equal to their W, flags off; no signal unanswered
@@ -32,7 +33,7 @@ abbrev pub zero_end : End
 zero_end = fresh_end FirstSpeaker 0 0 0 0 0
 
 -- opening by the lengths of the three buffers lent, in no cell of which it writes
-unfoldable pub opened : Session → ℕ → ℕ → ℕ → Done
+unfoldable pub opened : Session → ℕ → ℕ → ℕ → Done Answer
 opened s send unit inbox =
     let q : ℕ = opening_refusal s send unit inbox in
     cond (eqb q 0)

@@ -9,7 +9,6 @@ ghost use Rattle.std.specs.Prelude.{◌≡◌, length};
 ghost use Rattle.session.specs.Opening.{fresh_end, zero_end, opened};
 
 use control::Role;
-use control::state_tests::role_of;
 use end::results::{accepted, refused};
 use end::{Done, End};
 use expedited::signals::no_signal;
@@ -52,17 +51,15 @@ fn zero_end() -> End
 pub fn open_session(session: Session, send: usize, unit: usize, inbox: usize) -> Done
     ensures { result ≡ opened session send unit inbox }
 {
-    let q = opening_refusal(session, send, unit, inbox);
-    if q != 0 {
-        return refused(q, zero_end());
+    if let Err(why) = opening_refusal(session, send, unit, inbox) {
+        return refused(why.into(), zero_end());
     }
-    let role = role_of(session.role);
     let outmax = session.outmax as u16;
     let inmax = session.inmax as u16;
     accepted(
         0,
         fresh_end(
-            role,
+            Role::from(session.role),
             session.outwindow,
             outmax,
             session.inwindow,

@@ -1,10 +1,11 @@
 // What is asked before a session is opened.
 ghost use Rattle.std.specs.Prelude.{◌≡◌, ◌*◌};
+ghost use Rattle.answers.specs.Refusals.{outcome_number};
 ghost use Rattle.session.specs.OpeningQuestions.{buffers_good, opening_refusal};
 
 use crate::Session;
-use answers::first_no::then_ask;
-use answers::numbers::{BAD_BUFFER, BAD_MAXIMUM, BAD_ROLE, BAD_WINDOW};
+use answers::questions::ask;
+use answers::refusals::Refusal;
 use pacing::size_good;
 use unit::RU_START;
 use unit::maximum::max_good;
@@ -28,15 +29,15 @@ fn buffers_good(s: Session, send: usize, unit: usize, inbox: usize) -> bool
             & ((window_room(s.inwindow, s.inmax) <= inbox) & (inbox <= GREATEST_INBOX)))
 }
 
-pub fn opening_refusal(s: Session, send: usize, unit: usize, inbox: usize) -> u8
-    ensures { result ≡ opening_refusal s send unit inbox }
+#[tactic(auto, unfolding(crate::specs::OpeningQuestions::opening_refusal))]
+pub fn opening_refusal(s: Session, send: usize, unit: usize, inbox: usize) -> Result<(), Refusal>
+    ensures { outcome_number result ≡ opening_refusal s send unit inbox }
 {
-    let q = then_ask(0, (s.role == 0) | (s.role == 1), BAD_ROLE);
-    let q = then_ask(
-        q,
+    ask((s.role == 0) | (s.role == 1), Refusal::BadRole)?;
+    ask(
         size_good(s.outwindow) & size_good(s.inwindow),
-        BAD_WINDOW,
-    );
-    let q = then_ask(q, max_good(s.outmax) & max_good(s.inmax), BAD_MAXIMUM);
-    then_ask(q, buffers_good(s, send, unit, inbox), BAD_BUFFER)
+        Refusal::BadWindow,
+    )?;
+    ask(max_good(s.outmax) & max_good(s.inmax), Refusal::BadMaximum)?;
+    ask(buffers_good(s, send, unit, inbox), Refusal::BadBuffer)
 }

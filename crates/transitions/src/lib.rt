@@ -1,28 +1,16 @@
-// Every transition of the finite part.
+// Every transition of the finite part. Each is a free function of a Control: methods would have to stand in control, which asks and
+// changes one field, and knows no transition.
 #![tactic(auto)]
 
-ghost use Rattle.std.specs.Prelude.{◌≡◌, cond};
+ghost use Rattle.std.specs.Prelude.{◌≡◌};
 ghost use Rattle.transitions.specs.Transitions.{fresh, allocated, begin_of, spilled, after_last, closed, after_owed, confirmation_made};
 ghost use Rattle.transitions.specs.Transitions.{after_mark, mark_answered, mark_of_last, mark_of, data_received, bid_received, bid_answer};
 ghost use Rattle.transitions.specs.Transitions.{deferring, deferred, withdrawn, prepared, carried_out};
 ghost use Rattle.transitions.specs.Transitions.{positive_response_received, negative_response_received, confirmation_received};
 ghost use Rattle.transitions.specs.Transitions.{confirmation_denied, error_made, error_received, negative_confirmation_received};
 
-use control::state_tests::{is_first_speaker, is_reset};
 use control::{Control, Deferred, Role, State, WhatReceived};
 use header::{ChainBegin, ChainEnd, Follows, Header};
-
-fn choose(ok: bool, a: Control, b: Control) -> Control
-    ensures { result ≡ cond ok a b }
-{
-    if ok { a } else { b }
-}
-
-fn choose_mark(ok: bool, a: WhatReceived, b: WhatReceived) -> WhatReceived
-    ensures { result ≡ cond ok a b }
-{
-    if ok { a } else { b }
-}
 
 // The state after a last unit, without confirmation.
 fn after_last(f: Follows) -> State
@@ -48,14 +36,13 @@ fn after_owed(f: Follows) -> State
 fn mark_of_last(f: Follows, confirm: bool) -> WhatReceived
     ensures { result ≡ mark_of_last f confirm }
 {
-    match f {
-        Follows::Stay => choose_mark(confirm, WhatReceived::Confirm, WhatReceived::Nothing),
-        Follows::ChangeDirection => choose_mark(
-            confirm,
-            WhatReceived::ConfirmTurn,
-            WhatReceived::Turn,
-        ),
-        Follows::EndBracket => choose_mark(confirm, WhatReceived::ConfirmEnd, WhatReceived::End),
+    match (f, confirm) {
+        (Follows::Stay, false) => WhatReceived::Nothing,
+        (Follows::Stay, true) => WhatReceived::Confirm,
+        (Follows::ChangeDirection, false) => WhatReceived::Turn,
+        (Follows::ChangeDirection, true) => WhatReceived::ConfirmTurn,
+        (Follows::EndBracket, false) => WhatReceived::End,
+        (Follows::EndBracket, true) => WhatReceived::ConfirmEnd,
     }
 }
 
@@ -87,12 +74,15 @@ pub fn fresh(role: Role) -> Control
 }
 
 // Allocate: a first speaker sends, BB-due; a bidder has its flag on.
+#[tactic(auto, unfolding(crate::specs::Transitions::allocated))]
 pub fn allocated(c: Control) -> Control
     ensures { result ≡ allocated c }
 {
-    let role = c.role;
-    let speaking = c.with_state(State::Send).with_due(true);
-    choose(is_first_speaker(role), speaking, c.with_bid(true))
+    if c.role.is_first_speaker() {
+        c.with_state(State::Send).with_due(true)
+    } else {
+        c.with_bid(true)
+    }
 }
 
 // Where the next data unit stands at the begin of its chain.
@@ -101,16 +91,15 @@ pub fn begin_of(c: Control) -> ChainBegin
 {
     if c.outchain {
         ChainBegin::Continued
+    } else if c.due {
+        ChainBegin::FirstWithBracket
     } else {
-        if c.due {
-            ChainBegin::FirstWithBracket
-        } else {
-            ChainBegin::First
-        }
+        ChainBegin::First
     }
 }
 
 // A data unit that is not last in its chain has gone out.
+#[tactic(auto, unfolding(crate::specs::Transitions::spilled))]
 pub fn spilled(c: Control) -> Control
     ensures { result ≡ spilled c }
 {
@@ -118,15 +107,19 @@ pub fn spilled(c: Control) -> Control
 }
 
 // A last unit has gone out; with confirmation the end waits, noting what follows.
+#[tactic(auto, unfolding(crate::specs::Transitions::closed))]
 pub fn closed(c: Control, follows: Follows, confirm: bool) -> Control
     ensures { result ≡ closed follows confirm c }
 {
-    let waiting = c.with_follows(follows).with_state(State::ConfirmAwaited);
-    let state = after_last(follows);
-    let next = choose(confirm, waiting, c.with_state(state));
+    let next = if confirm {
+        c.with_follows(follows).with_state(State::ConfirmAwaited)
+    } else {
+        c.with_state(after_last(follows))
+    };
     next.with_due(false).with_outchain(false)
 }
 
+// No From<Deferred> for State: it would have to stand in control, away from the definition that it meets.
 fn deferring(what: Deferred) -> State
     ensures { result ≡ deferring what }
 {
@@ -137,6 +130,7 @@ fn deferring(what: Deferred) -> State
 }
 
 // A turn or an end is prepared: it is noted, and no more.
+#[tactic(auto, unfolding(crate::specs::Transitions::deferred))]
 pub fn deferred(c: Control, what: Deferred) -> Control
     ensures { result ≡ deferred what c }
 {
@@ -144,6 +138,7 @@ pub fn deferred(c: Control, what: Deferred) -> Control
 }
 
 // What was prepared is withdrawn.
+#[tactic(auto, unfolding(crate::specs::Transitions::withdrawn))]
 pub fn withdrawn(c: Control) -> Control
     ensures { result ≡ withdrawn c }
 {
@@ -154,13 +149,10 @@ fn prepared(s: State) -> Follows
     ensures { result ≡ prepared s }
 {
     match s {
-        State::Reset => Follows::Stay,
-        State::Send => Follows::Stay,
-        State::Receive => Follows::Stay,
-        State::ConfirmOwed => Follows::Stay,
-        State::ConfirmAwaited => Follows::Stay,
         State::DeferTurn => Follows::ChangeDirection,
         State::DeferEnd => Follows::EndBracket,
+        State::Reset | State::Send | State::Receive | State::ConfirmOwed | State::ConfirmAwaited =>
+            Follows::Stay,
     }
 }
 
@@ -168,24 +160,22 @@ fn prepared(s: State) -> Follows
 pub fn carried_out(c: Control, follows: Follows) -> Follows
     ensures { result ≡ carried_out follows c }
 {
-    let state = c.state;
     match follows {
-        Follows::Stay => prepared(state),
-        Follows::ChangeDirection => Follows::ChangeDirection,
-        Follows::EndBracket => Follows::EndBracket,
+        Follows::Stay => prepared(c.state),
+        Follows::ChangeDirection | Follows::EndBracket => follows,
     }
 }
 
 // The confirmation that was owed has gone out.
+#[tactic(auto, unfolding(crate::specs::Transitions::confirmation_made))]
 pub fn confirmation_made(c: Control) -> Control
     ensures { result ≡ confirmation_made c }
 {
-    let follows = c.follows;
-    let state = after_owed(follows);
-    c.with_state(state)
+    c.with_state(after_owed(c.follows))
 }
 
 // The confirmation that was owed is denied: this end sends, whatever was to follow, and first of all the error header.
+#[tactic(auto, unfolding(crate::specs::Transitions::confirmation_denied))]
 pub fn confirmation_denied(c: Control) -> Control
     ensures { result ≡ confirmation_denied c }
 {
@@ -193,6 +183,7 @@ pub fn confirmation_denied(c: Control) -> Control
 }
 
 // The error header has gone out.
+#[tactic(auto, unfolding(crate::specs::Transitions::error_made))]
 pub fn error_made(c: Control) -> Control
     ensures { result ≡ error_made c }
 {
@@ -203,7 +194,7 @@ fn after_mark(c: Control, mark: WhatReceived) -> Control
     ensures { result ≡ after_mark mark c }
 {
     match mark {
-        WhatReceived::Nothing => c,
+        WhatReceived::Nothing | WhatReceived::Error => c,
         WhatReceived::Turn => c.with_state(State::Send),
         WhatReceived::End => c.with_state(State::Reset),
         WhatReceived::Confirm => c.with_follows(Follows::Stay).with_state(State::ConfirmOwed),
@@ -213,30 +204,29 @@ fn after_mark(c: Control, mark: WhatReceived) -> Control
         WhatReceived::ConfirmEnd => c
             .with_follows(Follows::EndBracket)
             .with_state(State::ConfirmOwed),
-        WhatReceived::Error => c,
     }
 }
 
 // The mark was read.
+#[tactic(auto, unfolding(crate::specs::Transitions::mark_answered))]
 pub fn mark_answered(c: Control) -> Control
     ensures { result ≡ mark_answered c }
 {
-    let mark = c.mark;
-    after_mark(c, mark).with_mark(WhatReceived::Nothing)
+    after_mark(c, c.mark).with_mark(WhatReceived::Nothing)
 }
 
 // Data was taken.
+#[tactic(auto, unfolding(crate::specs::Transitions::data_received))]
 pub fn data_received(c: Control, ends: ChainEnd) -> Control
     ensures { result ≡ data_received ends c }
 {
-    let mark = mark_of(ends);
-    let last = header::build::is_last(ends);
     c.with_state(State::Receive)
-        .with_mark(mark)
-        .with_inchain(!last)
+        .with_mark(mark_of(ends))
+        .with_inchain(!ends.is_last())
 }
 
 // An error header was taken.
+#[tactic(auto, unfolding(crate::specs::Transitions::error_received))]
 pub fn error_received(c: Control) -> Control
     ensures { result ≡ error_received c }
 {
@@ -244,19 +234,22 @@ pub fn error_received(c: Control) -> Control
 }
 
 // A bid was taken, and granted in Reset.
+#[tactic(auto, unfolding(crate::specs::Transitions::bid_received))]
 pub fn bid_received(c: Control) -> Control
     ensures { result ≡ bid_received c }
 {
-    let state = c.state;
-    choose(is_reset(state), c.with_state(State::Receive), c)
+    if c.state.is_reset() {
+        c.with_state(State::Receive)
+    } else {
+        c
+    }
 }
 
 // What answers a bid.
 pub fn bid_answer(c: Control) -> Header
     ensures { result ≡ bid_answer c }
 {
-    let state = c.state;
-    if is_reset(state) {
+    if c.state.is_reset() {
         Header::PositiveBidResponse
     } else {
         Header::NegativeBidResponse
@@ -264,6 +257,7 @@ pub fn bid_answer(c: Control) -> Header
 }
 
 // The bid was granted.
+#[tactic(auto, unfolding(crate::specs::Transitions::positive_response_received))]
 pub fn positive_response_received(c: Control) -> Control
     ensures { result ≡ positive_response_received c }
 {
@@ -271,6 +265,7 @@ pub fn positive_response_received(c: Control) -> Control
 }
 
 // The bid was refused.
+#[tactic(auto, unfolding(crate::specs::Transitions::negative_response_received))]
 pub fn negative_response_received(c: Control) -> Control
     ensures { result ≡ negative_response_received c }
 {
@@ -278,15 +273,15 @@ pub fn negative_response_received(c: Control) -> Control
 }
 
 // The confirmation that was awaited came.
+#[tactic(auto, unfolding(crate::specs::Transitions::confirmation_received))]
 pub fn confirmation_received(c: Control) -> Control
     ensures { result ≡ confirmation_received c }
 {
-    let follows = c.follows;
-    let state = after_last(follows);
-    c.with_state(state)
+    c.with_state(after_last(c.follows))
 }
 
 // The confirmation that was awaited was denied.
+#[tactic(auto, unfolding(crate::specs::Transitions::negative_confirmation_received))]
 pub fn negative_confirmation_received(c: Control) -> Control
     ensures { result ≡ negative_confirmation_received c }
 {

@@ -1,18 +1,12 @@
--- The fixed RUs, by the kinds that an arm of a `match` takes together.
+-- The fixed RUs, by the kinds of headers that want them.
 -- Assumes nothing.
-use Rattle.std.proofs.Common.{◌≡◌, ℕ, List, [], refl, ◌⊎◌, inl, inr}
+use Rattle.std.proofs.Common.{◌≡◌, ℕ, List, refl}
 use Rattle.cells.specs.Equal.{same_bytes}
 use Rattle.unit.specs.Ru.{fixed_ru, ru_good}
 use Rattle.header.specs.declared.DataHeader.{DataHeader}
 use Rattle.header.specs.declared.Header.{Header}
 use Rattle.header.specs.declared.Header.TheVariants.{Data, Bid, ErrorDescription}
 use Rattle.header.specs.declared.Header.TheVariants.{PositiveBidResponse, NegativeBidResponse, Confirmation, NegativeConfirmation, PacingResponse}
-
--- Data, Confirmation and PacingResponse have none
-pub empty_ru : (f : Header) → ((d : DataHeader) × (f ≡ Data d)) ⊎ ((f ≡ Confirmation) ⊎ (f ≡ PacingResponse)) → [] ≡ fixed_ru f
-empty_ru f (inl d) = rw d.1
-empty_ru f (inr (inl e)) = rw e
-empty_ru f (inr (inr e)) = rw e
 
 -- all but Data want the fixed one
 pub wants_fixed : (max : ℕ) (f : Header) (ru : List ℕ) → ((d : DataHeader) → f ≡ Data d → ⊥) → same_bytes ru (fixed_ru f) ≡ ru_good max f ru

@@ -1,5 +1,5 @@
 mod FixedRu
-mod ReadByHeader
+pub mod ReadByHeader
 mod Writing
 pub mod WrittenIsRead
 pub mod UnitLaws

@@ -1,43 +1,48 @@
--- A unit is read by its header.
+-- A unit is read by its header, on either line.
 -- Assumes nothing.
-use Rattle.std.proofs.Common.{◌≡◌, ℕ, ◌<◌, ◌≤◌, Bool, true, false, cond, List, length, ap, arith, le-leb}
-use borrow.Author.Tests.{lt-leb}
-use Rattle.header.specs.Rules.{lowest_broken, header_good}
-use Rattle.header.specs.Header.{fields_of, read_header}
-use Rattle.unit.specs.Unit.{RU_START, number_in, header_in, heading_of, read_unit}
-use Rattle.header.specs.declared.Header.{Header}
-use Rattle.header.specs.declared.HeaderRead.{HeaderRead}
-use Rattle.header.specs.declared.HeaderRead.TheVariants.{Good, Breaks}
+use Rattle.std.proofs.Common.{◌≡◌, ℕ, ◌<◌, ◌≤◌, Bool, true, false, cond, leb, List, length, Result, Ok, Err, refl, ap, ◌∙◌, leb-true, leb-false}
+use Rattle.bools.proofs.Cases.{split}
 use Rattle.header.specs.declared.Rule.{Rule}
+use Rattle.unit.specs.Unit.{RU_START, number_in, heading_read}
 use Rattle.unit.specs.declared.Heading.{Heading}
-use Rattle.unit.specs.declared.UnitRead.TheVariants as unit_read
+use Rattle.unit.specs.declared.Unreadable.{Unreadable}
+use Rattle.unit.specs.declared.Unreadable.TheVariants.{TooShort, Breaks}
 
-abbrev heading_as : ℕ → Header → Heading
-heading_as n f = record { number = n; header = f }
+module _ {H : Type 0} (u : List ℕ) (ok : Bool) (f : H) (rule : Rule) where
+  abbrev n : ℕ
+  n = number_in u
 
-good_heading : (ok : Bool) (q : HeaderRead) (r : Rule) (n : ℕ) (f g : Header) → q ≡ cond ok (Good g) (Breaks r) → q ≡ Good f
-    → unit_read.Good (heading_as n f) ≡ cond ok (unit_read.Good (heading_as n g)) (unit_read.Breaks r)
-good_heading true q r n f g e d = let s : f ≡ g = cc in ap (λ (k : Header). unit_read.Good (heading_as n k)) s
-good_heading false q r n f g e d = absurd (let s : ◌≡◌ {A = ℕ} 0 1 = cc in omega arith)
+  -- the heading of a good header, or the rule that another breaks
+  by_header : (good : Bool) → heading_read n (cond good (Ok f) (Err rule)) ≡ cond good (Ok (record { number = n; header = f })) (Err (Breaks rule))
+  by_header true = refl
+  by_header false = refl
 
-pub unit_good : (u : List ℕ) (n : ℕ) (q : HeaderRead) (f : Header) → RU_START ≤ length u → n ≡ number_in u → q ≡ read_header (header_in u)
-    → q ≡ Good f
-    → unit_read.Good (heading_as n f) ≡ read_unit u
-unfolding read_header read_unit heading_of
-unit_good u n q f h en e d =
-    rw (le-leb _ _ h, en) (good_heading (header_good (header_in u)) q (lowest_broken (header_in u)) (number_in u) f (fields_of (header_in u)) e d)
+  -- what `read_heading` ensures, told as one value
+  pub read_as : (r : Result (Heading H) Unreadable) → (length u < RU_START → r ≡ Err TooShort)
+      → (RU_START ≤ length u → (q : Result H Rule) × (q ≡ cond ok (Ok f) (Err rule)) × (r ≡ heading_read n q))
+      → r ≡ cond (leb RU_START (length u)) (cond ok (Ok (record { number = n; header = f })) (Err (Breaks rule))) (Err TooShort)
+  read_as r short read =
+      split (leb RU_START (length u))
+      (λ y. let p = read (leb-true RU_START (length u) y) in rw y (p.2 ∙ ap (heading_read n) p.1 ∙ by_header ok))
+      (λ s. rw s (short (leb-false RU_START (length u) s)))
 
-bad_heading : (ok : Bool) (q : HeaderRead) (r s : Rule) (n : ℕ) (g : Header) → q ≡ cond ok (Good g) (Breaks r) → q ≡ Breaks s
-    → unit_read.Breaks s ≡ cond ok (unit_read.Good (heading_as n g)) (unit_read.Breaks r)
-bad_heading true q r s n g e d = absurd (let t : ◌≡◌ {A = ℕ} 0 1 = cc in omega arith)
-bad_heading false q r s n g e d = let t : s ≡ r = cc in ap (λ (k : Rule). unit_read.Breaks k) t
+-- ---- what was read, told from the two tests of a unit's head
 
-pub unit_breaks : (u : List ℕ) (q : HeaderRead) (s : Rule) → RU_START ≤ length u → q ≡ read_header (header_in u) → q ≡ Breaks s
-    → unit_read.Breaks s ≡ read_unit u
-unfolding read_header read_unit heading_of
-unit_breaks u q s h e d =
-    rw (le-leb _ _ h) (bad_heading (header_good (header_in u)) q (lowest_broken (header_in u)) s (number_in u) (fields_of (header_in u)) e d)
+abbrev pub read_by : {H : Type 0} → Bool → Bool → Heading H → Rule → Result (Heading H) Unreadable
+read_by long good x rule = cond long (cond good (Ok x) (Err (Breaks rule))) (Err TooShort)
 
-pub unit_short : (u : List ℕ) → length u < RU_START → unit_read.TooShort ≡ read_unit u
-unfolding read_unit
-unit_short u h = rw (lt-leb _ _ h)
+pub good_of : {H : Type 0} (long good : Bool) (h x : Heading H) (rule : Rule) → Ok h ≡ read_by long good x rule → (long ≡ true) × (good ≡ true) × (h ≡ x)
+good_of true true h x rule e = (refl, refl, cc)
+good_of true false h x rule e = absurd cc
+good_of false good h x rule e = absurd cc
+
+pub short_of : {H : Type 0} (long good : Bool) (x : Heading H) (rule : Rule) → Err TooShort ≡ read_by long good x rule → long ≡ false
+short_of true true x rule e = absurd cc
+short_of true false x rule e = absurd cc
+short_of false good x rule e = refl
+
+pub broken_of : {H : Type 0} (long good : Bool) (x : Heading H) (named rule : Rule) → Err (Breaks named) ≡ read_by long good x rule
+    → (long ≡ true) × (good ≡ false) × (named ≡ rule)
+broken_of true true x named rule e = absurd cc
+broken_of true false x named rule e = (refl, refl, cc)
+broken_of false good x named rule e = absurd cc

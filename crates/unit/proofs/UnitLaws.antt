@@ -1,12 +1,11 @@
 -- Laws of units and headers, for the crates above; the round trip of headers is passed on from its own file.
 -- Assumes nothing.
 pub use Rattle.header.proofs.RoundTrip.{built_good, built_fields, read_bytes}
-use Rattle.std.proofs.Common.{◌≡◌, ℕ, ◌+◌, ◌≤◌, List, length, drop, refl, div-add-mod', arith, le-leb}
+use Rattle.std.proofs.Common.{Ok, ◌≡◌, ℕ, ◌+◌, ◌≤◌, List, length, drop, refl, div-add-mod', arith, le-leb}
 use Rattle.cells.specs.Cells.{front}
 use Rattle.header.specs.Header.{header_bytes}
 use Rattle.unit.specs.Unit.{RU_START, unit_bytes, unit_of, bytes_made, cells_made, number_in, header_in, heading_of, read_unit}
 use Rattle.header.specs.declared.Header.{Header}
-use Rattle.unit.specs.declared.UnitRead.TheVariants as unit_read
 
 -- ---- what a unit holds
 
@@ -29,7 +28,7 @@ unit_ru n f ru = refl
 -- ---- a unit is read
 
 pub unit_read_lem : (n : ℕ) (f : Header) (ru : List ℕ)
-    → read_unit (unit_of n f ru) ≡ unit_read.Good (record { number = n; header = f })
+    → read_unit (unit_of n f ru) ≡ Ok (record { number = n; header = f })
 unfolding read_unit heading_of
 unit_read_lem n f ru =
     rw (

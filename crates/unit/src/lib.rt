@@ -1,7 +1,10 @@
 // The unit: a 2-byte sequence number, high byte first, the header, and the RU from byte 5 on.
 #![tactic(auto)]
 
+ghost use Rattle.std.specs.Prelude.{◌≡◌};
+
 pub mod expedited;
+pub mod fixed;
 pub mod maximum;
 pub mod read_unit;
 pub mod ru;
@@ -9,36 +12,31 @@ pub mod sequence;
 pub mod theorems;
 pub mod write;
 
-use header::{ExpeditedHeader, Header, Rule};
+use header::Rule;
 
 // Where the RU starts in a unit.
 pub const RU_START: usize = 5;
 
-// What stands before a unit's RU.
-#[derive(Clone, Copy)]
-pub struct Heading {
+// What stands before a unit's RU: its number, and its header, which is of the kinds of its line.
+#[derive(Clone, Copy, Debug, PartialEq, Eq)]
+pub struct Heading<H> {
     pub number: u16,
-    pub header: Header,
+    pub header: H,
 }
 
-// What a unit says: its heading; or that it is too short for one (refusal 20); or a rule that its header breaks (21).
-#[derive(Clone, Copy)]
-pub enum UnitRead {
-    Good(Heading),
+// Why a unit has no heading: it is too short for one (refusal 20), or its header breaks a rule (21).
+#[derive(Clone, Copy, Debug, PartialEq, Eq)]
+pub enum Unreadable {
     TooShort,
     Breaks(Rule),
 }
 
-// The same of a unit on an expedited line.
-#[derive(Clone, Copy)]
-pub struct ExpeditedHeading {
-    pub number: u16,
-    pub header: ExpeditedHeader,
-}
+impl From<Rule> for Unreadable {
+    ghost use Rattle.unit.specs.declared.Unreadable.TheVariants.{Breaks};
 
-#[derive(Clone, Copy)]
-pub enum ExpeditedUnitRead {
-    Good(ExpeditedHeading),
-    TooShort,
-    Breaks(Rule),
+    ghost from_gives = { λ rule e. e ≡ Breaks rule };
+
+    fn from(rule: Rule) -> Unreadable {
+        Unreadable::Breaks(rule)
+    }
 }

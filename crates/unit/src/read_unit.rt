@@ -1,36 +1,42 @@
-// A unit read: its number and its header.
-ghost use Rattle.std.specs.Prelude.{◌≡◌};
-ghost use Rattle.unit.specs.Unit.{number_of, read_unit};
+// A unit read, on either line: its number and its header.
+ghost use Rattle.std.specs.Prelude.{◌≡◌, ◌<◌, ◌≤◌, Err, Result, length};
+ghost use Rattle.header.specs.declared.Rule.{Rule};
+ghost use Rattle.unit.specs.Unit.{RU_START, number_of, number_in, header_in, heading_read, read_unit};
 
-use crate::{Heading, RU_START, UnitRead};
-use header::read_header::read_header;
-use header::{HeaderBytes, HeaderRead};
+use crate::{Heading, RU_START, Unreadable};
+use header::{Header, HeaderBytes, Rule};
 
 // The sequence number, high byte first.
-pub(crate) fn number_of(high: u8, low: u8) -> u16
+fn number_of(high: u8, low: u8) -> u16
     ensures { result ≡ number_of high low }
 {
-    (high as u16) * 256 + (low as u16)
+    u16::from_be_bytes([high, low])
 }
 
-// What a unit says before its RU.
-pub fn read_unit(unit: &[u8]) -> UnitRead
-    ensures { result ≡ read_unit unit.now }
+// What a unit says before its RU, on a line that has these headers.
+pub(crate) fn read_heading<H: TryFrom<HeaderBytes, Error = Rule>>(
+    unit: &[u8],
+) -> Result<Heading<H>, Unreadable>
+    ensures short { length unit.now < RU_START → result ≡ Err Unreadable.TooShort }
+    ensures read { RU_START ≤ length unit.now
+        → (read : Result H Rule) × H.try_from_gives (header_in unit.now) read
+        × (result ≡ heading_read (number_in unit.now) read) }
 {
     if unit.len() < RU_START {
-        return UnitRead::TooShort;
+        return Err(Unreadable::TooShort);
     }
     let number = number_of(unit[0], unit[1]);
-    let read = read_header(HeaderBytes {
+    let header = H::try_from(HeaderBytes {
         b0: unit[2],
         b1: unit[3],
         b2: unit[4],
-    });
-    match read {
-        HeaderRead::Good(header) => {
-            let heading = Heading { number, header };
-            UnitRead::Good(heading)
-        }
-        HeaderRead::Breaks(rule) => UnitRead::Breaks(rule),
-    }
+    })?;
+    Ok(Heading { number, header })
+}
+
+// What a unit on the normal line says before its RU.
+pub fn read_unit(unit: &[u8]) -> Result<Heading<Header>, Unreadable>
+    ensures { result ≡ read_unit unit.now }
+{
+    read_heading(unit)
 }

@@ -12,6 +12,7 @@ use lib.ListN.{length, take, drop, length-append, length-drop, take-append-drop}
 use lib.Seq.{take-append_seam, drop_at, length-take-le}
 use Rattle.cells.specs.Cells.{front, written}
 use Rattle.cells.proofs.Fronts.{written_length, written_bytes}
+use Rattle.std.specs.Prelude.{Option, Some, None, MatchOption}
 use Rattle.bools.proofs.Cases.{never, split}
 use Rattle.bools.proofs.Finite.{halves}
 use Rattle.unit_lines.specs.declared.Line.{Line}
@@ -72,19 +73,49 @@ module _ (l : Line) (cells : List ℕ) (us : List (List ℕ)) where
 
 -- ---- the oldest
 
--- what an end that is not 0 says
-pub end_within : (l : Line) (cells : List ℕ) → (oldest_end l cells ≡ 0 → ⊥)
-    → (1 ≤ l.units) × (l.used ≤ length cells) × (oldest_end l cells ≤ l.used) × (2 ≤ oldest_end l cells)
+-- where one stands: it ends past the first, within the line
+pub ends_there : (l : Line) (cells : List ℕ) (past : ℕ) → oldest_end l cells ≡ Some past
+    → (past ≡ past_first cells) × (stands l (length cells) (past_first cells) ≡ true)
 unfolding oldest_end
-end_within l cells n =
+ends_there l cells past e =
     split (stands l (length cells) (past_first cells))
-    (λ y. (
+    (λ y. (let e : Some (past_first cells) ≡ Some past = rw y at e in cc, y))
+    (λ y. absurd (let e : ◌≡◌ {A = Option ℕ} None (Some past) = rw y at e in cc))
+
+-- and what that says
+pub end_within : (l : Line) (cells : List ℕ) (past : ℕ) → oldest_end l cells ≡ Some past
+    → (1 ≤ l.units) × (l.used ≤ length cells) × (past ≤ l.used) × (2 ≤ past)
+end_within l cells past e =
+    let t = ends_there l cells past e in
+    let y = t.1 in
+    let p = t.0 in (
       leb-true 1 l.units (search halves),
       leb-true l.used (length cells) (search halves),
-      rw y (leb-true (past_first cells) l.used (search halves)),
-      rw y (omega arith),
-    ))
-    (λ y. absurd (n (rw y)))
+      rw p (leb-true (past_first cells) l.used (search halves)),
+      omega arith,
+    )
+
+-- where the length before it is read, and whether it is within the line
+pub stands_at : (l : Line) (cells : List ℕ) (past : ℕ) → past ≡ past_first cells → stands l (length cells) past ≡ true
+    → Some past ≡ oldest_end l cells
+unfolding oldest_end
+stands_at l cells past p t =
+    let y : stands l (length cells) (past_first cells) ≡ true = sym (ap (stands l (length cells)) p) ∙ t in
+    rw (p, y)
+
+pub none_at : (l : Line) (cells : List ℕ) (past : ℕ) → past ≡ past_first cells → stands l (length cells) past ≡ false
+    → None ≡ oldest_end l cells
+unfolding oldest_end
+none_at l cells past p t =
+    let n : stands l (length cells) (past_first cells) ≡ false = sym (ap (stands l (length cells)) p) ∙ t in
+    rw n
+
+-- in cells too few for a length none stands
+pub none_short : (l : Line) (cells : List ℕ) → length cells < 2 → None ≡ oldest_end l cells
+none_short l cells h =
+    split (stands l (length cells) (past_first cells))
+    (λ y. absurd (omega (arith, leb-true l.used (length cells) (search halves), leb-true (past_first cells) l.used (search halves))))
+    (λ n. none_at l cells (past_first cells) refl n)
 
 module _ (l : Line) (cells u : List ℕ) (us : List (List ℕ)) (h : Holds l cells (u ∷ us)) where
   -- the cells begin with the oldest, and the others behind it
@@ -110,36 +141,46 @@ module _ (l : Line) (cells u : List ℕ) (us : List (List ℕ)) (h : Holds l cel
         le-leb (2 + length u) l.used (omega (arith, h.used_are, length-append u (frames us))),
       )
 
-  pub unit_stands : UnitTo (oldest_end l cells) u cells
+  pub stands_oldest : oldest_end l cells ≡ Some (2 + length u)
   unfolding oldest_end
+  stands_oldest = rw (stands_there, past_is)
+
+  pub unit_stands : UnitTo (2 + length u) u cells
   unit_stands =
       record {
-        past_is = rw stands_there past_is;
+        past_is = refl;
         unit_is =
             ap (λ (c : List ℕ). take (length u) (drop 2 c)) oldest_first
             ∙ take-append_seam u (frames us ++ drop (length (frames (u ∷ us))) cells);
       }
 
+  pub unit_ends : MatchOption (oldest_end l cells) ⊥ (λ past. UnitTo past u cells)
+  unit_ends = rw stands_oldest unit_stands
+
+  pub ends_behind : (past : ℕ) → oldest_end l cells ≡ Some past → past ≡ 2 + length u
+  ends_behind past e = (ends_there l cells past e).0 ∙ past_is
+
   -- ---- it goes: the cells of the line, moved to the front by its own
 
-  rest_is_lem : drop (oldest_end l cells) (take l.used cells) ≡ frames us
+  rest_is_lem : drop (2 + length u) (take l.used cells) ≡ frames us
   unfolding frames
-  rest_is_lem = rw (unit_stands.past_is, h.used_are, h.cells_are) (drop_at (framed u) (frames us) (2 + length u) (omega arith))
+  rest_is_lem = rw (h.used_are, h.cells_are) (drop_at (framed u) (frames us) (2 + length u) (omega arith))
 
   used_within : l.used ≤ length cells
-  used_within = (end_within l cells (λ z. omega (arith, unit_stands.past_is))).1
+  used_within = (end_within l cells (2 + length u) stands_oldest).1
 
   used_is : l.used ≡ 2 + length u + length (frames us)
   unfolding frames
   used_is = h.used_are ∙ omega (arith, length-append u (frames us))
 
-  pub removed : (after : List ℕ) → after ≡ front (drop (oldest_end l cells) (take l.used cells)) (take l.used cells)
-      → Holds (record { units = l.units - 1; used = l.used - oldest_end l cells }) (after ++ drop l.used cells) us
+  pub removed : (past : ℕ) (after : List ℕ) → oldest_end l cells ≡ Some past
+      → after ≡ front (drop past (take l.used cells)) (take l.used cells)
+      → Holds (record { units = l.units - 1; used = l.used - past }) (after ++ drop l.used cells) us
   unfolding front NoneLonger
-  removed after e =
+  removed past after o e =
+      let p = ends_behind past o in
       let m : after ++ drop l.used cells ≡ frames us ++ (drop (length (frames us)) (take l.used cells) ++ drop l.used cells) =
-      rw (e, rest_is_lem) (append_assoc (frames us) (drop (length (frames us)) (take l.used cells)) (drop l.used cells)) in
-      let p = unit_stands.past_is in
+      rw (e, p, rest_is_lem) (append_assoc (frames us) (drop (length (frames us)) (take l.used cells)) (drop l.used cells)) in
       let k = length-take-le l.used cells used_within in
       record {
         units_are = omega (arith, h.units_are);
@@ -152,21 +193,20 @@ module _ (l : Line) (cells u : List ℕ) (us : List (List ℕ)) (h : Holds l cel
 
 -- ---- whether a unit waits
 
-pub none_waits : (l : Line) (cells : List ℕ) (us : List (List ℕ)) → Holds l cells us → oldest_end l cells ≡ 0 → us ≡ []
+pub none_waits : (l : Line) (cells : List ℕ) (us : List (List ℕ)) → Holds l cells us → oldest_end l cells ≡ None → us ≡ []
 none_waits l cells [] h z = refl
-none_waits l cells (u ∷ us) h z = absurd (omega (arith, (unit_stands l cells u us h).past_is))
+none_waits l cells (u ∷ us) h z = absurd (let e : ◌≡◌ {A = Option ℕ} None (Some (2 + length u)) = sym z ∙ stands_oldest l cells u us h in cc)
 
-pub record First (l : Line) (cells : List ℕ) (us : List (List ℕ)) : Type 0 where
+pub record First (past : ℕ) (l : Line) (cells : List ℕ) (us : List (List ℕ)) : Type 0 where
   pub unit : List ℕ
   pub rest : List (List ℕ)
   pub are : us ≡ unit ∷ rest
   pub holds : Holds l cells (unit ∷ rest)
-  pub there : take (oldest_end l cells - 2) (drop 2 cells) ≡ unit
+  pub there : take (past - 2) (drop 2 cells) ≡ unit
 
-pub one_waits : (l : Line) (cells : List ℕ) (us : List (List ℕ)) → Holds l cells us → (oldest_end l cells ≡ 0 → ⊥) → First l cells us
-unfolding oldest_end
-one_waits l cells [] h n = absurd (n (rw (lt-leb 1 l.units (omega (arith, h.units_are)))))
-one_waits l cells (u ∷ us) h n =
-    let s = unit_stands l cells u us h in
-    let k : oldest_end l cells - 2 ≡ length u = omega (arith, s.past_is) in
-    record { unit = u; rest = us; are = refl; holds = h; there = rw k s.unit_is }
+pub one_waits : (past : ℕ) (l : Line) (cells : List ℕ) (us : List (List ℕ)) → Holds l cells us → oldest_end l cells ≡ Some past
+    → First past l cells us
+one_waits past l cells [] h e = absurd (omega (arith, h.units_are, (end_within l cells past e).0))
+one_waits past l cells (u ∷ us) h e =
+    let k : past - 2 ≡ length u = omega (arith, ends_behind l cells u us h past e) in
+    record { unit = u; rest = us; are = refl; holds = h; there = rw k (unit_stands l cells u us h).unit_is }

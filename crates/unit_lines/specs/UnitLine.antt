@@ -1,6 +1,6 @@
 -- A line of units in lent cells: each unit behind its length in two bytes, high byte first; the oldest stands first.
 -- Assumes nothing.
-use Rattle.std.specs.Prelude.{ℕ, ◌+◌, ◌*◌, ◌/◌, ◌%◌, ◌≤◌, ◌≡◌, Bool, cond, ◌&&◌, List, [], ◌∷◌, ◌++◌, leb, ltb, length, take, drop, get_or}
+use Rattle.std.specs.Prelude.{ℕ, ◌+◌, ◌*◌, ◌/◌, ◌%◌, ◌≤◌, ◌≡◌, Bool, cond, ◌&&◌, List, [], ◌∷◌, ◌++◌, leb, ltb, length, take, drop, get_or, Option, Some, None}
 use Rattle.unit.specs.Unit.{RU_START}
 use Rattle.unit.specs.Maximum.{greatest_max}
 use Rattle.unit_lines.specs.declared.Line.{Line}
@@ -53,9 +53,9 @@ past_first cells = 2 + (get_or cells 0 0 * 256 + get_or cells 1 0)
 abbrev pub stands : Line → ℕ → ℕ → Bool
 stands l cells past = leb 1 l.units && (leb l.used cells && leb past l.used)
 
--- where the oldest unit ends; 0 if none stands there
-unfoldable pub oldest_end : Line → List ℕ → ℕ
-oldest_end l cells = cond (stands l (length cells) (past_first cells)) (past_first cells) 0
+-- where the oldest unit ends, if one stands there
+unfoldable pub oldest_end : Line → List ℕ → Option ℕ
+oldest_end l cells = cond (stands l (length cells) (past_first cells)) (Some (past_first cells)) None
 
 -- the unit stands from cell 2 to there
 pub record UnitTo (past : ℕ) (u cells : List ℕ) : Type 0 where

@@ -2,7 +2,7 @@
 // Any line and any cells are taken; a line that does not agree with its cells is left as it is.
 #![tactic(auto)]
 
-ghost use Rattle.std.specs.Prelude.{◌≡◌, false, List, [], ◌∷◌, ◌++◌, ℕ, ◌+◌, ◌*◌, ◌≤◌, ◌<◌, leb, length, get_or};
+ghost use Rattle.std.specs.Prelude.{◌≡◌, false, List, [], ◌∷◌, ◌++◌, ℕ, ◌+◌, ◌*◌, ◌≤◌, ◌<◌, leb, length, MatchOption};
 ghost use Rattle.cells.specs.Cells.{front};
 ghost use Rattle.calls.specs.Calls.{units_of};
 ghost use Rattle.unit_lines.specs.UnitLine.{MOST_UNITS, LONGEST_UNIT, LONGEST_FRAME, framed, Holds, has_room, stands, oldest_end, UnitTo};
@@ -18,7 +18,7 @@ pub const LONGEST_UNIT: usize = 1029;
 // The cells of the longest unit with its length.
 const LONGEST_FRAME: usize = 1031;
 
-// The units on a line, and the cells that they take.
+// The units on a line, and the cells that they take. The cells are lent at each call, since memory is fixed.
 #[derive(Clone, Copy)]
 pub struct Line {
     pub units: u16,
@@ -95,17 +95,6 @@ pub fn deliver(line: Line, cells: &mut [u8], unit: &[u8], n: usize) -> Line
     put(line, cells, &unit[..n])
 }
 
-// The byte at `at`, 0 past the end.
-fn byte_at(cells: &[u8], at: usize) -> usize
-    ensures { (result ≡ get_or cells.now at 0) × (result < 256) }
-{
-    if at < cells.len() {
-        cells[at] as usize
-    } else {
-        0
-    }
-}
-
 // A unit that ends at `past` is within what the line says that it holds.
 fn stands(line: Line, cells: usize, past: usize) -> bool
     ensures { result ≡ stands line cells past }
@@ -113,29 +102,32 @@ fn stands(line: Line, cells: usize, past: usize) -> bool
     (1 <= line.units) & ((line.used <= cells) & (past <= line.used))
 }
 
-// Where the oldest unit ends, which starts at cell 2; 0 if none stands there.
-pub fn oldest_end(line: Line, cells: &[u8]) -> usize
+// Where the oldest unit ends, which starts at cell 2, if one stands there.
+pub fn oldest_end(line: Line, cells: &[u8]) -> Option<usize>
     ensures is { result ≡ oldest_end line cells.now }
-    ensures unit { (u : List ℕ) (us : List (List ℕ)) → Holds line cells.now (u ∷ us) → UnitTo result u cells.now }
+    ensures unit { (u : List ℕ) (us : List (List ℕ)) → Holds line cells.now (u ∷ us)
+        → MatchOption result ⊥ (λ past. UnitTo past u cells.now) }
 {
-    let past = 2 + (byte_at(cells, 0) * 256 + byte_at(cells, 1));
+    let [high, low, ..] = cells else {
+        return None;
+    };
+    let past = 2 + usize::from(u16::from_be_bytes([*high, *low]));
     if stands(line, cells.len(), past) {
-        past
+        Some(past)
     } else {
-        0
+        None
     }
 }
 
 // The oldest unit goes, and the others move to the front.
 pub fn remove_oldest(line: Line, cells: &mut [u8]) -> Line
     ensures removed { (u : List ℕ) (us : List (List ℕ)) → Holds line cells.old (u ∷ us) → Holds result cells.new us }
-    ensures kept { oldest_end line cells.old ≡ 0 → (result ≡ line) × (cells.new ≡ cells.old) }
+    ensures kept { oldest_end line cells.old ≡ None → (result ≡ line) × (cells.new ≡ cells.old) }
 {
-    let used = line.used;
-    let past = oldest_end(line, cells);
-    if past == 0 {
+    let Some(past) = oldest_end(line, cells) else {
         return line;
-    }
+    };
+    let used = line.used;
     move_to_front(&mut cells[..used], past);
     Line {
         units: line.units - 1,

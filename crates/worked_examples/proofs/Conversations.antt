@@ -2,7 +2,7 @@
 -- Assumes nothing.
 use Rattle.std.specs.Prelude.{refl}
 use Rattle.worked_examples.specs.Computed.{computed}
-use Rattle.worked_examples.specs.Conversations.{race, refused, cut, Conversations}
+use Rattle.worked_examples.specs.Conversations.{Conversations}
 
 pub held : Conversations
 unfolding computed

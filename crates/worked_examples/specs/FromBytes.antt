@@ -7,6 +7,7 @@ use Rattle.session.specs.BindOpening.{opened_by_bytes}
 use Rattle.session.specs.BindClaims.{EqualNumbers}
 use Rattle.session.specs.declared.bind_opening.SessionBytes.{SessionBytes}
 use Rattle.end.specs.declared.Done.{Done}
+use Rattle.answers.specs.declared.Answer.{Answer}
 use Rattle.answers.specs.Answers.{accepted, refused}
 use Rattle.worked_examples.specs.Stations.{session}
 
@@ -15,7 +16,7 @@ abbrev pub bytes : ℕ → ℕ → ℕ → SessionBytes
 bytes role window size = record { role = role; outwindow = window; inwindow = window; outsize = size; insize = size }
 
 -- with the longest send and unit buffers of any session, and an inbox of 7 × 1,024
-abbrev pub opens : SessionBytes → Done
+abbrev pub opens : SessionBytes → Done Answer
 opens b = opened_by_bytes b 1024 1029 7168
 
 abbrev pub Fails : SessionBytes → ℕ → Type 0

@@ -13,14 +13,11 @@ use Rattle.bench.proofs.step_call.Goals as goal
 pub returns-then-is_full : goal.returns-then-is_full
 returns-then-is_full c =
     let a = c.args in
-    let u = c.unmade.ensures in
     λ waiting there es us vs held.
     let l = verb_lane a.verb in
     let here = ways_of a.lines waiting a.far.now in
     full_step (Call a.verb) a.given.now
-    (bench_of a.end a.send.now a.unit.now a.inbox.now a.buffer.now (placed l here there)) _ _ _ _ es us vs
-    (rw (u.1, u.2))
-    u.0
+    (bench_of a.end a.send.now a.unit.now a.inbox.now a.buffer.now (placed l here there)) es us vs
     (counted a.lines.to a.far.now (vs l) true (leads_here l here there us vs held) (sym c.is_full.ensures ∙ c.if-is_full.true))
     refl
 
@@ -28,7 +25,7 @@ pub returns : goal.returns
 returns c =
     let a = c.args in
     let d = c.call-done in
-    let joins = c.deliver-behind in
+    let joins = c.deliver-to in
     λ waiting there es us vs held.
     let l = verb_lane a.verb in
     let s = station_of a.end a.send.now a.unit.now a.inbox.now in
@@ -38,5 +35,6 @@ returns c =
     let fit = call_fits a.verb a.given.now s a.buffer.now here there d.result d.new.send d.new.unit
     d.new.inbox d.new.buffer d.ensures.acted in
     call_step a.verb a.given.now s a.buffer.now here there d.result d.new.send d.new.unit
-    d.new.inbox d.new.buffer d.ensures.acted joins.result joins.new.cells es us vs d.ensures.unread held
+    d.new.inbox d.new.buffer d.ensures.acted (record { from = a.lines.from; to = joins.result })
+    joins.result joins.new.cells es us vs d.ensures.unread held
     (joins.ensures (vs l) far_are (leb-false 512 (length (vs l)) n) fit.short fit.there) n

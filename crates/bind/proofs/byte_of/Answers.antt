@@ -36,7 +36,12 @@ pub returns-then-mantissa-exponent : goal.returns-then-mantissa-exponent
 returns-then-mantissa-exponent c =
     let size = c.args.size in
     let e = place size in
-    rw (found_is_moved size c.requires, eq-eqb (size / 2 ^ e * 2 ^ e) size (sym (kept size e (search rules)) ∙ c.if-mantissa-exponent.true))
+    let l = (normalized size c.requires).least in
+    rw (
+      found_is_moved size c.requires,
+      eq-eqb (size / 2 ^ e * 2 ^ e) size (sym (kept size e (search rules)) ∙ c.if-mantissa-exponent.true),
+      ne_eqb (size / 2 ^ e * 16 + e) 0 (λ z. absurd (omega (arith, l, z))),
+    )
 
 pub returns-else-mantissa-exponent : goal.returns-else-mantissa-exponent
 returns-else-mantissa-exponent c =

@@ -1,14 +1,9 @@
--- `attach_header::characters::all_belong` meets its contract. The loop's invariant: the bytes left belong exactly where all do. The measure
--- is the number of bytes left.
+-- `attach_header::characters::all_belong` meets its contract. The loop's invariant: the bytes left belong exactly where all do.
 -- Assumes nothing.
 use mathlib.Core.Path.{◌≡◌}
-use Prim.Native.Nat.{◌-◌, ◌≤◌}
-use lib.ListN.{length, drop}
+use lib.ListN.{drop}
 use Rattle.attach_header.specs.Characters.{belongs, every}
 use Rattle.attach_header.proofs.characters.all_belong.Given as goal
 
-abbrev pub invariant-loop-i : goal.invariant-loop-i
-invariant-loop-i l = (l.i ≤ length l.s) × (every (belongs l.graphic) (drop l.i l.s) ≡ every (belongs l.graphic) l.s)
-
-abbrev pub decreases-loop-i : goal.decreases-loop-i
-decreases-loop-i l = length l.s - l.i
+abbrev pub invariant-loop-b : goal.invariant-loop-b
+invariant-loop-b l = every (belongs l.graphic) (drop l.b-index l.s) ≡ every (belongs l.graphic) l.s

@@ -1,11 +1,12 @@
 -- `attach_header::writing::write_attach` meets its contract.
 -- Assumes nothing.
-use mathlib.Core.Path.{◌≡◌, sym, ◌∙◌}
+use mathlib.Core.Path.{◌≡◌}
 use mathlib.Core.Bool.{true}
 use Prim.Native.Nat.{ℕ, ◌≤◌}
 use lib.ListN.{length}
 use native.Mathlib.Omega.{arith}
-use borrow.Author.Tests.{eq-eqb, ne_eqb, leb-true}
+use borrow.Author.Tests.{eq-eqb, leb-true}
+use Rattle.answers.proofs.Outcomes.{passed}
 use Rattle.answers.proofs.Rows.{yes}
 use Rattle.answers.specs.FirstNo.{first_no}
 use Rattle.attach_header.specs.Fields.{fields_of}
@@ -22,24 +23,16 @@ asked a room z =
     let y = yes (write_questions a room) tt z in
     (y 2, leb-true (needed a) 255 (y 1), leb-true 255 room (y 0))
 
-pub returns-then-refusal-ne0 : goal.returns-then-refusal-ne0
-unfolding write_attach
-returns-then-refusal-ne0 c =
-    let q = c.write_refusal-refusal in
-    rw (c.refuse.ensures, q.ensures, ne_eqb (first_no (write_questions c.args.attach (length c.args.header.now))) 0 (λ z. c.if-refusal-ne0.true (q.ensures ∙ z)))
-
 pub put_header-length-requires : goal.put_header-length-requires
 put_header-length-requires c =
     let a = c.args in
-    let q = c.write_refusal-refusal in
-    asked a.attach (length a.header.now) (sym q.ensures ∙ c.if-refusal-ne0.false)
+    asked a.attach (length a.header.now) (passed c.in_default.is c.write_refusal.ensures)
 
 pub returns : goal.returns
 unfolding write_attach
 returns c =
     let a = c.args in
-    let q = c.write_refusal-refusal in
-    let z = sym q.ensures ∙ c.if-refusal-ne0.false in
+    let z = passed c.in_default.is c.write_refusal.ensures in
     let g = asked a.attach (length a.header.now) z in
     let l = whole_length a.attach (fits a.attach g.0) in
     let f = put_front (header_of (fields_of a.attach)) a.header.now (omega (arith, l, g.1, g.2)) c.put_header-length.ensures in

@@ -3,4 +3,4 @@
 use Rattle.bench.proofs.made_call.unit_told.Goals as goal
 
 pub returns : goal.returns
-returns c = rw c.plain_answer-answer.ensures
+returns c = rw c.plain_answer.ensures

@@ -2,13 +2,12 @@
 -- The measure is the number of digits left.
 -- Assumes nothing.
 use mathlib.Core.Path.{◌≡◌}
-use Prim.Native.Nat.{◌-◌, ◌≤◌}
-use lib.ListN.{length, drop}
+use lib.ListN.{length}
 use Rattle.digits.specs.HexadecimalRead.{are_pairs}
 use Rattle.digits.proofs.hexadecimal_read.are_pairs.Given as goal
 
-abbrev pub invariant-loop-i : goal.invariant-loop-i
-invariant-loop-i l = (l.i ≤ length l.text) × (are_pairs (drop l.i l.text) ≡ are_pairs l.text)
+abbrev pub invariant-loop-left : goal.invariant-loop-left
+invariant-loop-left l = are_pairs l.left ≡ are_pairs l.text
 
-abbrev pub decreases-loop-i : goal.decreases-loop-i
-decreases-loop-i l = length l.text - l.i
+abbrev pub decreases-loop-left : goal.decreases-loop-left
+decreases-loop-left l = length l.left

@@ -1,8 +1,6 @@
 -- `digits::hexadecimal_read::write_bytes` meets its contract. The loop's invariant: the first i bytes are written.
--- The measure is the number of bytes left.
 -- Assumes nothing.
 use mathlib.Core.Path.{◌≡◌, refl, ap, ◌∙◌}
-use Prim.Native.Nat.{zero-le}
 use native.Mathlib.Omega.{arith}
 use lib.ListN.{length, length-set}
 use lib.Seq.{paste, paste-zero}
@@ -14,24 +12,26 @@ use Rattle.digits.proofs.hexadecimal_read.write_bytes.Goals as goal
 
 pub loop-i-init : goal.loop-i-init
 loop-i-init c = let a = c.args in
-    (zero-le, half a.text.now c.requires.0, omega arith, refl, paste-zero a.into.now 0 (bytes_of a.text.now))
+    (refl, paste-zero a.into.now 0 (bytes_of a.text.now))
+
+pub bounds-into-i : goal.bounds-into-i
+bounds-into-i c = let n = half c.args.text.now c.requires.0 in omega (arith, c.requires.1, c.loop-i.invariant.0)
 
 pub loop-i-preserved : goal.loop-i-preserved
 loop-i-preserved c =
     let l = c.loop-i in
     let a = c.args in
     let s = a.text.now in
-    let h = c.requires.1 in (
-      omega arith,
-      l.invariant.1,
-      l.invariant.2,
-      simp length-set l.invariant.3,
-      rw (l.invariant.4, c.byte.ensures, ← byte_at s l.i (omega arith)) (written_more a.into.now (bytes_of s) l.i (omega arith) (omega arith)),
+    let h = c.requires.1 in
+    let n = half s c.requires.0 in (
+      simp length-set l.invariant.0,
+      rw (l.invariant.1, c.byte.ensures, ← byte_at s l.i (omega arith)) (written_more a.into.now (bytes_of s) l.i (omega arith) (omega arith)),
     )
 
 pub returns : goal.returns
 returns c =
     let l = c.loop-i in
     let a = c.args in
+    let n = half a.text.now c.requires.0 in
     let e : l.i ≡ length (bytes_of a.text.now) = omega arith in
-    l.invariant.4 ∙ (ap (paste a.into.now 0 (bytes_of a.text.now)) e ∙ moved_all a.into.now (bytes_of a.text.now))
+    l.invariant.1 ∙ (ap (paste a.into.now 0 (bytes_of a.text.now)) e ∙ moved_all a.into.now (bytes_of a.text.now))

@@ -1,16 +1,11 @@
 -- `digits::printed::decimal` meets its contract. The invariant: the digits of what is left, and those stored behind them, are those of the number; i + 1 cells are enough for what is left.
 -- Assumes nothing.
-use mathlib.Core.Path.{◌≡◌, refl, sym}
-use mathlib.Core.List.{append-nil}
+use mathlib.Core.Path.{◌≡◌}
 use Prim.Native.Nat.{◌+◌, ◌-◌}
 use native.Mathlib.Omega.{arith}
 use lib.ListN.{length, set, length-set}
-use Rattle.digits.specs.Printed.{decimal_of}
 use Rattle.digits.proofs.PrintedDigits.{more_left, digit_stored, first_stored, rest_is_lem}
 use Rattle.digits.proofs.printed.decimal.Goals as goal
-
-pub loop-rest-init : goal.loop-rest-init
-loop-rest-init c = (omega arith, omega arith, refl, sym (append-nil (decimal_of c.args.n)), omega arith)
 
 pub loop-rest-preserved : goal.loop-rest-preserved
 loop-rest-preserved c =

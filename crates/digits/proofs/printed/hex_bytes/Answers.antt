@@ -21,20 +21,20 @@ returns-then-out-at-2 c =
     let e = length_hex a.bytes.now in
     sym (not_put (hex_of a.bytes.now) a.at a.out.now (omega arith))
 
-pub loop-i-init : goal.loop-i-init
-loop-i-init c = let e = length_hex c.args.bytes.now in (omega arith, left_all (omega arith))
+pub loop-b-init : goal.loop-b-init
+loop-b-init c = let e = length_hex c.args.bytes.now in left_all (omega arith)
 
-pub loop-i-preserved : goal.loop-i-preserved
-loop-i-preserved c =
+pub loop-b-preserved : goal.loop-b-preserved
+loop-b-preserved c =
     let bs = c.args.bytes.now in
-    let l = c.loop-i in
-    let m = hex_more bs l.i (omega arith) in
-    (omega arith, left_less (hex_byte (get_or bs l.i 0)) (rw m at l.invariant.1) c.hex_byte-next.ensures)
+    let l = c.loop-b in
+    let m = hex_more bs l.b-index (omega arith) in
+    left_less (hex_byte (get_or bs l.b-index 0)) (rw m at l.invariant) c.hex_byte-next.ensures
 
 pub returns : goal.returns
 unfolding hex_of
 returns c =
     let bs = c.args.bytes.now in
-    let l = c.loop-i in
-    let n : drop l.i bs ≡ [] = drop_of_length-le bs {i = l.i} (omega arith) in
-    left_none (rw n at l.invariant.1)
+    let l = c.loop-b in
+    let n : drop l.b-index bs ≡ [] = drop_of_length-le bs {i = l.b-index} (omega arith) in
+    left_none (rw n at l.invariant)

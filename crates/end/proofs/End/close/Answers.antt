@@ -11,6 +11,7 @@ use Rattle.header.specs.declared.Header.TheVariants.{ErrorDescription}
 use Rattle.pacing.specs.Pacing.{paced}
 use Rattle.unit.specs.Ru.{error_ru}
 use Rattle.end.specs.declared.Done.{Done}
+use Rattle.answers.specs.declared.Answer.{Answer}
 use Rattle.end.specs.Requests.{data_header}
 use Rattle.end.specs.SendData.{held_bytes}
 use Rattle.end.specs.Outcome.{Out, cells_out, done_of}
@@ -27,7 +28,7 @@ returns-then-done-eq0 c = let a = c.args in
     let unit = a.unit.now in
     let d = close_decision a.self a.follows a.confirm send (length unit) in
     let e = c.close_decision-done.ensures send refl in
-    let said = ap (λ (y : Done). y.answer.unit) e in
+    let said = ap (λ (y : Done Answer). y.answer.unit) e in
     let m = close_makes a.self a.follows a.confirm send (length unit) in
     let o = stays d d.end.sending.number (last_header a.self (closing a.self a.follows) a.confirm) (last_ru a.self send) (length unit) m (sym said ∙ c.if-done-eq0.true) in
     rw e (sym (ap (λ (x : Out). made_by (done_of d) (cells_out x unit)) o))
@@ -52,7 +53,7 @@ send_held-requires c = let a = c.args in
     let unit = a.unit.now in
     let d = close_decision a.self a.follows a.confirm send (length unit) in
     let e = c.close_decision-done.ensures send refl in
-    let said = ap (λ (y : Done). y.answer.unit) e in
+    let said = ap (λ (y : Done Answer). y.answer.unit) e in
     let r = close_goes a.self a.follows a.confirm send (length unit) (λ z. c.if-done-eq0.false (said ∙ z)) in
     (r.in_send_lem, r.in_unit)
 
@@ -63,7 +64,7 @@ returns c = let a = c.args in
     let unit = a.unit.now in
     let d = close_decision a.self a.follows a.confirm send (length unit) in
     let e = c.close_decision-done.ensures send refl in
-    let said = ap (λ (y : Done). y.answer.unit) e in
+    let said = ap (λ (y : Done Answer). y.answer.unit) e in
     let m = close_makes_if a.self a.follows a.confirm send (length unit) false c.if-self.false in
     let o = goes d d.end.sending.number (data_header a.self (Last (closing a.self a.follows) a.confirm)) (held_bytes a.self send) (length unit) m
     (λ z. c.if-done-eq0.false (said ∙ z)) in

@@ -1,4 +1,4 @@
--- `end::End::receive_expedited` meets its contract. `write_expedited_made` writes what was decided: the response to a signal, or nothing.
+-- `end::End::receive_expedited` meets its contract. `write_made` writes what was decided: the response to a signal, or nothing.
 -- Assumes nothing.
 use mathlib.Core.Path.{ap}
 use mathlib.Core.List.{List}
@@ -14,5 +14,5 @@ unfolding receive_expedited
 returns c =
     let a = c.args in
     let d = receive_expedited_decision a.self a.taken.now (length a.unit.now) in
-    rw (c.write_expedited_made.ensures, c.receive_expedited_decision-done.ensures)
+    rw (c.write_made.ensures, c.receive_expedited_decision-done.ensures)
     (ap (λ (cells : List ℕ). expedited_by (expedited_done a.taken.now d) cells) (take_left a.self a.taken.now a.unit.now))

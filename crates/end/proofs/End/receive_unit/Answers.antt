@@ -3,6 +3,7 @@
 use mathlib.Core.Path.{ap, ◌∙◌}
 use lib.ListN.{length}
 use Rattle.end.specs.declared.Done.{Done}
+use Rattle.answers.specs.declared.Answer.{Answer}
 use Rattle.end.proofs.ReceiveUnitCells.{take_rooms, take_left}
 use Rattle.end.proofs.End.receive_unit.Goals as goal
 
@@ -10,7 +11,7 @@ pub join-requires : goal.join-requires
 join-requires c = λ x.
     let a = c.args in
     take_rooms a.self a.taken.now a.inbox.now (length a.unit.now)
-    (λ z. x (ap (λ (y : Done). y.end.receiving.held) c.receive_unit_decision-done.ensures ∙ z))
+    (λ z. x (ap (λ (y : Done Answer). y.end.receiving.held) c.receive_unit_decision-done.ensures ∙ z))
 
 pub returns : goal.returns
 returns c = let a = c.args in

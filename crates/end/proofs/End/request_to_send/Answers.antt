@@ -1,4 +1,4 @@
--- `end::End::request_to_send` meets its contract. `write_expedited_made` writes what was decided: a signal, or nothing.
+-- `end::End::request_to_send` meets its contract. `write_made` writes what was decided: a signal, or nothing.
 -- Assumes nothing.
 use mathlib.Core.Path.{ap}
 use mathlib.Core.List.{List}
@@ -15,5 +15,5 @@ unfolding request_to_send
 returns c =
     let a = c.args in
     let d = request_decision a.self (length a.unit.now) in
-    rw (c.write_expedited_made.ensures, c.request_to_send_decision-done.ensures)
+    rw (c.write_made.ensures, c.request_to_send_decision-done.ensures)
     (ap (λ (cells : List ℕ). made_by (done_of d) cells) (request_left a.self a.unit.now))

@@ -4,10 +4,10 @@ use mathlib.Core.Path.{refl, sym, ap, ◌∙◌}
 use native.Mathlib.Omega.{arith}
 use lib.ListN.{length}
 use Rattle.end.specs.declared.Done.{Done}
+use Rattle.answers.specs.declared.Answer.{Answer}
 use Rattle.end.specs.Outcome.{done_of}
 use Rattle.end.specs.SendData.{send_decision, send_data}
 use Rattle.end.proofs.SendDataCells.{send_sends, send_refused}
-use borrow.Author.Rules.{rules}
 use Rattle.end.proofs.End.send_data.Goals as goal
 
 pub returns-then-done-ne0 : goal.returns-then-done-ne0
@@ -17,7 +17,7 @@ returns-then-done-ne0 c = let a = c.args in
     let send = a.send.now in
     let unit = a.unit.now in
     let e = c.send_decision-done.ensures send refl in
-    let number = ap (λ (y : Done). y.answer.refusal) e in
+    let number = ap (λ (y : Done Answer). y.answer.refusal) e in
     let d = send_decision a.self bytes send (length unit) in
     let s = send_refused a.self bytes send unit (λ z. c.if-done-ne0.true (number ∙ z)) in
     rw e (λ i. record { done = done_of d; send = sym s.0 i; unit = sym s.1 i })
@@ -28,8 +28,8 @@ keep-requires c = let a = c.args in
     let send = a.send.now in
     let unit = a.unit.now in
     let e = c.send_decision-done.ensures send refl in
-    let number = ap (λ (y : Done). y.answer.refusal) e in
-    let said = ap (λ (y : Done). y.answer.unit) e in
+    let number = ap (λ (y : Done Answer). y.answer.refusal) e in
+    let said = ap (λ (y : Done Answer). y.answer.unit) e in
     let s = send_sends a.self bytes send unit (sym number ∙ c.if-done-ne0.false) in
     omega (arith, (s.if_kept (sym said ∙ c.if-done-eq0.true)).0, s.room.in_send_lem)
 
@@ -40,8 +40,8 @@ returns-then-done-eq0 c = let a = c.args in
     let send = a.send.now in
     let unit = a.unit.now in
     let e = c.send_decision-done.ensures send refl in
-    let number = ap (λ (y : Done). y.answer.refusal) e in
-    let said = ap (λ (y : Done). y.answer.unit) e in
+    let number = ap (λ (y : Done Answer). y.answer.refusal) e in
+    let said = ap (λ (y : Done Answer). y.answer.unit) e in
     let s = send_sends a.self bytes send unit (sym number ∙ c.if-done-ne0.false) in
     let d = send_decision a.self bytes send (length unit) in
     let k = s.if_kept (sym said ∙ c.if-done-eq0.true) in
@@ -53,7 +53,7 @@ overflow_sub-gone c = let a = c.args in
     let send = a.send.now in
     let unit = a.unit.now in
     let e = c.send_decision-done.ensures send refl in
-    let number = ap (λ (y : Done). y.answer.refusal) e in
+    let number = ap (λ (y : Done Answer). y.answer.refusal) e in
     let s = send_sends a.self bytes send unit (sym number ∙ c.if-done-ne0.false) in
     omega (arith, s.room.rules.held)
 
@@ -63,8 +63,8 @@ send_full-requires c = let a = c.args in
     let send = a.send.now in
     let unit = a.unit.now in
     let e = c.send_decision-done.ensures send refl in
-    let number = ap (λ (y : Done). y.answer.refusal) e in
-    let said = ap (λ (y : Done). y.answer.unit) e in
+    let number = ap (λ (y : Done Answer). y.answer.refusal) e in
+    let said = ap (λ (y : Done Answer). y.answer.unit) e in
     let s = send_sends a.self bytes send unit (sym number ∙ c.if-done-ne0.false) in
     let past = (s.if_gone (λ z. c.if-done-eq0.false (said ∙ z))).0 in
     let r = s.room in
@@ -78,8 +78,8 @@ returns c = let a = c.args in
     let send = a.send.now in
     let unit = a.unit.now in
     let e = c.send_decision-done.ensures send refl in
-    let number = ap (λ (y : Done). y.answer.refusal) e in
-    let said = ap (λ (y : Done). y.answer.unit) e in
+    let number = ap (λ (y : Done Answer). y.answer.refusal) e in
+    let said = ap (λ (y : Done Answer). y.answer.unit) e in
     let s = send_sends a.self bytes send unit (sym number ∙ c.if-done-ne0.false) in
     let d = send_decision a.self bytes send (length unit) in
     let g = s.if_gone (λ z. c.if-done-eq0.false (said ∙ z)) in

@@ -1,14 +1,9 @@
 -- `image::image_parts::write_place` meets its contract: the kind, and the number right behind it.
 -- Assumes nothing.
-use lib.ListN.{length-set}
 use native.Mathlib.Omega.{arith}
-use mathlib.Core.Path.{◌∙◌}
 use Rattle.image.specs.ImageParts.{place_kind, place_value, number_bytes}
 use Rattle.image.proofs.Writes.{one_stored}
 use Rattle.image.proofs.image_parts.write_place.Goals as goal
-
-pub shape_of-image : goal.shape_of-image
-shape_of-image c = c.write_number.auto.image ∙ simp length-set
 
 pub returns : goal.returns
 returns c = let a = c.args in

@@ -3,5 +3,5 @@
 use Rattle.lu62.proofs.CallsOnImage.{arms}
 use Rattle.lu62.proofs.expedited_calls.lu62_receive_expedited.Goals as goal
 
-pub hand_out_expedited-requires : goal.hand_out_expedited-requires
-hand_out_expedited-requires c = search arms
+pub hand_out-requires : goal.hand_out-requires
+hand_out-requires c = search arms

@@ -9,7 +9,7 @@ unfolding opening_out
 returns-then-image-ne-IMAGE c = rw (ne_eqb _ _ c.if-image-ne-IMAGE.true, c.refuse_image.ensures.0, c.refuse_image.ensures.1)
 
 pub hand_out-requires : goal.hand_out-requires
-hand_out-requires c = (c.requires, c.if-image-ne-IMAGE.false)
+hand_out-requires c = record { fits = c.requires; whole = c.if-image-ne-IMAGE.false }
 
 pub returns : goal.returns
 unfolding opening_out

@@ -6,4 +6,4 @@ use Rattle.lu62.proofs.handing.hand_out.Goals as goal
 
 pub returns : goal.returns
 unfolding image_written
-returns c = rw (c.hand_answer.ensures.0, c.hand_answer.ensures.1, c.write_image.ensures, eq-eqb _ _ c.requires.1)
+returns g c = rw (c.numbers.ensures, c.write_image.ensures, eq-eqb _ _ c.requires.whole)

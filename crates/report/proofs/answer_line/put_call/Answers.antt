@@ -7,6 +7,6 @@ use Rattle.report.proofs.answer_line.put_call.Goals as goal
 pub returns : goal.returns
 unfolding call_text
 returns c =
-    put_prints (rw c.end_digit.ensures.0 at c.put_word-behind_end.ensures)
+    put_prints (rw c.end_digit.ensures at c.put-behind_end.ensures)
     then put_prints c.put-behind_blank.ensures
-    then put_prints (rw c.request_word.ensures.0 at c.put_word.ensures)
+    then put_prints (rw c.request_word.ensures at c.put.ensures)

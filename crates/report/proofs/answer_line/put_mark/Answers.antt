@@ -14,4 +14,4 @@ unfolding mark_text
 returns c =
     rw (sym c.is_nothing.ensures ∙ c.if-is_nothing.false)
     (put_prints c.put-behind_label.ensures
-    then put_prints (rw c.mark_word.ensures.0 at c.put_word.ensures))
+    then put_prints (rw c.mark_word.ensures at c.put.ensures))

@@ -8,7 +8,7 @@ pub returns : goal.returns
 unfolding open_text
 returns c =
     prints_line
-    (put_prints (rw c.end_digit.ensures.0 at c.put_word-behind_end.ensures)
+    (put_prints (rw c.end_digit.ensures at c.put-behind_end.ensures)
     then put_prints c.put-behind_word.ensures
     then put_prints c.decimal-behind_number.ensures
     then put_prints c.put.ensures)

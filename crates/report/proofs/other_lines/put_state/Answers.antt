@@ -7,8 +7,8 @@ use Rattle.report.proofs.other_lines.put_state.Goals as goal
 pub returns : goal.returns
 unfolding state_text
 returns c =
-    put_prints (rw c.end_digit.ensures.0 at c.put_word-behind_end.ensures)
+    put_prints (rw c.end_digit.ensures at c.put-behind_end.ensures)
     then put_prints c.put-behind_blank.ensures
-    then put_prints (rw c.state_word.ensures.0 at c.put_word-behind_state.ensures)
+    then put_prints (rw c.state_word.ensures at c.put-behind_state.ensures)
     then put_prints c.put-behind_label.ensures
-    then put_prints (rw c.mark_word.ensures.0 at c.put_word.ensures)
+    then put_prints (rw c.mark_word.ensures at c.put.ensures)

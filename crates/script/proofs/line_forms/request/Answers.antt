@@ -1,30 +1,33 @@
 -- `script::line_forms::request` meets its contract. Each return is one row of the rule.
 -- Assumes nothing.
-use mathlib.Core.Path.{sym, ◌∙◌}
+use mathlib.Core.Bool.{true, false}
 use Rattle.cells.proofs.Fronts.{front_none}
-use Rattle.script.specs.CallLine.{request_of}
+use Rattle.script.proofs.Prefixes.{begins_by}
+use Rattle.script.specs.CallLine.{send_word, take_word, read_word, request_of}
 use Rattle.script.proofs.line_forms.request.Goals as goal
 
-pub returns-then-begins : goal.returns-then-begins
+pub returns-in-Some : goal.returns-in-Some
 unfolding request_of
-returns-then-begins c =
-    rw (sym c.begins.ensures ∙ c.if-begins.true) (rw c.behind.ensures at c.given.ensures)
+returns-in-Some c =
+    let e = c.in-Some.ensures.cases in
+    rw (begins_by c.args.words.now send_word true e.0) (rw e.1 at c.given.ensures)
 
-pub returns-then-begins-2 : goal.returns-then-begins-2
+pub returns-in-Some-strip_prefix : goal.returns-in-Some-strip_prefix
 unfolding request_of
-returns-then-begins-2 c =
-    rw (sym c.begins.ensures ∙ c.if-begins.false, sym c.begins-2.ensures ∙ c.if-begins-2.true)
-    (rw c.behind-then-begins-2.ensures at c.take.ensures)
+returns-in-Some-strip_prefix c =
+    let e = c.in-Some-strip_prefix.ensures.cases in
+    rw (begins_by c.args.words.now send_word false c.in_default.ensures.cases, begins_by c.args.words.now take_word true e.0) (rw e.1 at c.take.ensures)
 
-pub returns-then-begins-3 : goal.returns-then-begins-3
+pub returns-in-Some-strip_prefix-2 : goal.returns-in-Some-strip_prefix-2
 unfolding request_of
-returns-then-begins-3 c =
+returns-in-Some-strip_prefix-2 c =
+    let e = c.in-Some-strip_prefix-2.ensures.cases in
     rw (
-      sym c.begins.ensures ∙ c.if-begins.false,
-      sym c.begins-2.ensures ∙ c.if-begins-2.false,
-      sym c.begins-3.ensures ∙ c.if-begins-3.true,
+      begins_by c.args.words.now send_word false c.in_default.ensures.cases,
+      begins_by c.args.words.now take_word false c.in_default-strip_prefix.ensures.cases,
+      begins_by c.args.words.now read_word true e.0,
       c.read.ensures,
-      c.behind-then-begins-3.ensures,
+      e.1,
       front_none,
     )
 
@@ -32,9 +35,9 @@ pub returns : goal.returns
 unfolding request_of
 returns c =
     rw (
-      sym c.begins.ensures ∙ c.if-begins.false,
-      sym c.begins-2.ensures ∙ c.if-begins-2.false,
-      sym c.begins-3.ensures ∙ c.if-begins-3.false,
+      begins_by c.args.words.now send_word false c.in_default.ensures.cases,
+      begins_by c.args.words.now take_word false c.in_default-strip_prefix.ensures.cases,
+      begins_by c.args.words.now read_word false c.in_default-strip_prefix-2.ensures.cases,
       c.words_alone.ensures,
       front_none,
     )

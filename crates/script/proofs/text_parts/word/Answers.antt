@@ -6,4 +6,4 @@ use Rattle.script.proofs.text_parts.word.Goals as goal
 
 pub returns : goal.returns
 unfolding word_of
-returns c = rw (c.first.ensures, c.find.ensures.place, found_in_all)
+returns c = rw (c.find.ensures.place, found_in_all)

@@ -12,9 +12,14 @@ returns-then-text-gt-MOST_DIGITS c =
     let a = c.args in
     rw (hex_long a.text.now (length a.bytes.now) c.if-text-gt-MOST_DIGITS.true, front_none)
 
+pub returns-in_err-count : goal.returns-in_err-count
+unfolding given_of
+returns-in_err-count c =
+    let a = c.args in
+    rw (c.from_residual.ensures, hex_short a.text.now (length a.bytes.now) c.if-text-gt-MOST_DIGITS.false, ← c.hex.ensures.0, c.in_err-count.was, c.hex.ensures.1)
+
 pub returns : goal.returns
 unfolding given_of
 returns c =
     let a = c.args in
-    let h = c.hex.ensures in
-    rw (c.counted.ensures, h.0, h.1, hex_short a.text.now (length a.bytes.now) c.if-text-gt-MOST_DIGITS.false)
+    rw (c.plain.ensures, hex_short a.text.now (length a.bytes.now) c.if-text-gt-MOST_DIGITS.false, ← c.hex.ensures.0, c.in_ok-count.was, c.hex.ensures.1)

@@ -1,6 +1,5 @@
 -- `sending::bytes_given::send_held` meets its contract. The unit is written of the bytes held, for which it has room.
 -- Assumes nothing.
-use mathlib.Core.Path.{sym}
 use mathlib.Core.List.{append-nil}
 use Prim.Native.Nat.{◌+◌, ◌≤◌}
 use native.Mathlib.Omega.{arith}
@@ -9,8 +8,9 @@ use lib.Seq.{length-take-le}
 use Rattle.unit.proofs.UnitLaws.{cells_made_lem}
 use Rattle.sending.proofs.bytes_given.send_held.Goals as goal
 
-pub slice_bounds-write_unit-end : goal.slice_bounds-write_unit-end
-slice_bounds-write_unit-end c = sym (length-take-le c.args.held c.args.send.now (omega (arith, c.requires)))
-
 pub returns : goal.returns
-returns c = let a = c.args in let ru = take a.held a.send.now in let h : 5 + length ru ≤ length a.unit.now = omega (arith, length-take-le a.held a.send.now (omega (arith, c.requires)), c.requires) in rw (c.write_unit.ensures.cells, append-nil ru) (cells_made_lem a.number a.header ru a.unit.now h)
+returns c =
+    let a = c.args in
+    let ru = take a.held a.send.now in
+    let h : 5 + length ru ≤ length a.unit.now = omega (arith, length-take-le a.held a.send.now (omega arith)) in
+    rw (c.write_unit.ensures.cells, append-nil ru) (cells_made_lem a.number a.header ru a.unit.now h)

@@ -1,21 +1,15 @@
 -- `unit::read_unit::read_unit` meets its contract. What a unit says follows from what its header says.
 -- Assumes nothing.
-use Rattle.unit.proofs.ReadByHeader.{unit_short, unit_good, unit_breaks}
+use Rattle.header.specs.Rules.{lowest_broken, header_good}
+use Rattle.header.specs.Header.{fields_of, read_header}
+use Rattle.unit.specs.Unit.{header_in, heading_of, read_unit}
+use Rattle.unit.proofs.ReadByHeader.{read_as}
 use Rattle.unit.proofs.read_unit.read_unit.Goals as goal
 
-pub returns-then-unit-lt-RU_START : goal.returns-then-unit-lt-RU_START
-returns-then-unit-lt-RU_START c = unit_short c.args.unit.now c.if-unit-lt-RU_START.true
-
-pub returns-in-Good : goal.returns-in-Good
-returns-in-Good c =
+pub returns : goal.returns
+unfolding read_header read_unit heading_of
+returns c =
     let u = c.args.unit.now in
-    let q = c.read_header-read in
-    let n = c.number_of-number in
-    unit_good u n.result q.result _ c.if-unit-lt-RU_START.false n.ensures
-    q.ensures c.in-Good.is
-
-pub returns-in-Breaks : goal.returns-in-Breaks
-returns-in-Breaks c =
-    let u = c.args.unit.now in
-    let q = c.read_header-read in
-    unit_breaks u q.result _ c.if-unit-lt-RU_START.false q.ensures c.in-Breaks.is
+    let h = header_in u in
+    let r = c.read_heading in
+    read_as u (header_good h) (fields_of h) (lowest_broken h) r.result r.ensures.short r.ensures.read

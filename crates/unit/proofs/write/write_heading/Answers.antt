@@ -1,5 +1,6 @@
 -- `unit::write::write_heading` meets its contract. Five stores are the five bytes in front of what was there.
 -- Assumes nothing.
+use mathlib.Core.Path.{◌≡◌}
 use Rattle.std.proofs.Common.{◌/◌, ◌%◌, [], ◌∷◌, arith, length-set}
 use lib.Seq.{sets-eq}
 use Rattle.cells.specs.Cells.{front}
@@ -18,4 +19,6 @@ bounds-unit-3 c = simp length-set (omega arith)
 pub returns : goal.returns
 unfolding unit_bytes front
 returns c = let a = c.args in
-    sets-eq (a.number / 256 ∷ a.number % 256 ∷ a.h.b0 ∷ a.h.b1 ∷ a.h.b2 ∷ []) a.unit.now 0 (omega arith)
+    let high : a.number / 256 % 256 ≡ a.number / 256 = omega arith in
+    rw (c.to_be_bytes.ensures, high)
+    (sets-eq (a.number / 256 ∷ a.number % 256 ∷ a.h.b0 ∷ a.h.b1 ∷ a.h.b2 ∷ []) a.unit.now 0 (omega arith))
