@@ -8,7 +8,7 @@
 
 mod carrying;
 
-use carrying::Carrier;
+use carrying::{Pair, part_carried};
 use digits::decimal_read::number;
 use end::End;
 use session::{Session, open_session};
@@ -53,29 +53,51 @@ fn reader(max: u16, window: u8) -> End {
     opened.end
 }
 
+fn carry(
+    before: Pair,
+    max: usize,
+    window: u8,
+    parts: usize,
+    whole: &[u8],
+    send: &mut [u8],
+    unit: &mut [u8],
+    inbox: &mut [u8],
+    buffer: &mut [u8],
+) -> Pair {
+    let mut pair = before;
+    for _ in 0..parts {
+        pair = part_carried(pair, max, window, whole, send, unit, inbox, buffer);
+    }
+    pair
+}
+
 // The record's LL counts its 1,024 bytes; its other bytes are zeros.
 fn carried(max: u16, window: u8, parts: usize) -> usize {
-    let mut record = [0u8; 1024];
-    record[0] = 4;
+    let mut whole = [0u8; 1024];
+    let mut send = [0u8; 1024];
     let mut unit = [0u8; 1029];
-    let mut carrier = Carrier {
+    let mut inbox = [0u8; 65535];
+    let mut buffer = [0u8; 1024];
+    whole[0] = 4;
+    let pair = Pair {
         giver: giver(max, window, &mut unit),
         reader: reader(max, window),
-        part: max as usize,
-        window,
         place: 0,
         at: 0,
         read: 0,
-        record,
-        send: [0; 1024],
-        unit,
-        inbox: [0; 65535],
-        buffer: [0; 1024],
     };
-    for _ in 0..parts {
-        carrier.carry_part();
-    }
-    carrier.read
+    let after = carry(
+        pair,
+        max as usize,
+        window,
+        parts,
+        &whole,
+        &mut send,
+        &mut unit,
+        &mut inbox,
+        &mut buffer,
+    );
+    after.read
 }
 
 // The longest argument that is read.
