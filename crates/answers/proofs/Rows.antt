@@ -36,7 +36,7 @@ yes (q ∷ qs) t e k =
     at_place a bs zero h f = h
     at_place a bs (suc k) h f = f k
 
--- a row asked from its first question to its last. At a row that is written out this is what the code computes
+-- a row asked from its first question to its last, as `first_no::then_ask` asks it
 abbrev pub asked : ℕ → List (Bool × ℕ) → ℕ
 asked before [] = before
 asked before (q ∷ qs) = asked (then_ask before q.0 q.1) qs

@@ -1,6 +1,7 @@
 // The answers that calls give: the refusal number, its sense, and the rule that a refusal names.
 #![tactic(auto)]
 
+pub mod first_no;
 pub mod numbers;
 pub mod questions;
 pub mod refusals;

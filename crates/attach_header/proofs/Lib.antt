@@ -1,4 +1,4 @@
-mod Padding
+pub mod Padding
 pub mod FoundParts
 pub mod Security
 pub mod FixedPart

@@ -41,6 +41,21 @@ no_longer (b ∷ bs) =
     let h = no_longer bs in
     cases (λ (l : List ℕ). length l ≤ suc (length bs)) (is_empty (unpadded bs) && eqb b SPACE) (λ t. zero-le) (λ t. omega (arith, h))
 
+-- and it stands at the front
+pub stands_first : (x : List ℕ) → take (length (unpadded x)) x ≡ unpadded x
+unfolding unpadded
+stands_first [] = refl
+stands_first (b ∷ bs) =
+    cases (λ (l : List ℕ). take (length l) (b ∷ bs) ≡ l) (is_empty (unpadded bs) && eqb b SPACE) (λ t. refl)
+    (λ t. ap (λ (l : List ℕ). b ∷ l) (stands_first bs))
+
+-- lent as the part of that length
+pub lent : (x : List ℕ) {m : ℕ} → m ≡ length (unpadded x) → take m x ≡ unpadded x
+lent x e = rw e (stands_first x)
+
+pub lent_length : (x : List ℕ) {m : ℕ} → m ≡ length (unpadded x) → m ≡ length (take m x)
+lent_length x e = e ∙ ap length (sym (lent x e))
+
 -- one more byte: a space adds nothing, any other ends the padding before it
 pub space_more : (x : List ℕ) → unpadded (x ++ (SPACE ∷ [])) ≡ unpadded x
 unfolding unpadded

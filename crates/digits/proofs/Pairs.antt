@@ -7,11 +7,19 @@ use Prim.Native.Nat.{ℕ, zero, suc, ◌+◌, ◌*◌, ◌≤◌, ◌<◌}
 use native.Mathlib.Nat.{zero-add}
 use native.Mathlib.Numerals.{add-one}
 use native.Mathlib.Omega.{arith}
-use lib.Dec.{eqb}
+use lib.Dec.{eqb, leb}
 use lib.ListN.{length, get_or, set, drop}
 use lib.Seq.{paste, paste-suc}
+use borrow.Author.Tests.{leb-true}
 use Rattle.bools.proofs.Tests.{both}
-use Rattle.digits.specs.HexadecimalRead.{is_pair, byte_of, are_pairs, bytes_of}
+use Rattle.digits.specs.HexadecimalRead.{is_letter, is_pair, byte_of, are_pairs, bytes_of}
+
+-- ---- one digit
+
+pub letter_bounds : (b : ℕ) → is_letter b ≡ true → (0x41 ≤ b) × (b ≤ 0x46)
+letter_bounds b e =
+    let t = both (leb 0x41 b) (leb b 0x46) e in
+    (leb-true 0x41 b t.0, leb-true b 0x46 t.1)
 
 -- ---- the first pair, and what is behind it
 

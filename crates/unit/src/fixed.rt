@@ -65,7 +65,7 @@ impl FixedUnit for ExpeditedHeader {
     ghost made_is = { expedited_made_is };
 
     fn header_bytes(self) -> HeaderBytes {
-        HeaderBytes::from(self)
+        self.into()
     }
 
     fn fixed_ru(self) -> &'static [u8] {
