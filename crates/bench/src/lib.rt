@@ -7,7 +7,7 @@ mod made_call;
 
 ghost use Rattle.std.specs.Prelude.{◌≡◌, List, ℕ};
 ghost use Rattle.bench.specs.CallMade.{verb_lane, flow_lane};
-ghost use Rattle.bench.specs.Step.{Ways, ways_of, placed, bench_of, end_left, lines_left, lane_of, StepsTo};
+ghost use Rattle.bench.specs.Step.{Ways, ways_of, placed, bench_of, end_left, lines_left, lane_of, accepted, StepsTo};
 
 use crate::made_call::{call, take};
 use end::{End, ReadAnswer};
@@ -105,6 +105,13 @@ fn step_offer(
     })
 }
 
+// A take is accepted where it has no refusal.
+fn accepted(refusal: u8) -> bool
+    ensures { result ≡ accepted refusal }
+{
+    refusal == 0
+}
+
 // A take of the oldest unit: it is offered, and goes from the line where the take is accepted.
 fn step_take(
     end: End,
@@ -125,7 +132,7 @@ fn step_take(
         return Err(NotMade::NothingWaiting);
     };
     let offered = step_offer(end, flow, &waiting[2..past], unit, inbox, lines, far)?;
-    if offered.told.answer.answer.refusal == 0 {
+    if accepted(offered.told.answer.answer.refusal) {
         let from = remove_oldest(lines.from, waiting);
         Ok(Stepped {
             told: offered.told,

@@ -2,7 +2,7 @@
 // front of their own. Two buffers compared, and a byte looked for in one.
 #![tactic(auto)]
 
-ghost use Rattle.std.specs.Prelude.{◌≡◌, ◌+◌, ◌≤◌, ◌==◌, ◌++◌, length, take, drop, slice_range, position};
+ghost use Rattle.std.specs.Prelude.{◌≡◌, ◌+◌, ◌≤◌, ◌==◌, ◌++◌, length, take, drop, slice_range, position, unwrap_or};
 ghost use Rattle.cells.specs.Cells.{front};
 ghost use Rattle.cells.specs.Equal.{same_bytes};
 ghost use Rattle.cells.specs.Found.{index_of};
@@ -42,6 +42,13 @@ fn first_of(text: &[u8], byte: u8) -> Option<usize>
     text.iter().position(|b| *b == byte)
 }
 
+// The place that is found, or the end where none is.
+fn place_or_end(found: Option<usize>, end: usize) -> usize
+    ensures { result ≡ unwrap_or found end }
+{
+    found.unwrap_or(end)
+}
+
 // The place of the first such byte from `from` on and before `to`; `to` where there is none.
 pub fn find(text: &[u8], from: usize, to: usize, byte: u8) -> usize
     requires start { from ≤ to }
@@ -50,5 +57,5 @@ pub fn find(text: &[u8], from: usize, to: usize, byte: u8) -> usize
     ensures within { result ≤ to }
 {
     let part = &text[from..to];
-    from + first_of(part, byte).unwrap_or(part.len())
+    from + place_or_end(first_of(part, byte), part.len())
 }

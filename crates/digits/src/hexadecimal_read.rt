@@ -1,5 +1,5 @@
 // Bytes as pairs of capital hexadecimal digits.
-ghost use Rattle.std.specs.Prelude.{◌≡◌, true, ◌≤◌, length};
+ghost use Rattle.std.specs.Prelude.{◌≡◌, true, ◌≤◌, eqb, length};
 ghost use Rattle.cells.specs.Cells.{front};
 ghost use Rattle.digits.specs.HexadecimalRead.{is_letter, digit_of, is_pair, byte_of, are_pairs, bytes_of, bytes_read, hex_answer, hex_bytes};
 
@@ -37,6 +37,13 @@ fn byte(high: u8, low: u8) -> u8
     16 * digit(high) + digit(low)
 }
 
+// No digit is left, not even one without its pair.
+fn none_left(left: &[u8]) -> bool
+    ensures { result ≡ eqb (length left.now) 0 }
+{
+    left.is_empty()
+}
+
 // Digits, two by two to the end.
 fn are_pairs(text: &[u8]) -> bool
     ensures { result ≡ are_pairs text.now }
@@ -48,7 +55,7 @@ fn are_pairs(text: &[u8]) -> bool
         }
         left = rest;
     }
-    left.is_empty()
+    none_left(left)
 }
 
 // Counted by i: over the cells and the pairs side by side the proof did not close.

@@ -5,7 +5,6 @@ use Prim.Native.Nat.{ℕ, ◌-◌}
 use mathlib.Core.Path.{sym, ap, ◌∙◌}
 use mathlib.Core.List.{List}
 use native.Mathlib.Omega.{arith}
-use borrow.Author.Tests.{eq-eqb, ne_eqb}
 use lib.ListN.{take, drop}
 use Rattle.script.specs.declared.Request.TheVariants.{Take}
 use Rattle.bench.specs.CallMade.{flow_lane, station_of}
@@ -46,8 +45,8 @@ returns-in_err-offered c =
     let f = one_waits c.in-Some.past a.lines.from a.waiting.now (us l) (waits_here l here there us vs held) (sym c.in-Some.ensures.is) in
     not_taken a.flow given _ f.unit _ _ _ es us vs f.rest f.are (c.in_err-offered.ensures send buffer a.waiting.now there es us vs held))
 
-pub returns-then-offered-eq0 : goal.returns-then-offered-eq0
-returns-then-offered-eq0 c =
+pub returns-then-accepted : goal.returns-then-accepted
+returns-then-accepted c =
     let a = c.args in
     let o = c.in_ok-offered.offered in
     let d = c.step_offer.new in
@@ -61,10 +60,10 @@ returns-then-offered-eq0 c =
     take_step a.flow given f.unit b o.told s buffer (ways_of o.lines a.waiting.now d.far) there out.result out.new.cells es us vs f.rest
     (take (c.in-Some.past - 2) (drop 2 a.waiting.now)) o.lines (record { from = out.result; to = o.lines.to }) f.are f.there
     (c.in_ok-offered.ensures send buffer a.waiting.now there es us vs held)
-    (rw (eq-eqb _ _ c.if-offered-eq0.true) (out.ensures.removed f.unit f.rest f.holds))
+    (rw (sym c.accepted.ensures ∙ c.if-accepted.true) (out.ensures.removed f.unit f.rest f.holds))
 
-pub returns-else-offered-eq0 : goal.returns-else-offered-eq0
-returns-else-offered-eq0 c =
+pub returns-else-accepted : goal.returns-else-accepted
+returns-else-accepted c =
     let a = c.args in
     let o = c.in_ok-offered.offered in
     let d = c.step_offer.new in
@@ -78,4 +77,4 @@ returns-else-offered-eq0 c =
     let st = c.in_ok-offered.ensures send buffer a.waiting.now there es us vs held in
     take_step a.flow given f.unit b o.told s buffer after there o.lines.from a.waiting.now es us vs f.rest
     (take (c.in-Some.past - 2) (drop 2 a.waiting.now)) o.lines o.lines f.are f.there st
-    (rw (ne_eqb _ _ c.if-offered-eq0.false, ← f.are) (waits_on l after there us st.answered.waiting_are))
+    (rw (sym c.accepted.ensures ∙ c.if-accepted.false, ← f.are) (waits_on l after there us st.answered.waiting_are))

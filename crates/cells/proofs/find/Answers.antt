@@ -6,4 +6,4 @@ use Rattle.cells.proofs.find.Goals as goal
 
 pub returns-clause-place : goal.returns-clause-place
 returns-clause-place c =
-    rw (c.unwrap_or.ensures, c.first_of.ensures, index_of_position c.args.byte (slice_range c.args.text.now c.args.from c.args.to))
+    rw (c.place_or_end.ensures, c.first_of.ensures, index_of_position c.args.byte (slice_range c.args.text.now c.args.from c.args.to))

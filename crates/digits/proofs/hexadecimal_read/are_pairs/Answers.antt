@@ -17,4 +17,4 @@ loop-left-preserved c =
     rw (part_is 2 s) (pairs_more s c.in-len2-up.len_at_least (sym c.is_pair.ensures ∙ c.if-not-is_pair.false) ∙ c.loop-left.invariant)
 
 pub returns : goal.returns
-returns c = c.is_empty.ensures ∙ pairs_end c.loop-left.left.now c.in_default.len_below ∙ c.loop-left.invariant
+returns c = c.none_left.ensures ∙ pairs_end c.loop-left.left.now c.in_default.len_below ∙ c.loop-left.invariant
