@@ -1,4 +1,4 @@
-// A step at one end, and its answer handed out.
+// A step at the near end, the one at which the call is made, and its answer handed out.
 use crate::both_ends::Side;
 use crate::handing::{Handing, hand_front};
 use crate::step_text::step_text;
@@ -44,12 +44,12 @@ fn hand_made<H: Handing>(
     hand_front(answers, &out, length);
 }
 
-// The call asked for, at this side, with the lines of its flow as they are seen from it. A line of a script gives, or reads, at most
+// The call asked for, at the near end, with the lines of its flow as that end sees them. A line of a script gives, or reads, at most
 // 2,048 bytes; of a read the buffer has as many cells as bytes are given. A step that is not made leaves the end and the lines as they
 // were.
-pub fn at_side<H: Handing>(
+pub fn at_near<H: Handing>(
     answers: &mut H,
-    side: &mut Side,
+    near: &mut Side,
     asked: Asked,
     given: &[u8],
     lines: Pair,
@@ -60,7 +60,7 @@ pub fn at_side<H: Handing>(
     let mut unit = [0u8; 1029];
     let mut buffer = [0u8; 2048];
     let stepped = make(
-        &mut *side,
+        &mut *near,
         asked.request,
         given,
         &mut unit,
@@ -73,6 +73,6 @@ pub fn at_side<H: Handing>(
     let Ok(made) = stepped else {
         return lines;
     };
-    side.end = made.told.end;
+    near.end = made.told.end;
     made.lines
 }

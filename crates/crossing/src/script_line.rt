@@ -1,7 +1,7 @@
 // One line of a script: the call that it asks for, made at its end, and its answer handed out.
 use crate::both_ends::{Cells, FlowCells, Joined, turned};
 use crate::handing::{Handing, hand_front};
-use crate::near::at_side;
+use crate::near::at_near;
 use bench::{Pair, request_flow};
 use report::other_lines::bad_line;
 use script::line_forms::call_line;
@@ -20,9 +20,9 @@ fn on_lines<H: Handing>(
     let second = &mut *cells.to_second;
     if asked.second {
         let side = &mut joined.second;
-        turned(at_side(answers, side, asked, given, turned(lines), second, first))
+        turned(at_near(answers, side, asked, given, turned(lines), second, first))
     } else {
-        at_side(
+        at_near(
             answers,
             &mut joined.first,
             asked,
