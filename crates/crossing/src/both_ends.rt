@@ -1,4 +1,4 @@
-// Two joined ends. A call is made at the near one; for a call at the other they are swapped, and swapped back.
+// Two joined ends. A call is made in place at the end that it names: a copy of both, with their buffers, would cost most of a step.
 use bench::Pair;
 use end::End;
 use unit_lines::empty;
@@ -12,11 +12,11 @@ pub struct Side {
     pub end: End,
 }
 
-// The two sides, and the lines between them. Of each flow one line leads to the near end, and one to the other.
+// The two sides, and the lines between them, of each flow as they are seen from the first end.
 #[derive(Clone, Copy)]
 pub struct Joined {
-    pub near: Side,
-    pub away: Side,
+    pub first: Side,
+    pub second: Side,
     pub normal: Pair,
     pub expedited: Pair,
 }
@@ -50,29 +50,20 @@ fn no_units() -> Pair {
     }
 }
 
-// Both ends as opened, the first near.
+// Both ends as opened.
 pub fn join(first: End, second: End) -> Joined {
     Joined {
-        near: lent(first),
-        away: lent(second),
+        first: lent(first),
+        second: lent(second),
         normal: no_units(),
         expedited: no_units(),
     }
 }
 
 // The two lines as they are seen from the other end.
-fn turned(lines: Pair) -> Pair {
+pub fn turned(lines: Pair) -> Pair {
     Pair {
         from: lines.to,
         to: lines.from,
-    }
-}
-
-pub fn swapped(joined: Joined) -> Joined {
-    Joined {
-        near: joined.away,
-        away: joined.near,
-        normal: turned(joined.normal),
-        expedited: turned(joined.expedited),
     }
 }

@@ -1,7 +1,9 @@
 // A named case as one text: its name on the first line, then its script, a line `=`, and the answers that the script must have.
 use crate::run::answers_as;
 
-// What follows the first line, run. No script has the byte `=`.
+// What follows the first line, run. No script has the byte `=`. It is not inlined: its frame holds the cells of the lines, and `goes`
+// would touch all of that frame for each name that it compares.
+#[inline(never)]
 fn script_goes(case: &[u8]) -> bool {
     let Some(bar) = case.iter().position(|byte| *byte == b'=') else {
         return false;

@@ -32,24 +32,30 @@ fn hand_last<H: Handing>(answers: &mut H, second: bool, end: End, normal: Line, 
     hand_front(answers, &out, length);
 }
 
-fn hand_both<H: Handing>(answers: &mut H, joined: Joined) {
+fn hand_both<H: Handing>(answers: &mut H, joined: &Joined) {
     let normal = joined.normal;
     let expedited = joined.expedited;
-    hand_last(answers, false, joined.near.end, normal.from, expedited.from);
-    hand_last(answers, true, joined.away.end, normal.to, expedited.to);
+    hand_last(
+        answers,
+        false,
+        joined.first.end,
+        normal.from,
+        expedited.from,
+    );
+    hand_last(answers, true, joined.second.end, normal.to, expedited.to);
 }
 
 // The calls that the lines ask for, one after the other, with these cells for the lines between the ends. They are lent here one by
 // one: a struct of the arrays themselves ran out of stack.
 fn run_lines<'a, H: Handing>(
     answers: &mut H,
-    opened: Joined,
+    joined: &mut Joined,
     lines: Lines<'_>,
     normal1: &'a mut [u8],
     normal2: &'a mut [u8],
     expedited1: &'a mut [u8],
     expedited2: &'a mut [u8],
-) -> Joined {
+) {
     let mut cells = Cells {
         normal: FlowCells {
             to_first: normal1,
@@ -60,24 +66,22 @@ fn run_lines<'a, H: Handing>(
             to_second: expedited2,
         },
     };
-    let mut joined = opened;
     for (number, text) in lines {
         if !passed_over(text) {
-            joined = line_at(answers, joined, text, number, &mut cells);
+            line_at(answers, &mut *joined, text, number, &mut cells);
         }
     }
-    joined
 }
 
 // The lines after the one that opens the ends, with nothing on the four lines between them.
-fn run_opened<H: Handing>(answers: &mut H, opened: Joined, lines: Lines<'_>) -> Joined {
+fn run_opened<H: Handing>(answers: &mut H, joined: &mut Joined, lines: Lines<'_>) {
     let mut normal1 = [0u8; 527872];
     let mut normal2 = [0u8; 527872];
     let mut expedited1 = [0u8; 527872];
     let mut expedited2 = [0u8; 527872];
     run_lines(
         answers,
-        opened,
+        joined,
         lines,
         &mut normal1,
         &mut normal2,
@@ -113,8 +117,9 @@ fn run<H: Handing>(answers: &mut H, script: &[u8]) {
     hand_opening(answers, false, one);
     hand_opening(answers, true, two);
     if accepted(one) & accepted(two) {
-        let joined = run_opened(answers, join(one.end, two.end), lines);
-        hand_both(answers, joined);
+        let mut joined = join(one.end, two.end);
+        run_opened(answers, &mut joined, lines);
+        hand_both(answers, &joined);
     }
 }
 
